@@ -1,0 +1,134 @@
+-- First facts of the definitions, proved: words enter 𝔾 as sums of ones; a refusal but 15 writes nothing; what 15 and success write.
+use mathlib.Core.Path.{_≡_, refl, sym, ap, _∙_}
+use mathlib.Core.Bool.{Bool, true, false, cond}
+use mathlib.Core.List.{List, [], _∷_, _++_, map}
+use Prim.Native.Nat.{ℕ, suc, _+_, _*_, _%_}
+use native.Mathlib.Nat.{zero-mul, suc-mul}
+use native.Mathlib.Omega.{arith}
+use lib.ListN.{length, take, drop, length-append, length-map}
+use lib.Seq.{take-at, drop-at}
+use Rattle.util.specs.Lists.{column, split, concat}
+use Rattle.expression.specs.FlatFacts.{flat-length}
+use Rattle.preprocessor.specs.Compose.{numZ, compose, composedWords, composedNodes}
+use Rattle.prover.specs.Log.{Log}
+use native.Mathlib.Numerals.{add-one}
+use lib.Dec.{eqb, eqb·suc-zero}
+use Rattle.field.specs.Prime.{P}
+use Rattle.field.specs.ModP as ModP
+use Rattle.field.specs.Field.{𝔾, el, val, P-pos, el-zero, el-one, el-add}
+use Rattle.backend.specs.Circuit.{Circuit, circuitOf, rowsOf, numInstance, numCopied, numLookups}
+use Rattle.prover.specs.Columns.{
+  allCovered,
+  instancePolys,
+  permutationPolys,
+  compressedPolys,
+  mPolys,
+  hPolys,
+  zPolys,
+  writtenPolys,
+}
+use Rattle.calls.specs.Build.{Output, logOf, wordsOf, columnWords, checkBuild, refusal, made, zeroed, buildLog, buildOf}
+use Rattle.calls.specs.Meaning.{Embeds}
+use Rattle.calls.specs.Demand.{Written}
+
+el-mod : (n : ℕ) → el (n % P) ≡ el n
+unfolding 𝔾 el
+el-mod n = ModP.of-mod P P-pos n
+
+-- 𝔾 is a field into which words enter as the claims over any field ask
+pub embeds : Embeds 𝔾 el
+embeds =
+    record {
+      el-zero = el-zero;
+      el-suc =
+          λ n. ap el (sym (add-one n)) ∙ sym (el-mod (n + 1)) ∙ el-add n 1 ∙ ap (𝔾 .add (el n)) el-one;
+    }
+
+-- ---- lengths
+
+column-length : {A : Type 0} (f : ℕ → A) (n : ℕ) → length (column f n) ≡ n
+unfolding column
+column-length f ℕ.zero = refl
+column-length f (suc n) = simp length-append (omega (arith, column-length f n))
+
+split-length : {A : Type 0} (ns : List ℕ) (xs : List A) → length (split ns xs) ≡ length ns
+unfolding split
+split-length [] xs = refl
+split-length (n ∷ ns) xs = ap suc (split-length ns (drop n xs))
+
+pairs-length : {A B : Type 0} (f h : A → B) (ls : List A) → length (concat (map (λ l. f l ∷ h l ∷ []) ls)) ≡ length ls * 2
+unfolding concat
+pairs-length f h [] = refl
+pairs-length f h (l ∷ ls) = omega (arith, pairs-length f h ls)
+
+words-length : (rows : ℕ) (ps : List (ℕ → 𝔾 .F)) → length (wordsOf rows ps) ≡ length ps * rows
+unfolding wordsOf concat
+words-length rows [] = sym (zero-mul rows)
+words-length rows (p ∷ ps) =
+    simp length-append
+    (omega (arith, column-length (λ b. val (p b)) rows, words-length rows ps, suc-mul (length ps) rows))
+
+module _ (g : Log 𝔾) where
+  polys-length : length (writtenPolys 𝔾 g)
+      ≡ numInstance (g .circuit) + numCopied (g .circuit) + numLookups (g .circuit) * 4 + numZ (g .circuit)
+  unfolding writtenPolys instancePolys permutationPolys compressedPolys mPolys hPolys zPolys
+  polys-length =
+      simp (length-append, length-map, column-length, split-length, pairs-length) (omega arith)
+
+  -- the columns take the words that question 14 asks for
+  pub columns-length : length (wordsOf (rowsOf (g .circuit)) (writtenPolys 𝔾 g)) ≡ columnWords (g .circuit)
+  unfolding columnWords
+  columns-length = words-length (rowsOf (g .circuit)) (writtenPolys 𝔾 g) ∙ ap (λ (n : ℕ). n * rowsOf (g .circuit)) polys-length
+
+-- and the nodes
+pub nodes-length : (c : Circuit) → length (composedWords c) ≡ composedNodes c * 4
+unfolding composedWords composedNodes
+nodes-length c = flat-length (compose c) 0
+
+-- ---- the building call
+
+module _ (ws instances witness challenges columns nodes : List ℕ) where
+  -- "Refusals write nothing"
+  pub refused-by : (n : ℕ) → checkBuild ws instances witness challenges columns nodes ≡ suc n
+      → buildOf ws instances witness challenges columns nodes ≡ refusal (suc n) columns nodes
+  unfolding buildOf
+  refused-by n e = rw (e, eqb·suc-zero n)
+
+  -- "except 15"
+  pub fifteen-by : checkBuild ws instances witness challenges columns nodes ≡ 0
+      → allCovered 𝔾 (logOf ws instances witness challenges) ≡ false
+      → buildOf ws instances witness challenges columns nodes ≡ zeroed (logOf ws instances witness challenges .circuit) columns nodes
+  unfolding buildOf buildLog
+  fifteen-by e f = rw (e, f)
+
+  pub built-by : checkBuild ws instances witness challenges columns nodes ≡ 0
+      → allCovered 𝔾 (logOf ws instances witness challenges) ≡ true
+      → buildOf ws instances witness challenges columns nodes ≡ made (logOf ws instances witness challenges) columns nodes
+  unfolding buildOf buildLog
+  built-by e f = rw (e, f)
+
+  -- "the columns and nodes written are those document 01 defines"
+  pub written-by : checkBuild ws instances witness challenges columns nodes ≡ 0
+      → allCovered 𝔾 (logOf ws instances witness challenges) ≡ true
+      → Written ws instances witness challenges columns nodes
+  unfolding made logOf
+  written-by e f =
+      let g : Log 𝔾 = logOf ws instances witness challenges in
+      let c : Circuit = circuitOf ws in
+      let cs : List ℕ = wordsOf (rowsOf c) (writtenPolys 𝔾 g) in
+      let m = built-by e f in
+      record {
+        answer = ap (λ (o : Output). o .answer) m;
+        columns-written =
+            ap (λ (o : Output). take (columnWords c) (o .columns)) m ∙ take-at cs (drop (length cs) columns) (columnWords c) (columns-length g);
+        columns-past =
+            ap (λ (o : Output). drop (columnWords c) (o .columns)) m ∙ drop-at cs (drop (length cs) columns) (columnWords c) (columns-length g)
+            ∙ ap (λ (n : ℕ). drop n columns) (columns-length g);
+        nodes-written =
+            ap (λ (o : Output). take (composedNodes c * 4) (o .nodes)) m
+            ∙ take-at (composedWords c) (drop (length (composedWords c)) nodes) (composedNodes c * 4) (nodes-length c);
+        nodes-past =
+            ap (λ (o : Output). drop (composedNodes c * 4) (o .nodes)) m
+            ∙ drop-at (composedWords c) (drop (length (composedWords c)) nodes) (composedNodes c * 4) (nodes-length c)
+            ∙ ap (λ (n : ℕ). drop n nodes) (nodes-length c);
+      }

@@ -1,0 +1,98 @@
+-- The papers' definitions, over any field, and the claims that the columns are these. The claims are stated here and proved
+-- elsewhere.
+use mathlib.Core.Path.{_≡_}
+use mathlib.Core.Logic.{_≢_, _↔_}
+use mathlib.Core.Bool.{Bool, true, false, cond}
+use mathlib.Core.List.{List, [], _∷_, _++_, map}
+use Prim.Native.Nat.{ℕ, zero, suc, _+_, _-_, _*_, _<_}
+use lib.ListN.{length, take}
+use Rattle.field.specs.Algebra.{Field}
+use Rattle.field.specs.Algebra as Algebra
+use Rattle.bh.specs.Sums.{upTo}
+use Rattle.bh.specs.Rows.{rowAt}
+use Rattle.util.specs.Lists.{below, concat, countOf}
+use Rattle.backend.specs.Circuit.{Circuit, Cell, rowsOf, numCopied}
+use Rattle.preprocessor.specs.Compose.{numZ, zCut}
+use Rattle.preprocessor.specs.Permutation.{source}
+use Rattle.prover.specs.Lookup.{same, covered, multiplicity, hAt, Turns, sumRows}
+use Rattle.prover.specs.Log.{Log}
+use Rattle.prover.specs.Columns.{ratioAt, runningAt, zAtPlace}
+use Rattle.calls.specs.Meaning.{Embeds, Admitted, Premises, cellValue}
+
+-- reading 18: the parts of z are as many as the z columns
+abbrev pub PartsOfZ : Circuit → Type 0
+PartsOfZ c = length (zCut c) ≡ numZ c
+
+module _ (𝓕 : Field) where
+  open Field 𝓕 using (F, zero, one, add, mul, neg, inv)
+
+  -- ---- Haböck, "Multivariate lookups based on logarithmic derivatives"
+
+  module _ (el : ℕ → F) (rows : ℕ) (input table : ℕ → F) where
+    -- how often the paper's column takes a value
+    unfoldable pub often : (ℕ → F) → F → ℕ
+    often column-of v = countOf (λ b. same 𝓕 (column-of b) v) (below rows)
+
+    -- the paper's normalised multiplicity: the count of a value, shared out among the equal table rows
+    unfoldable pub sharedM : ℕ → F
+    sharedM r = mul (el (often input (table r))) (inv (el (often table (table r))))
+
+    -- its total over the rows where the table is v
+    abbrev pub totalOf : (ℕ → F) → F → F
+    totalOf m v = sumRows 𝓕 rows (λ r. cond (same 𝓕 (table r) v) (m r) zero)
+
+    -- "with the same total for each table value": with the inputs covered, and no count a multiple of the characteristic
+    abbrev pub SameTotals : Type 0
+    SameTotals =
+        Embeds 𝓕 el → covered 𝓕 rows input table ≡ true → ((n : ℕ) → 0 < n → n < suc rows → el n ≢ zero)
+        → (v : F) → totalOf (λ r. el (multiplicity 𝓕 rows input table r)) v ≡ totalOf sharedM v
+
+    -- the counts turn the table into the inputs exactly when each input is in the table
+    abbrev pub CountsTurn : Type 0
+    CountsTurn = (covered 𝓕 rows input table ≡ true) ↔ Turns 𝓕 rows input table (multiplicity 𝓕 rows input table)
+
+    -- the paper's h: the one column with h × (γ + input) × (γ + table) = (γ + table) − m × (γ + input)
+    abbrev pub HabockH : F → (ℕ → F) → (ℕ → F) → Type 0
+    HabockH γ m h =
+        (b : ℕ) → b < rows
+        → mul (mul (h b) (add γ (input b))) (add γ (table b)) ≡ add (add γ (table b)) (neg (mul (m b) (add γ (input b))))
+
+    abbrev pub IsHabockH : F → (ℕ → F) → Type 0
+    IsHabockH γ m =
+        ((b : ℕ) → b < rows → add γ (input b) ≢ zero) → ((b : ℕ) → b < rows → add γ (table b) ≢ zero)
+        → HabockH γ m (hAt 𝓕 γ input table m)
+
+    -- the paper's identity: Σ h = 0
+    abbrev pub HabockSum : F → Type 0
+    HabockSum γ =
+        ((b : ℕ) → b < rows → add γ (input b) ≢ zero) → ((b : ℕ) → b < rows → add γ (table b) ≢ zero)
+        → Embeds 𝓕 el → covered 𝓕 rows input table ≡ true
+        → sumRows 𝓕 rows (hAt 𝓕 γ input table (λ r. el (multiplicity 𝓕 rows input table r))) ≡ zero
+
+  module _ (g : Log 𝓕) where
+    -- ---- Gabizon, Williamson, Ciobotaru, "PLONK"
+
+    -- the paper's σ, here `source`, is a permutation of the cells
+    abbrev pub Permutes : Type 0
+    Permutes =
+        Admitted 𝓕 g → (x y : Cell) → source (g .circuit .cycles) x ≡ source (g .circuit .cycles) y → x ≡ y
+
+    -- and keeps the values, where "a cycle's cells are equal"
+    abbrev pub Keeps : Type 0
+    Keeps =
+        Admitted 𝓕 g → Premises 𝓕 g → (x : Cell) → cellValue 𝓕 g (source (g .circuit .cycles) x) ≡ cellValue 𝓕 g x
+
+    -- the grand product in closed form: the product over all copied columns at the first t places after row 0, times that over the first i parts at the next place
+    unfoldable pub plonkZ : ℕ → ℕ → F
+    plonkZ i t =
+        mul
+        (upTo mul one (λ s. Algebra.product 𝓕 (map (ratioAt 𝓕 g (rowAt (g .circuit .k) (suc s))) (below (numCopied (g .circuit))))) t)
+        (Algebra.product 𝓕 (map (ratioAt 𝓕 g (rowAt (g .circuit .k) (suc t))) (concat (take i (zCut (g .circuit))))))
+
+    abbrev pub IsPlonkZ : Type 0
+    IsPlonkZ =
+        (i t : ℕ) → i < numZ (g .circuit) → suc t < rowsOf (g .circuit) → zAtPlace 𝓕 g i (suc t) ≡ plonkZ i t
+
+    -- "Why must the running product close at one?"
+    abbrev pub Closes : Type 0
+    Closes = Admitted 𝓕 g → Premises 𝓕 g → runningAt 𝓕 g ((rowsOf (g .circuit) - 1) * numZ (g .circuit)) ≡ one

@@ -1,0 +1,120 @@
+-- The value of a list by powers of its base, and of the composed expression: proved over any field and any columns.
+use mathlib.Core.Path.{_≡_, refl, sym, ap, ap₂, _∙_, fun-ext}
+use mathlib.Core.List.{List, [], _∷_, _++_, map, append-assoc}
+use Prim.Native.Nat.{ℕ, suc, _+_}
+use lib.ListN.{length, getD}
+use Rattle.field.specs.Algebra.{
+  Field,
+  add-assoc,
+  add-comm,
+  add-zero,
+  zero-add,
+  mul-assoc,
+  mul-add,
+  mul-zero,
+  one-mul,
+}
+use Rattle.bh.specs.Sums.{upTo}
+use Rattle.bh.specs.Rows.{rotated, iter}
+use Rattle.util.specs.Lists.{column}
+use Rattle.expression.specs.Expr.{Expr, Exprs, Ops, running, evaluate, values, exprsOf, distributePowers, at}
+use Rattle.expression.specs.Value.{Environment, valueOps, valueAt}
+use Rattle.backend.specs.Circuit.{Circuit, numLookups, hNumber}
+use Rattle.backend.specs.Constraints.{alphaOf}
+use Rattle.preprocessor.specs.Compose.{composedConstraints, zeroCheck, compose}
+use Rattle.prover.specs.Columns.{pow, powerSum}
+use Rattle.calls.specs.Meaning.{Embeds}
+use Rattle.calls.specs.Composed.{PowersValue, ComposeValue, zeroCheckIn, column-at}
+
+module _ (𝓕 : Field) where
+  open Field 𝓕 using (F, zero, one, add, mul)
+
+  -- a sum's first term apart
+  sum-first : (f : ℕ → F) (n : ℕ) → upTo add zero f (suc n) ≡ add (f 0) (upTo add zero (λ i. f (suc i)) n)
+  unfolding upTo
+  sum-first f ℕ.zero = add-comm 𝓕 zero (f 0)
+  sum-first f (suc n) =
+      ap (λ (x : F). add x (f (suc n))) (sum-first f n) ∙ add-assoc 𝓕 (f 0) (upTo add zero (λ i. f (suc i)) n) (f (suc n))
+
+  sum-times : (a : F) (f : ℕ → F) (n : ℕ) → upTo add zero (λ i. mul a (f i)) n ≡ mul a (upTo add zero f n)
+  unfolding upTo
+  sum-times a f ℕ.zero = sym (mul-zero 𝓕 a)
+  sum-times a f (suc n) =
+      ap (λ (x : F). add x (mul a (f n))) (sum-times a f n) ∙ sym (mul-add 𝓕 a (upTo add zero f n) (f n))
+
+  pub power-nil : (β : F) → powerSum 𝓕 β [] ≡ zero
+  unfolding powerSum upTo
+  power-nil β = refl
+
+  -- x₀ + β × (x₁ + β × x₂ + …)
+  pub power-cons : (β x : F) (xs : List F) → powerSum 𝓕 β (x ∷ xs) ≡ add x (mul β (powerSum 𝓕 β xs))
+  unfolding powerSum pow
+  power-cons β x xs =
+      sum-first (λ i. mul (pow 𝓕 β i) (getD (x ∷ xs) i zero)) (length xs)
+      ∙ ap₂ add (one-mul 𝓕 x)
+      (ap (λ (f : ℕ → F). upTo add zero f (length xs))
+      (fun-ext (λ i. mul-assoc 𝓕 β (pow 𝓕 β i) (getD xs i zero)))
+      ∙ sum-times β (λ i. mul (pow 𝓕 β i) (getD xs i zero)) (length xs))
+
+  module _ (s : Environment 𝓕) where
+    running-value : (b : ℕ) (base power acc : F) (vs : List F)
+        → running (valueOps 𝓕 s b) base power acc vs ≡ add acc (mul power (powerSum 𝓕 base vs))
+    unfolding running valueOps
+    running-value b base power acc [] =
+        sym (add-zero 𝓕 acc) ∙ ap (add acc) (sym (mul-zero 𝓕 power) ∙ ap (mul power) (sym (power-nil base)))
+    running-value b base power acc (v ∷ vs) =
+        running-value b base (mul power base) (add acc (mul power v)) vs
+        ∙ add-assoc 𝓕 acc (mul power v) (mul (mul power base) (powerSum 𝓕 base vs))
+        ∙ ap (add acc)
+        (ap (add (mul power v)) (mul-assoc 𝓕 power base (powerSum 𝓕 base vs))
+        ∙ sym (mul-add 𝓕 power v (mul base (powerSum 𝓕 base vs)))
+        ∙ ap (mul power) (sym (power-cons base v vs)))
+
+    values-of : (b : ℕ) (e : Expr) (es : List Expr)
+        → values (valueOps 𝓕 s b) (exprsOf e es) ≡ map (λ f. valueAt 𝓕 s f b) (e ∷ es)
+    unfolding evaluate exprsOf valueAt
+    values-of b e [] = refl
+    values-of b e (f ∷ es) = ap (λ (l : List F). valueAt 𝓕 s e b ∷ l) (values-of b f es)
+
+    powers-from : (es : List Expr) (base : Expr) (b : ℕ) (e f : Expr)
+        → valueAt 𝓕 s (distributePowers (e ∷ (f ∷ es)) base) b
+        ≡ powerSum 𝓕 (valueAt 𝓕 s base b) (map (λ x. valueAt 𝓕 s x b) (e ∷ (f ∷ es)))
+    unfolding evaluate exprsOf valueAt distributePowers
+    powers-from es base b e f =
+        ap (running (valueOps 𝓕 s b) (valueAt 𝓕 s base b) (valueAt 𝓕 s base b) (valueAt 𝓕 s e b)) (values-of b f es)
+        ∙ running-value b (valueAt 𝓕 s base b) (valueAt 𝓕 s base b) (valueAt 𝓕 s e b) (map (λ x. valueAt 𝓕 s x b) (f ∷ es))
+        ∙ sym (power-cons (valueAt 𝓕 s base b) (valueAt 𝓕 s e b) (map (λ x. valueAt 𝓕 s x b) (f ∷ es)))
+
+    module _ (c : Circuit) where
+      pub powers-value : PowersValue 𝓕 s c
+      unfolding evaluate valueAt valueOps distributePowers
+      powers-value h [] base b = h .el-zero ∙ sym (power-nil (valueAt 𝓕 s base b))
+      powers-value h (e ∷ []) base b =
+          sym
+          (power-cons (valueAt 𝓕 s base b) (valueAt 𝓕 s e b) []
+          ∙ ap (add (valueAt 𝓕 s e b))
+          (ap (mul (valueAt 𝓕 s base b)) (power-nil (valueAt 𝓕 s base b)) ∙ mul-zero 𝓕 (valueAt 𝓕 s base b))
+          ∙ add-zero 𝓕 (valueAt 𝓕 s e b))
+      powers-value h (e ∷ (f ∷ es)) base b = powers-from es base b e f
+
+      map-column : (f : Expr → F) (p : ℕ → Expr) (n : ℕ) (r : List Expr)
+          → map f (column p n ++ r) ≡ column (λ i. f (p i)) n ++ map f r
+      unfolding column
+      map-column f p ℕ.zero r = refl
+      map-column f p (suc n) r =
+          ap (map f) (append-assoc (column p n) (p n ∷ []) r) ∙ map-column f p n (p n ∷ r)
+          ∙ sym (append-assoc (column (λ i. f (p i)) n) (f (p n) ∷ []) (map f r))
+
+      zero-check-value : Embeds 𝓕 (s .el) → (b : ℕ) → valueAt 𝓕 s (zeroCheck c) b ≡ zeroCheckIn 𝓕 s c b
+      unfolding zeroCheck evaluate valueAt valueOps
+      zero-check-value h b =
+          ap (λ (v : F). mul v (s .eq b)) (powers-value h (composedConstraints c) (alphaOf c) b)
+
+      pub compose-value : ComposeValue 𝓕 s c
+      unfolding compose evaluate valueAt valueOps rotated iter
+      compose-value h b =
+          let hs : ℕ → Expr = λ j. at (hNumber c j) in
+          powers-value h (column hs (numLookups c) ++ (zeroCheck c ∷ [])) (alphaOf c) b
+          ∙ ap (powerSum 𝓕 (valueAt 𝓕 s (alphaOf c) b))
+          (map-column (λ e. valueAt 𝓕 s e b) hs (numLookups c) (zeroCheck c ∷ [])
+          ∙ ap (λ (v : F). column (λ j. valueAt 𝓕 s (hs j) b) (numLookups c) ++ (v ∷ [])) (zero-check-value h b))

@@ -1,0 +1,260 @@
+-- The counts of the definitions are those of the crate identities; so question 15's words, and the sums of m and h. Assumes nothing.
+use mathlib.Core.Path.{_≡_, refl, sym, ap, ap₂, _∙_, subst}
+use mathlib.Core.Logic.{_≢_, _↔_, ite}
+use mathlib.Core.Bool.{Bool, true, false, cond, decide, _&&_}
+use mathlib.Core.List.{List, [], _∷_, _++_}
+use mathlib.Core.Option.{Option, none, some, Option·none-ne-some}
+use Prim.Native.Nat.{ℕ, zero, suc, _+_, _<_}
+use native.Mathlib.Decide.{ℕ-discrete}
+use native.Mathlib.Nat.{not-suc-le-zero}
+use native.Mathlib.Omega.{arith}
+use lib.ListN.{length, getD, length-append}
+use lib.Dec.{T, eqb, eqb→eq, eqb-refl}
+use Rattle.field.specs.Algebra.{Field}
+use Rattle.bh.specs.Sums.{upTo}
+use Rattle.util.specs.Lists.{column, below, allOf, those, countOf, lastWhere, isSome, isAt}
+use Rattle.prover.specs.Lookup.{sumCounts, same, lastEqual, multiplicity, covered, hAt, sumRows, Turns}
+use Rattle.prover.specs.Log.{Log}
+use Rattle.prover.specs.Columns.{inputAt, tableAt, countAt, mAt, lookupHAt, allCovered}
+use Rattle.backend.specs.Circuit.{rowsOf}
+use Rattle.calls.specs.Meaning.{Embeds, EachLookup, NoCounts}
+use Rattle.identities.specs.Total.{upTo-cong}
+use Rattle.identities.specs.Counts as Counts
+use Rattle.identities.specs.Counts.{lastRow, hit, both, given, counts, allFound, counted, AllStand, count-turns, turns-stand, counted-stand, stand-counted, count-all}
+use Rattle.identities.specs.Lookup as Lookup
+use Rattle.identities.specs.Lookup.{num, h-sum}
+
+pub false-true : {C : Type 0} → _≡_ {A = Bool} false true → C
+false-true e = absurd (subst T (sym e) tt)
+
+-- both ways to choose
+pub cond-ite : {P C : Type 0} (d : Dec P) (x y : C) → cond (decide d) x y ≡ ite d x y
+unfolding decide
+cond-ite (yes p) x y = refl
+cond-ite (no p) x y = refl
+
+pub eqb-true : (m n : ℕ) → m ≡ n → eqb m n ≡ true
+eqb-true m n e = ap (eqb m) (sym e) ∙ go (eqb m m) (eqb-refl m)
+  where
+    go : (t : Bool) → T t → t ≡ true
+    go true h = refl
+    go false h = absurd h
+
+pub eqb-false : (m n : ℕ) → m ≢ n → eqb m n ≡ false
+eqb-false m n h = go (eqb m n) refl
+  where
+    go : (t : Bool) → eqb m n ≡ t → t ≡ false
+    go true e = absurd (h (eqb→eq m n (subst T (sym e) tt)))
+    go false e = refl
+
+pub cond-eqb : {C : Type 0} (m n : ℕ) (x y : C) → cond (eqb m n) x y ≡ ite (ℕ-discrete m n) x y
+cond-eqb {C} m n x y = go (ℕ-discrete m n)
+  where
+    go : (d : Dec (m ≡ n)) → cond (eqb m n) x y ≡ ite d x y
+    go (yes e) = ap (λ (t : Bool). cond t x y) (eqb-true m n e)
+    go (no e) = ap (λ (t : Bool). cond t x y) (eqb-false m n e)
+
+those-append : {A : Type 0} (p : A → Bool) (xs ys : List A) → those p (xs ++ ys) ≡ those p xs ++ those p ys
+unfolding those
+those-append p [] ys = refl
+those-append p (x ∷ xs) ys = go (p x) (those-append p xs ys)
+  where
+    go : (t : Bool) → those p (xs ++ ys) ≡ those p xs ++ those p ys
+        → cond t (x ∷ those p (xs ++ ys)) (those p (xs ++ ys)) ≡ cond t (x ∷ those p xs) (those p xs) ++ those p ys
+    go true ih = ap (λ (l : List _). x ∷ l) ih
+    go false ih = ih
+
+pub count-upTo : (p : ℕ → Bool) (n : ℕ) → countOf p (below n) ≡ upTo _+_ 0 (λ b. cond (p b) 1 0) n
+unfolding upTo column those
+count-upTo p zero = refl
+count-upTo p (suc n) =
+    ap length (those-append p (below n) (n ∷ [])) ∙ length-append (those p (below n)) (those p (n ∷ []))
+    ∙ ap₂ _+_ (count-upTo p n) (go (p n))
+  where
+    go : (t : Bool) → length (cond t (n ∷ []) []) ≡ cond t 1 0
+    go true = refl
+    go false = refl
+
+all-append : {A : Type 0} (p : A → Bool) (xs ys : List A) → allOf p (xs ++ ys) ≡ allOf p xs && allOf p ys
+unfolding allOf
+all-append p [] ys = refl
+all-append p (x ∷ xs) ys = go (p x) (all-append p xs ys)
+  where
+    go : (t : Bool) → allOf p (xs ++ ys) ≡ (allOf p xs && allOf p ys) → (t && allOf p (xs ++ ys)) ≡ ((t && allOf p xs) && allOf p ys)
+    go true ih = ih
+    go false ih = refl
+
+-- ---- what all of a list hold
+pub all-each : {A : Type 0} (p : A → Bool) (d : A) (xs : List A) → allOf p xs ≡ true → (i : ℕ) → i < length xs → p (getD xs i d) ≡ true
+unfolding allOf
+all-each p d [] e i l = absurd (not-suc-le-zero l)
+all-each p d (x ∷ xs) e zero l = go (p x) e
+  where
+    go : (t : Bool) → (t && allOf p xs) ≡ true → t ≡ true
+    go true e = refl
+    go false e = e
+all-each p d (x ∷ xs) e (suc i) l = all-each p d xs (go (p x) e) i (omega arith)
+  where
+    go : (t : Bool) → (t && allOf p xs) ≡ true → allOf p xs ≡ true
+    go true e = e
+    go false e = false-true e
+
+pub all-not : {A : Type 0} (p : A → Bool) (d : A) (xs : List A) → allOf p xs ≡ false
+    → (i : ℕ) × (i < length xs) × (p (getD xs i d) ≡ false)
+unfolding allOf
+all-not p d [] e = false-true (sym e)
+all-not p d (x ∷ xs) e = go (p x) refl e (all-not p d xs)
+  where
+    go : (t : Bool) → p x ≡ t → (t && allOf p xs) ≡ false
+        → (allOf p xs ≡ false → (i : ℕ) × (i < length xs) × (p (getD xs i d) ≡ false))
+        → (i : ℕ) × (i < length (x ∷ xs)) × (p (getD (x ∷ xs) i d) ≡ false)
+    go true q e rec = let r = rec e in (suc (r .0), (let l = r .1 in omega arith), r .2)
+    go false q e rec = (0, omega arith, q)
+
+-- ---- over one lookup
+module _ (𝓕 : Field) where
+  open Field 𝓕 using (F, zero as nil, one, add, mul, neg, inv)
+
+  pub last-agree : (table : ℕ → F) (v : F) (n : ℕ) → lastEqual 𝓕 n table v ≡ lastRow (𝓕 .decide) table n v
+  unfolding lastEqual lastWhere lastRow
+  last-agree table v zero = refl
+  last-agree table v (suc n) =
+      ap (cond (decide (𝓕 .decide (table n) v)) (some n)) (last-agree table v n)
+      ∙ cond-ite (𝓕 .decide (table n) v) (some n) (lastRow (𝓕 .decide) table n v)
+
+  hit-agree : (j : ℕ) (o : Option ℕ) → cond (isAt j o) 1 0 ≡ hit o j
+  unfolding hit
+  hit-agree j none = refl
+  hit-agree j (some q) = cond-eqb q j 1 0
+
+  module _ (rows : ℕ) (input table : ℕ → F) where
+    -- m is the column of counts
+    pub counts-agree : (j : ℕ) → multiplicity 𝓕 rows input table j ≡ counts (𝓕 .decide) rows rows input table j
+    unfolding multiplicity counts
+    counts-agree j =
+        count-upTo (λ b. isAt j (lastEqual 𝓕 rows table (input b))) rows
+        ∙ upTo-cong _+_ 0 (λ b. cond (isAt j (lastEqual 𝓕 rows table (input b))) 1 0)
+        (λ b. hit (lastRow (𝓕 .decide) table rows (input b)) j) rows
+        (λ b l. hit-agree j (lastEqual 𝓕 rows table (input b)) ∙ ap (λ (o : Option ℕ). hit o j) (last-agree table (input b) rows))
+
+    found-agree : (n : ℕ) → allOf (λ b. isSome (lastEqual 𝓕 rows table (input b))) (below n) ≡ allFound (𝓕 .decide) rows input table n
+    unfolding allFound both column allOf
+    found-agree zero = refl
+    found-agree (suc n) =
+        all-append (λ b. isSome (lastEqual 𝓕 rows table (input b))) (below n) (n ∷ [])
+        ∙ ap₂ _&&_ (found-agree n) (ap (λ (o : Option ℕ). isSome o && true) (last-agree table (input n) rows))
+        ∙ go (lastRow (𝓕 .decide) table rows (input n)) (allFound (𝓕 .decide) rows input table n)
+      where
+        go : (o : Option ℕ) (t : Bool) → (t && (isSome o && true)) ≡ both o t
+        go none true = refl
+        go none false = refl
+        go (some q) true = refl
+        go (some q) false = refl
+
+    covered-agree : covered 𝓕 rows input table ≡ allFound (𝓕 .decide) rows input table rows
+    unfolding covered
+    covered-agree = found-agree rows
+
+    -- "Does each compressed input equal some compressed table row?"
+    pub covered-stand : covered 𝓕 rows input table ≡ true → AllStand rows rows input table
+    unfolding counted given
+    covered-stand e =
+        counted-stand (𝓕 .decide) rows rows input table (counts (𝓕 .decide) rows rows input table)
+        (ap (λ (t : Bool). given t (counts (𝓕 .decide) rows rows input table)) (sym covered-agree ∙ e))
+
+    pub stand-covered : AllStand rows rows input table → covered 𝓕 rows input table ≡ true
+    unfolding counted given
+    stand-covered h = go (covered 𝓕 rows input table) refl
+      where
+        c : ℕ → ℕ
+        c = counts (𝓕 .decide) rows rows input table
+
+        go : (t : Bool) → covered 𝓕 rows input table ≡ t → covered 𝓕 rows input table ≡ true
+        go true e = e
+        go false e =
+            absurd
+            (Option·none-ne-some c
+            (ap (λ (t : Bool). given t c) (sym e ∙ covered-agree) ∙ stand-counted (𝓕 .decide) rows rows input table h))
+
+    -- the same words for turning
+    pub turns-agree : (m : ℕ → ℕ) → Turns 𝓕 rows input table m ↔ Counts.Turns (𝓕 .decide) rows rows input table m
+    unfolding Turns
+    turns-agree m = (λ t v. sym (left v) ∙ t v ∙ right v, λ t v. left v ∙ t v ∙ sym (right v))
+      where
+        left : (v : F) → sumCounts rows (λ r. cond (same 𝓕 (table r) v) (m r) 0) ≡ Counts.countsOf (𝓕 .decide) rows table m v
+        left v =
+            upTo-cong _+_ 0 (λ r. cond (same 𝓕 (table r) v) (m r) 0) (λ r. ite (𝓕 .decide (table r) v) (m r) 0) rows
+            (λ r l. cond-ite (𝓕 .decide (table r) v) (m r) 0)
+
+        right : (v : F) → sumCounts rows (λ r. cond (same 𝓕 (input r) v) 1 0) ≡ Counts.howMany (𝓕 .decide) rows input v
+        right v =
+            upTo-cong _+_ 0 (λ r. cond (same 𝓕 (input r) v) 1 0) (λ r. ite (𝓕 .decide (input r) v) 1 0) rows
+            (λ r l. cond-ite (𝓕 .decide (input r) v) 1 0)
+
+    -- not covered exactly if no column of whole counts turns the table into the inputs
+    pub uncovered : (covered 𝓕 rows input table ≡ false) ↔ ((m : ℕ → ℕ) → Turns 𝓕 rows input table m → ⊥)
+    uncovered = (
+      λ e m t. false-true (sym e ∙ stand-covered (turns-stand (𝓕 .decide) rows rows input table m (turns-agree m .0 t))),
+      λ h. go h (covered 𝓕 rows input table) refl,
+    )
+      where
+        go : ((m : ℕ → ℕ) → Turns 𝓕 rows input table m → ⊥) → (t : Bool) → covered 𝓕 rows input table ≡ t → covered 𝓕 rows input table ≡ false
+        go h false e = e
+        go h true e =
+            absurd
+            (h (counts (𝓕 .decide) rows rows input table)
+            (turns-agree (counts (𝓕 .decide) rows rows input table) .1
+            (count-turns (𝓕 .decide) rows rows input table (covered-stand e))))
+
+    pub counts-sum : covered 𝓕 rows input table ≡ true → sumCounts rows (multiplicity 𝓕 rows input table) ≡ rows
+    counts-sum e =
+        upTo-cong _+_ 0 (multiplicity 𝓕 rows input table) (counts (𝓕 .decide) rows rows input table) rows (λ j l. counts-agree j)
+        ∙ count-all (𝓕 .decide) rows rows input table (covered-stand e)
+
+  -- ---- words as elements
+  pub el-num : (el : ℕ → F) → Embeds 𝓕 el → (n : ℕ) → el n ≡ num 𝓕 n
+  unfolding num upTo
+  el-num el h zero = h .el-zero
+  el-num el h (suc n) = h .el-suc n ∙ ap (λ (x : F). add x one) (el-num el h n)
+
+  pub h-sum-of : (el : ℕ → F) → Embeds 𝓕 el → (γ : F) (rows : ℕ) (input table : ℕ → F) → covered 𝓕 rows input table ≡ true
+      → sumRows 𝓕 rows (hAt 𝓕 γ input table (λ b. el (multiplicity 𝓕 rows input table b))) ≡ nil
+  unfolding hAt Lookup.hAt
+  h-sum-of el h γ rows input table e =
+      upTo-cong add nil (hAt 𝓕 γ input table (λ b. el (multiplicity 𝓕 rows input table b)))
+      (Lookup.hAt 𝓕 γ input table (λ r. num 𝓕 (counts (𝓕 .decide) rows rows input table r))) rows
+      (λ b l.
+      ap (λ (m : F). add (inv (add γ (input b))) (neg (mul m (inv (add γ (table b))))))
+      (el-num el h (multiplicity 𝓕 rows input table b) ∙ ap (num 𝓕) (counts-agree rows input table b)))
+      ∙ h-sum 𝓕 γ rows input table (covered-stand rows input table e)
+
+  -- ---- over a log
+  module _ (g : Log 𝓕) where
+    pub covered-each : allCovered 𝓕 g ≡ true → EachLookup 𝓕 g (λ l. covered 𝓕 (rowsOf (g .circuit)) (inputAt 𝓕 g l) (tableAt 𝓕 g l) ≡ true)
+    unfolding allCovered
+    covered-each e i l =
+        all-each (λ l. covered 𝓕 (rowsOf (g .circuit)) (inputAt 𝓕 g l) (tableAt 𝓕 g l)) [] (g .circuit .lookups) e i l
+
+    -- Meaning's refused-when
+    pub refused-when : (allCovered 𝓕 g ≡ false) ↔ NoCounts 𝓕 g
+    unfolding NoCounts allCovered
+    refused-when = (
+      λ e.
+          let r = all-not (λ l. covered 𝓕 (rowsOf (g .circuit)) (inputAt 𝓕 g l) (tableAt 𝓕 g l)) [] (g .circuit .lookups) e in
+          (r .0, r .1, uncovered (rowsOf (g .circuit)) (inputAt 𝓕 g _) (tableAt 𝓕 g _) .0 (r .2)),
+      λ n. go n (allCovered 𝓕 g) refl,
+    )
+      where
+        go : NoCounts 𝓕 g → (t : Bool) → allCovered 𝓕 g ≡ t → allCovered 𝓕 g ≡ false
+        go n false e = e
+        go n true e =
+            false-true
+            (sym (uncovered (rowsOf (g .circuit)) (inputAt 𝓕 g _) (tableAt 𝓕 g _) .1 (n .2)) ∙ covered-each e (n .0) (n .1))
+
+    pub m-sums : allCovered 𝓕 g ≡ true → EachLookup 𝓕 g (λ l. sumCounts (rowsOf (g .circuit)) (countAt 𝓕 g l) ≡ rowsOf (g .circuit))
+    unfolding countAt
+    m-sums e i l = counts-sum (rowsOf (g .circuit)) (inputAt 𝓕 g _) (tableAt 𝓕 g _) (covered-each e i l)
+
+    pub h-sums : Embeds 𝓕 (g .el) → allCovered 𝓕 g ≡ true → EachLookup 𝓕 g (λ l. sumRows 𝓕 (rowsOf (g .circuit)) (lookupHAt 𝓕 g l) ≡ nil)
+    unfolding lookupHAt mAt countAt
+    h-sums h e i l = h-sum-of (g .el) h (g .γ) (rowsOf (g .circuit)) (inputAt 𝓕 g _) (tableAt 𝓕 g _) (covered-each e i l)

@@ -1,0 +1,240 @@
+-- Each part of a composed constraint is the stage's: the claim Reads of Composed, proved. Assumes nothing.
+use mathlib.Core.Path.{_≡_, refl, sym, ap, ap₂, _∙_, subst}
+use mathlib.Core.List.{List, [], _∷_, _++_, map}
+use Prim.Native.Nat.{ℕ, zero, suc, _+_, _*_, _<_}
+use native.Mathlib.Nat.{add-zero, add-suc}
+use native.Mathlib.Omega.{arith}
+use lib.ListN.{length, getD, length-append, length-map}
+use Rattle.field.specs.Algebra.{Field, add-assoc as f-assoc, add-zero as f-zero}
+use Rattle.bh.specs.Rows.{rotated, iter}
+use Rattle.util.specs.Lists.{below}
+use Rattle.expression.specs.Expr.{Expr, evaluate, distributePowers}
+use Rattle.expression.specs.Value.{polyOf, valueOps, valueAt}
+use Rattle.multilinear.specs.EqXY.{eqAt}
+use Rattle.backend.specs.Circuit.{
+  Pair,
+  Circuit,
+  rowsOf,
+  numUser,
+  numPoly,
+  numLookups,
+  copied,
+  numCopied,
+  permNumber,
+  mNumber,
+  hNumber,
+  zNumber,
+}
+use Rattle.backend.specs.Constraints.{betaOf, inputsOf, tablesOf}
+use Rattle.preprocessor.specs.Compose.{numZ, identityFactor, permutationFactor}
+use Rattle.prover.specs.Log.{Log}
+use Rattle.prover.specs.Columns.{
+  powerSum,
+  instancePolys,
+  preprocessPolys,
+  witnessPolys,
+  givenPolys,
+  userEnvironment,
+  compressedAt,
+  inputAt,
+  tableAt,
+  mAt,
+  lookupHAt,
+  permutationAt,
+  copiedAt,
+  identityFactorAt,
+  permutationFactorAt,
+  zAt,
+  permutationPolys,
+  mPolys,
+  hPolys,
+  zPolys,
+  allPolys,
+  composedEnvironment,
+}
+use Rattle.calls.specs.Meaning.{Embeds, Admitted}
+use Rattle.calls.specs.Composed.{inputIn, tableIn, Reads}
+use Rattle.calls.specs.PowerFacts.{powers-value}
+use Rattle.identities.specs.Lists.{All}
+use Rattle.completeness.specs.Places.{
+  get-left,
+  get-past,
+  get-map,
+  column-length,
+  split-length,
+  all-get,
+  all-column,
+  all-those,
+  all-mapped,
+  below-length,
+  below-get,
+}
+use Rattle.completeness.specs.Scope.{Scoped, scoped-value}
+use Rattle.completeness.specs.Passed.{yes-all, constraints-scoped, lookups-scoped}
+
+-- ---- circuits
+pub copied-below : (c : Circuit) → All (λ q. q < numPoly c) (copied c)
+unfolding copied
+copied-below c = all-those (λ q. q < numPoly c) _ (below (numPoly c)) (all-column (λ q. q < numPoly c) (λ i. i) (numPoly c) (λ i l. l))
+
+-- two maps that agree on what has a property
+pub map-same : {A B : Type 0} (Q : A → Type 0) (f g : A → B) → ((x : A) → Q x → f x ≡ g x) → (xs : List A) → All Q xs → map f xs ≡ map g xs
+map-same Q f g h [] a = refl
+map-same Q f g h (x ∷ xs) a = ap₂ (λ (u : _) (v : List _). u ∷ v) (h x (a .0)) (map-same Q f g h xs (a .1))
+
+module _ (𝓕 : Field) where
+  open Field 𝓕 using (F, zero as nil, one, add, mul, neg)
+
+  -- words add as elements
+  pub el-add : (el : ℕ → F) → Embeds 𝓕 el → (m n : ℕ) → el (m + n) ≡ add (el m) (el n)
+  el-add el h m zero = ap el (add-zero m) ∙ sym (f-zero 𝓕 (el m)) ∙ ap (add (el m)) (sym (h .el-zero))
+  el-add el h m (suc n) =
+      ap el (add-suc m n) ∙ h .el-suc (m + n) ∙ ap (λ (x : F). add x one) (el-add el h m n)
+      ∙ f-assoc 𝓕 (el m) (el n) one
+      ∙ ap (add (el m)) (sym (h .el-suc n))
+
+  module _ (g : Log 𝓕) where
+    abbrev c : Circuit
+    c = g .circuit
+
+    pub given-length : length (givenPolys 𝓕 g) ≡ numPoly (g .circuit)
+    unfolding givenPolys instancePolys preprocessPolys witnessPolys numPoly
+    given-length = simp (length-append, length-map, column-length, split-length) (omega arith)
+
+    pub perm-length : length (permutationPolys 𝓕 g) ≡ numCopied (g .circuit)
+    unfolding permutationPolys
+    perm-length = simp (length-map, column-length)
+
+    pub m-length : length (mPolys 𝓕 g) ≡ numLookups (g .circuit)
+    unfolding mPolys
+    m-length = simp length-map
+
+    pub h-length : length (hPolys 𝓕 g) ≡ numLookups (g .circuit)
+    unfolding hPolys
+    h-length = simp length-map
+
+    -- ---- the places of the polynomials
+    pub poly-given : (q b : ℕ) → q < numPoly (g .circuit) → polyOf 𝓕 (allPolys 𝓕 g) q b ≡ polyOf 𝓕 (givenPolys 𝓕 g) q b
+    unfolding allPolys
+    poly-given q b l = ap (λ (p : ℕ → F). p b) (get-left (givenPolys 𝓕 g) _ q (λ r. nil) (let e = given-length in omega arith))
+
+    pub poly-permutation : (i b : ℕ) → i < numCopied (g .circuit) → polyOf 𝓕 (allPolys 𝓕 g) (permNumber (g .circuit) i) b ≡ permutationAt 𝓕 g i b
+    unfolding allPolys permutationPolys
+    poly-permutation i b l =
+        ap (λ (p : ℕ → F). p b)
+        (get-past (givenPolys 𝓕 g) _ (permNumber (g .circuit) i) i (λ r. nil) (let e = given-length in omega arith)
+        ∙ get-left (permutationPolys 𝓕 g) _ i (λ r. nil) (let e = perm-length in omega arith)
+        ∙ get-map (permutationAt 𝓕 g) (below (numCopied (g .circuit))) i 0 (λ r. nil) (let e = below-length (numCopied (g .circuit)) in omega arith)
+        ∙ ap (permutationAt 𝓕 g) (below-get (numCopied (g .circuit)) i 0 l))
+
+    pub poly-m : (j b : ℕ) → j < numLookups (g .circuit) → polyOf 𝓕 (allPolys 𝓕 g) (mNumber (g .circuit) j) b ≡ mAt 𝓕 g (getD (g .circuit .lookups) j []) b
+    unfolding allPolys mPolys
+    poly-m j b l =
+        ap (λ (p : ℕ → F). p b)
+        (get-past (givenPolys 𝓕 g) _ (mNumber (g .circuit) j) (numCopied (g .circuit) + j) (λ r. nil) (let e = given-length in omega arith)
+        ∙ get-past (permutationPolys 𝓕 g) _ (numCopied (g .circuit) + j) j (λ r. nil) (let e = perm-length in omega arith)
+        ∙ get-left (mPolys 𝓕 g) _ j (λ r. nil) (let e = m-length in omega arith)
+        ∙ get-map (mAt 𝓕 g) (g .circuit .lookups) j [] (λ r. nil) l)
+
+    pub poly-h : (j b : ℕ) → j < numLookups (g .circuit) → polyOf 𝓕 (allPolys 𝓕 g) (hNumber (g .circuit) j) b ≡ lookupHAt 𝓕 g (getD (g .circuit .lookups) j []) b
+    unfolding allPolys hPolys
+    poly-h j b l =
+        ap (λ (p : ℕ → F). p b)
+        (get-past (givenPolys 𝓕 g) _ (hNumber (g .circuit) j) (numCopied (g .circuit) + (numLookups (g .circuit) + j)) (λ r. nil) (let e = given-length in omega arith)
+        ∙ get-past (permutationPolys 𝓕 g) _ (numCopied (g .circuit) + (numLookups (g .circuit) + j)) (numLookups (g .circuit) + j) (λ r. nil) (let e = perm-length in omega arith)
+        ∙ get-past (mPolys 𝓕 g) _ (numLookups (g .circuit) + j) j (λ r. nil) (let e = m-length in omega arith)
+        ∙ get-left (hPolys 𝓕 g) _ j (λ r. nil) (let e = h-length in omega arith)
+        ∙ get-map (lookupHAt 𝓕 g) (g .circuit .lookups) j [] (λ r. nil) l)
+
+    pub poly-z : (i b : ℕ) → i < numZ (g .circuit) → polyOf 𝓕 (allPolys 𝓕 g) (zNumber (g .circuit) i) b ≡ zAt 𝓕 g i b
+    unfolding allPolys zPolys
+    poly-z i b l =
+        let L : ℕ = numLookups (g .circuit) in
+        ap (λ (p : ℕ → F). p b)
+        (get-past (givenPolys 𝓕 g) _ (zNumber (g .circuit) i) (numCopied (g .circuit) + (L + (L + i))) (λ r. nil) (let e = given-length in omega arith)
+        ∙ get-past (permutationPolys 𝓕 g) _ (numCopied (g .circuit) + (L + (L + i))) (L + (L + i)) (λ r. nil) (let e = perm-length in omega arith)
+        ∙ get-past (mPolys 𝓕 g) _ (L + (L + i)) (L + i) (λ r. nil) (let e = m-length in omega arith)
+        ∙ get-past (hPolys 𝓕 g) _ (L + i) i (λ r. nil) (let e = h-length in omega arith)
+        ∙ get-map (zAt 𝓕 g) (below (numZ (g .circuit))) i 0 (λ r. nil) (let e = below-length (numZ (g .circuit)) in omega arith)
+        ∙ ap (zAt 𝓕 g) (below-get (numZ (g .circuit)) i 0 l))
+
+    pub copied-poly : (i b : ℕ) → i < numCopied (g .circuit) → polyOf 𝓕 (allPolys 𝓕 g) (getD (copied (g .circuit)) i 0) b ≡ copiedAt 𝓕 g i b
+    unfolding copiedAt
+    copied-poly i b l =
+        poly-given (getD (copied (g .circuit)) i 0) b (all-get (λ q. q < numPoly (g .circuit)) (copied (g .circuit)) (copied-below (g .circuit)) i 0 l)
+
+    module _ (ad : Admitted 𝓕 g) (α : F) where
+      abbrev challenges : List F
+      challenges = g .user ++ (g .β ∷ g .γ ∷ α ∷ [])
+
+      pub beta-value : getD challenges (numUser (g .circuit)) nil ≡ g .β
+      beta-value = get-past (g .user) _ (numUser (g .circuit)) 0 nil (let e = ad .user-all in omega arith)
+
+      pub gamma-value : getD challenges (numUser (g .circuit) + 1) nil ≡ g .γ
+      gamma-value = get-past (g .user) _ (numUser (g .circuit) + 1) 1 nil (let e = ad .user-all in omega arith)
+
+      pub alpha-value : getD challenges (numUser (g .circuit) + 2) nil ≡ α
+      alpha-value = get-past (g .user) _ (numUser (g .circuit) + 2) 2 nil (let e = ad .user-all in omega arith)
+
+      module _ (y : ℕ → F) where
+        -- ---- user expressions
+        pub user-value : (e : Expr) → Scoped (numPoly (g .circuit)) (numUser (g .circuit)) e → (b : ℕ)
+            → valueAt 𝓕 (composedEnvironment 𝓕 g α y) e b ≡ valueAt 𝓕 (userEnvironment 𝓕 g) e b
+        unfolding composedEnvironment userEnvironment
+        user-value e h b =
+            scoped-value 𝓕 (numPoly (g .circuit)) (numUser (g .circuit)) (g .circuit .k) (g .el) (allPolys 𝓕 g) (givenPolys 𝓕 g) challenges (g .user)
+            (eqAt 𝓕 (g .circuit .k) y)
+            (λ b. nil)
+            (λ i l b. poly-given i b l)
+            (λ i l. get-left (g .user) _ i nil (let e = ad .user-all in omega arith))
+            e
+            h
+            b
+
+        abbrev InScope : Expr → Type 0
+        InScope e = Scoped (numPoly (g .circuit)) (numUser (g .circuit)) e
+
+        pub constraints-in : All InScope (g .circuit .constraints)
+        constraints-in =
+            subst (λ (c : Circuit). All (λ e. Scoped (numPoly c) (numUser c) e) (c .constraints)) (sym (ad .read))
+            (constraints-scoped (ad .words) (yes-all (ad .words) (ad .passed)))
+
+        pub lookups-in : All (All (λ (p : Pair). InScope (p .input) × InScope (p .table))) (g .circuit .lookups)
+        lookups-in =
+            subst (λ (c : Circuit). All (All (λ (p : Pair). Scoped (numPoly c) (numUser c) (p .input) × Scoped (numPoly c) (numUser c) (p .table))) (c .lookups))
+            (sym (ad .read))
+            (lookups-scoped (ad .words) (yes-all (ad .words) (ad .passed)))
+
+        compressed-value : (es : List Expr) → All InScope es → (b : ℕ)
+            → valueAt 𝓕 (composedEnvironment 𝓕 g α y) (distributePowers es (betaOf (g .circuit))) b ≡ compressedAt 𝓕 g es b
+        unfolding compressedAt composedEnvironment valueAt valueOps evaluate
+        compressed-value es h b =
+            powers-value 𝓕 (composedEnvironment 𝓕 g α y) (g .circuit) (ad .embeds) es (betaOf (g .circuit)) b
+            ∙ ap₂ (powerSum 𝓕) beta-value
+            (map-same InScope (λ e. valueAt 𝓕 (composedEnvironment 𝓕 g α y) e b) (λ e. valueAt 𝓕 (userEnvironment 𝓕 g) e b) (λ e h. user-value e h b) es h)
+
+        pairs-in : (j : ℕ) → j < length (g .circuit .lookups) → All (λ (p : Pair). InScope (p .input) × InScope (p .table)) (getD (g .circuit .lookups) j [])
+        pairs-in j l = all-get (All (λ (p : Pair). InScope (p .input) × InScope (p .table))) (g .circuit .lookups) lookups-in j [] l
+
+        pub reads : Reads 𝓕 g α y
+        unfolding composedEnvironment inputIn tableIn inputAt tableAt identityFactor permutationFactor identityFactorAt permutationFactorAt valueAt valueOps evaluate rotated iter
+        reads =
+            record {
+              input = λ _ j l b m.
+                  compressed-value (inputsOf (getD (g .circuit .lookups) j []))
+                  (all-mapped (λ (p : Pair). InScope (p .input) × InScope (p .table)) InScope (λ (p : Pair). p .input) (λ p q. q .0) (getD (g .circuit .lookups) j []) (pairs-in j l))
+                  b;
+              table = λ _ j l b m.
+                  compressed-value (tablesOf (getD (g .circuit .lookups) j []))
+                  (all-mapped (λ (p : Pair). InScope (p .input) × InScope (p .table)) InScope (λ (p : Pair). p .table) (λ p q. q .1) (getD (g .circuit .lookups) j []) (pairs-in j l))
+                  b;
+              m = λ j b l. poly-m j b l;
+              h = λ j b l. poly-h j b l;
+              z = λ i b l. poly-z i b l;
+              identity-factor = λ _ i b l.
+                  ap₂ add
+                  (ap₂ add (copied-poly i b l) (ap₂ mul beta-value (sym (el-add (g .el) (ad .embeds) (i * rowsOf (g .circuit)) b))))
+                  gamma-value;
+              permutation-factor = λ _ i b l.
+                  ap₂ add (ap₂ add (copied-poly i b l) (ap₂ mul beta-value (poly-permutation i b l))) gamma-value;
+            }

@@ -1,0 +1,127 @@
+-- Demand 3: DemandThree of Demand, proved. Assumes nothing.
+use mathlib.Core.Path.{_≡_, refl, sym, ap, ap₂, _∙_}
+use mathlib.Core.Logic.{_≢_, _↔_}
+use mathlib.Core.Bool.{Bool, true, false}
+use mathlib.Core.List.{List, [], _∷_, _++_}
+use Prim.Native.Nat.{ℕ, zero, _-_, _<_}
+use native.Mathlib.Omega.{arith}
+use lib.ListN.{length, getD, take, length-map, length-take}
+use Rattle.field.specs.Prime.{P}
+use Rattle.field.specs.Field.{𝔾, el, val, val-el, el-zero, P-pos}
+use Rattle.expression.specs.Nodes.{exprOf}
+use Rattle.expression.specs.Value.{valueAt}
+use Rattle.backend.specs.Circuit.{circuitOf, rowsOf, numUser}
+use Rattle.preprocessor.specs.Compose.{compose, composedWords, composedNodes}
+use Rattle.prover.specs.Log.{Log}
+use Rattle.prover.specs.Columns.{allCovered, writtenPolys, composedEnvironment}
+use Rattle.calls.specs.Build.{Output, logOf, wordsOf, checkBuild, buildOf, made, zeroed}
+use Rattle.calls.specs.RowSum.{rowSumOf, sumOf, lentEnvironment}
+use Rattle.calls.specs.Meaning.{Each, Admitted, Premises, Conclusions}
+use Rattle.calls.specs.Demand.{Succeeds, Demand3, DemandThree}
+use Rattle.calls.specs.Facts.{embeds, columns-length, fifteen-by, built-by, written-by}
+use Rattle.calls.specs.ReadsBack.{reads-back}
+use Rattle.identities.specs.Total.{upTo-cong}
+use Rattle.completeness.specs.Places.{all-from}
+use Rattle.completeness.specs.Passed.{yes-all, k-small}
+use Rattle.completeness.specs.Asking.{Lending, lending, sum-yes}
+use Rattle.completeness.specs.Lent.{words-small, lent-value}
+use Rattle.completeness.specs.Whole.{demand-3-of, concluded}
+
+val-zero : val (𝔾 .zero) ≡ 0
+val-zero = ap val (sym el-zero) ∙ val-el 0 P-pos
+
+module _ (ws instances witness challenges columns nodes : List ℕ) (asked : checkBuild ws instances witness challenges columns nodes ≡ 0) where
+  abbrev log : Log 𝔾
+  log = logOf ws instances witness challenges
+
+  l : Lending ws instances witness challenges
+  l = lending ws instances witness challenges columns nodes asked
+
+  pub admitted : Admitted 𝔾 log
+  unfolding logOf
+  admitted =
+      record {
+        words = ws;
+        read = refl;
+        passed = l .circuit-yes;
+        user-all =
+            length-map (take (numUser (circuitOf ws)) challenges) el
+            ∙ length-take (numUser (circuitOf ws)) challenges
+            ∙ (let q = l .challenges-length in omega arith);
+        embeds = embeds;
+      }
+
+  abbrev out : Output
+  out = buildOf ws instances witness challenges columns nodes
+
+  is-fifteen : allCovered 𝔾 log ≡ false → out .answer .number ≡ 15
+  unfolding zeroed
+  is-fifteen e = ap (λ (o : Output). o .answer .number) (fifteen-by ws instances witness challenges columns nodes asked e)
+
+  not-fifteen : allCovered 𝔾 log ≡ true → out .answer .number ≡ 0
+  unfolding made
+  not-fifteen e = ap (λ (o : Output). o .answer .number) (built-by ws instances witness challenges columns nodes asked e)
+
+  fifteen : (out .answer .number ≡ 15) ↔ (allCovered 𝔾 log ≡ false)
+  fifteen = (λ e. go e (allCovered 𝔾 log) refl, is-fifteen)
+    where
+      go : out .answer .number ≡ 15 → (t : Bool) → allCovered 𝔾 log ≡ t → allCovered 𝔾 log ≡ false
+      go e false q = q
+      go e true q = absurd (bad e (not-fifteen q))
+        where
+          bad : out .answer .number ≡ 15 → out .answer .number ≡ 0 → ⊥
+          bad a b = omega arith
+
+  covered-unless : out .answer .number ≢ 15 → allCovered 𝔾 log ≡ true
+  covered-unless n = go (allCovered 𝔾 log) refl
+    where
+      go : (t : Bool) → allCovered 𝔾 log ≡ t → allCovered 𝔾 log ≡ true
+      go true q = q
+      go false q = absurd (n (is-fifteen q))
+
+  abbrev lent : List ℕ
+  lent = wordsOf (rowsOf (circuitOf ws)) (writtenPolys 𝔾 log)
+
+  -- the row sum over what was written
+  sum-zero : Conclusions 𝔾 log → (α : ℕ) (y : List ℕ) → sumOf ws witness lent (composedWords (circuitOf ws)) (challenges ++ (α ∷ [])) y ≡ 𝔾 .zero
+  unfolding sumOf logOf
+  sum-zero c α y =
+      upTo-cong (𝔾 .add) (𝔾 .zero) _ (valueAt 𝔾 (composedEnvironment 𝔾 log (el α) (λ i. el (getD y i 0))) (compose (circuitOf ws))) (rowsOf (circuitOf ws))
+      (λ b m.
+      ap (λ (e : Rattle.expression.specs.Expr.Expr). valueAt 𝔾 (lentEnvironment ws witness lent (challenges ++ (α ∷ [])) y) e b) (reads-back ws)
+      ∙ lent-value ws instances witness challenges (l .challenges-length) (let q = k-small ws (yes-all ws (l .circuit-yes)) in omega arith) α y (compose (circuitOf ws)) b m)
+      ∙ c .composed-sum (el α) (λ i. el (getD y i 0))
+
+  row-sum : Conclusions 𝔾 log → (α : ℕ) (y : List ℕ) → α < P → length y ≡ circuitOf ws .k → Each 0 y (λ v. v < P)
+      → rowSumOf ws witness lent (composedWords (circuitOf ws)) (challenges ++ (α ∷ [])) y ≡ record { number = 0; sum = 0 }
+  unfolding rowSumOf logOf
+  row-sum c α y a h s =
+      rw (
+        sum-yes ws instances witness challenges lent y α l (columns-length log) (words-small (rowsOf (circuitOf ws)) (writtenPolys 𝔾 log)) a h (all-from (λ v. v < P) y 0 s),
+        sum-zero c α y,
+        val-zero,
+      )
+
+  succeeds : Premises 𝔾 log → allCovered 𝔾 log ≡ true → Succeeds ws instances witness challenges columns nodes
+  succeeds p e =
+      let w = written-by ws instances witness challenges columns nodes asked e in
+      let c = concluded 𝔾 log admitted p e in
+      record {
+        written = w;
+        nodes-read = ap (λ (ns : List ℕ). exprOf ns (composedNodes (circuitOf ws) - 1)) (w .nodes-written) ∙ reads-back ws;
+        concluded = c;
+        row-sum = λ α y a h s.
+            ap₂ (λ (cs ns : List ℕ). rowSumOf ws witness cs ns (challenges ++ (α ∷ [])) y) (w .columns-written) (w .nodes-written)
+            ∙ row-sum c α y a h s;
+      }
+
+  pub demand-3 : Demand3 ws instances witness challenges columns nodes
+  demand-3 =
+      let d = demand-3-of 𝔾 log admitted in
+      record {
+        fifteen = (λ e. d .refused-when .0 (fifteen .0 e), λ n. fifteen .1 (d .refused-when .1 n));
+        otherwise = λ p n. succeeds p (covered-unless n);
+      }
+
+pub demand-three : DemandThree
+demand-three ws instances witness challenges columns nodes asked = demand-3 ws instances witness challenges columns nodes asked

@@ -1,0 +1,83 @@
+-- Demand 3 over any field: DemandThreeOf of Meaning, proved. Assumes nothing.
+use mathlib.Core.Path.{_≡_, refl, sym, ap, _∙_, subst}
+use mathlib.Core.Bool.{Bool, true, false, cond}
+use mathlib.Core.List.{[], _∷_}
+use Prim.Native.Nat.{ℕ, zero, suc, _<_}
+use native.Mathlib.Omega.{arith}
+use lib.Dec.{eqb}
+use Rattle.field.specs.Algebra.{Field}
+use Rattle.util.specs.Lists.{column}
+use Rattle.expression.specs.Expr.{Expr}
+use Rattle.expression.specs.Value.{valueAt}
+use Rattle.backend.specs.Circuit.{Circuit, numCopied}
+use Rattle.backend.specs.Constraints.{lookupConstraints}
+use Rattle.backend.specs.Questions.{q11}
+use Rattle.preprocessor.specs.Compose.{numZ, startConstraint, partConstraint, permutationConstraints, composedConstraints}
+use Rattle.prover.specs.Log.{Log}
+use Rattle.prover.specs.Columns.{allCovered, composedEnvironment}
+use Rattle.calls.specs.Meaning.{Admitted, EachRow, Premises, Conclusions, Demand3Of, DemandThreeOf}
+use Rattle.identities.specs.Lists.{All}
+use Rattle.completeness.specs.Counting.{refused-when, m-sums, h-sums, eqb-true, false-true}
+use Rattle.completeness.specs.Places.{all-get, all-join, all-column}
+use Rattle.completeness.specs.Passed.{Yes, yes-all, k-pos, k-small}
+use Rattle.completeness.specs.Summing.{user-zeros, lookup-zeros, composed-zero}
+use Rattle.completeness.specs.Zs.{start-zeros, part-zeros}
+
+module _ (𝓕 : Field) (g : Log 𝓕) (ad : Admitted 𝓕 g) where
+  open Field 𝓕 using (F, zero as nil)
+
+  yes-words : Yes (ad .words)
+  yes-words = yes-all (ad .words) (ad .passed)
+
+  pub kp : 0 < g .circuit .k
+  kp = subst (λ (c : Circuit). 0 < c .k) (sym (ad .read)) (k-pos (ad .words) yes-words)
+
+  pub ks : g .circuit .k < 21
+  ks = subst (λ (c : Circuit). c .k < 21) (sym (ad .read)) (k-small (ad .words) yes-words)
+
+  pub eleven : q11 (g .circuit) ≡ true
+  eleven = ap q11 (ad .read) ∙ yes-words .eleven
+
+  module _ (p : Premises 𝓕 g) (α : F) (y : ℕ → F) where
+    abbrev Zero : Expr → Type 0
+    Zero e = EachRow 𝓕 g (λ b. valueAt 𝓕 (composedEnvironment 𝓕 g α y) e b ≡ nil)
+
+    permutation-zeros : All Zero (permutationConstraints (g .circuit))
+    unfolding permutationConstraints
+    permutation-zeros = go (eqb (numCopied (g .circuit)) 0) refl
+      where
+        go : (t : Bool) → eqb (numCopied (g .circuit)) 0 ≡ t
+            → All Zero (cond t [] (startConstraint (g .circuit) ∷ column (partConstraint (g .circuit)) (numZ (g .circuit))))
+        go true e = tt
+        go false e = (
+          start-zeros 𝓕 g pos kp ks eleven ad p α y,
+          all-column Zero (partConstraint (g .circuit)) (numZ (g .circuit)) (part-zeros 𝓕 g pos kp ks eleven ad p α y),
+        )
+          where
+            pos : 0 < numCopied (g .circuit)
+            pos = go' (numCopied (g .circuit)) e
+              where
+                go' : (n : ℕ) → eqb n 0 ≡ false → 0 < n
+                go' zero w = false-true (sym w ∙ eqb-true 0 0 refl)
+                go' (suc n) w = omega arith
+
+    pub all-zeros : All Zero (composedConstraints (g .circuit))
+    unfolding composedConstraints
+    all-zeros =
+        all-join Zero (g .circuit .constraints) _ (user-zeros 𝓕 g ad α y p)
+        (all-join Zero (lookupConstraints (g .circuit)) (permutationConstraints (g .circuit)) (lookup-zeros 𝓕 g ad α y p) permutation-zeros)
+
+  pub concluded : Premises 𝓕 g → allCovered 𝓕 g ≡ true → Conclusions 𝓕 g
+  concluded p e =
+      record {
+        constraints-zero = λ α y i l. all-get (Zero p α y) (composedConstraints (g .circuit)) (all-zeros p α y) i (Expr.constant 0) l;
+        h-sums = h-sums 𝓕 g (ad .embeds) e;
+        m-sums = m-sums 𝓕 g e;
+        composed-sum = λ α y. composed-zero 𝓕 g ad α y (all-zeros p α y) e;
+      }
+
+  pub demand-3-of : Demand3Of 𝓕 g
+  demand-3-of = record { refused-when = refused-when 𝓕 g; holds-when = concluded }
+
+pub demand-three-of : DemandThreeOf
+demand-three-of 𝓕 g ad = demand-3-of 𝓕 g ad

@@ -1,0 +1,174 @@
+-- The bench examples of document 01 (●), one table of theorems over the definitions. Assumes nothing.
+use mathlib.Core.Path.{_≡_, refl}
+use mathlib.Core.Bool.{true, false}
+use mathlib.Core.List.{List, [], _∷_}
+use mathlib.Core.Option.{Option, none, some}
+use Prim.Native.Nat.{ℕ, zero, suc, _-_, _^_}
+use lib.IntN.{pos, negsuc}
+use lib.ListN.{take, replicate}
+use Rattle.field.specs.Field.{𝔾, el, val}
+use Rattle.field.specs.Inverse.{witness}
+use Rattle.field.specs.Algebra.{product}
+use Rattle.bh.specs.Rows.{prevRow, order, lagrangeRow}
+use Rattle.util.specs.Lists.{column, firstNo}
+use Rattle.backend.specs.Questions.{q10, circuitQuestions, goodK}
+use Rattle.preprocessor.specs.Compose.{constraintCut, zCut, CutsAlike}
+use Rattle.preprocessor.specs.Permutation.{label}
+use Rattle.calls.specs.Build.{checkBuild, buildOf}
+use Rattle.calls.specs.Stages.{mOf}
+use Rattle.field.specs.Prime.{P}
+use Rattle.expression.specs.Expr.{Expr}
+use Rattle.backend.specs.Circuit.{Circuit, Cell}
+use Rattle.examples.specs.Open.{everything}
+
+abbrev pub four : ℕ → ℕ → ℕ → ℕ → List ℕ
+four a b c d = a ∷ b ∷ c ∷ d ∷ []
+
+-- a circuit of one round of witness columns, with a stated degree, and constraints and cycles only
+abbrev pub plainCircuit : ℕ → Option ℕ → ℕ → List Expr → List (List Cell) → Circuit
+plainCircuit k stated witness constraints cycles =
+    record {
+      k = k;
+      stated = stated;
+      instances = [];
+      preprocess = [];
+      rounds = record { witness = witness; challenges = 0 } ∷ [];
+      nodes = [];
+      roots = [];
+      constraints = constraints;
+      lookups = [];
+      cycles = cycles;
+    }
+
+abbrev pub cell : ℕ → ℕ → Cell
+cell q b = record { polynomial = q; row = b }
+
+-- ● k=2 order 0,1,2,3.
+pub order-2 : order 2 ≡ four 0 1 2 3
+unfolding order
+order-2 = refl
+
+-- ● k=3 order 0,1,2,4,3,6,7,5.
+pub order-3 : order 3 ≡ 0 ∷ 1 ∷ 2 ∷ 4 ∷ 3 ∷ 6 ∷ 7 ∷ 5 ∷ []
+unfolding order
+order-3 = refl
+
+-- ● k=3: before 1 comes 5.
+pub before-1 : prevRow 3 1 ≡ 5
+unfolding prevRow
+before-1 = refl
+
+-- ● k=3: Lagrange(−1) is row 5.
+pub lagrange-last : lagrangeRow 3 (negsuc 0) ≡ 5
+unfolding lagrangeRow
+lagrange-last = refl
+
+-- ● k=3: Lagrange(8) is row 0.
+pub lagrange-8 : lagrangeRow 3 (pos 8) ≡ 0
+unfolding lagrangeRow
+lagrange-8 = refl
+
+-- ● Table 5,7,7,9, inputs 7,7,5,9: m = 1,0,2,1.
+pub counts : mOf 2 (four 7 7 5 9) (four 5 7 7 9) (four 8 8 8 8) ≡ record { number = 0; out = four 1 0 2 1 }
+unfolding everything
+counts = refl
+
+-- ● Input 6 there: 15. The column becomes 0, the word behind it stays.
+pub no-counts : mOf 2 (four 7 6 5 9) (four 5 7 7 9) (8 ∷ four 8 8 8 8) ≡ record { number = 15; out = 0 ∷ 0 ∷ 0 ∷ 0 ∷ 8 ∷ [] }
+unfolding everything
+no-counts = refl
+
+-- ● k=2, cycle (0,1),(1,2): labels 0,6,2,3 and 4,5,1,7.
+abbrev pub swapped : Circuit
+swapped = plainCircuit 2 none 2 [] ((cell 0 1 ∷ cell 1 2 ∷ []) ∷ [])
+
+pub labels-0 : column (label swapped 0) 4 ≡ four 0 6 2 3
+unfolding everything
+labels-0 = refl
+
+pub labels-1 : column (label swapped 1) 4 ≡ four 4 5 1 7
+unfolding everything
+labels-1 = refl
+
+-- ● 2^32 × 2^32 = 4294967295.
+pub product-32 : val (𝔾 .mul (el (2 ^ 32)) (el (2 ^ 32))) ≡ 4294967295
+unfolding everything
+product-32 = refl
+
+-- ● Inverse of 2 is 9223372034707292161.
+pub half : val (𝔾 .inv (el 2)) ≡ 9223372034707292161
+unfolding everything
+half = refl
+
+-- the inverse of 0 is 0
+pub inverse-0 : val (𝔾 .inv (el 0)) ≡ 0
+unfolding everything
+inverse-0 = refl
+
+-- ● k=1, one single-cell cycle: z = 0,1. The words of that circuit, built with β = 5 and γ = 7; its columns are the labels 0,1 and z.
+abbrev pub single : ℕ → List ℕ
+single row = 1 ∷ 0 ∷ 20 ∷ 0 ∷ 20 ∷ 0 ∷ 20 ∷ 1 ∷ 22 ∷ 0 ∷ 22 ∷ 0 ∷ 22 ∷ 0 ∷ 22 ∷ 0 ∷ 22 ∷ 1 ∷ 23 ∷ 1 ∷ 1 ∷ 0 ∷ 1 ∷ 0 ∷ row ∷ []
+
+pub z-single : take 4 (buildOf (single 1) [] (3 ∷ 4 ∷ []) (5 ∷ 7 ∷ []) (four 9 9 9 9) (replicate 200 9) .columns) ≡ four 0 1 0 1
+unfolding everything
+z-single = refl
+
+-- ● n=5, D=5: constraints cut 4,1, z cuts 3,2.
+abbrev pub fiveCopied : Circuit
+fiveCopied =
+    plainCircuit 1 (some 5) 5 []
+    ((cell 0 1 ∷ []) ∷ (cell 1 1 ∷ []) ∷ (cell 2 1 ∷ []) ∷ (cell 3 1 ∷ []) ∷ (cell 4 1 ∷ []) ∷ [])
+
+pub five-constraints : constraintCut fiveCopied ≡ four 0 1 2 3 ∷ (4 ∷ []) ∷ []
+unfolding everything
+five-constraints = refl
+
+pub five-z : zCut fiveCopied ≡ (0 ∷ 1 ∷ 2 ∷ []) ∷ (3 ∷ 4 ∷ []) ∷ []
+unfolding everything
+five-z = refl
+
+-- with n = 0 there is no z and no cut, and the cuts are alike
+pub none-copied : CutsAlike (plainCircuit 1 none 1 (Expr.constant 0 ∷ []) [])
+unfolding everything
+none-copied = refl
+
+-- ---- the examples that run beside the Rust, where a few words show them
+
+-- k=10 passes, 11 gives 2.
+pub k-10 : goodK 10 ≡ true
+k-10 = refl
+
+pub k-11 : firstNo circuitQuestions (11 ∷ replicate 19 0) ≡ 2
+unfolding everything
+k-11 = refl
+
+-- Row 2^k − 1 passes, row 0 gives 11.
+pub row-last : firstNo circuitQuestions (single 1) ≡ 0
+unfolding everything
+row-last = refl
+
+pub row-0 : firstNo circuitQuestions (single 0) ≡ 11
+unfolding everything
+row-0 = refl
+
+-- Value p − 1 passes, p gives 13.
+pub value-last : checkBuild (single 1) [] (3 ∷ (P - 1) ∷ []) (5 ∷ 7 ∷ []) (four 9 9 9 9) (replicate 200 9) ≡ 0
+unfolding everything
+value-last = refl
+
+pub value-p : checkBuild (single 1) [] (3 ∷ P ∷ []) (5 ∷ 7 ∷ []) (four 9 9 9 9) (replicate 200 9) ≡ 13
+unfolding everything
+value-p = refl
+
+-- With word 1 at 0, degree 1024 passes, 1025 gives 10.
+pub tower : ℕ → Expr
+tower zero = Expr.poly 0 (pos 0)
+tower (suc n) = Expr.product (tower n) (Expr.poly 0 (pos 0))
+
+pub degree-1024 : q10 (plainCircuit 1 none 1 (tower 1023 ∷ []) []) ≡ true
+unfolding everything tower
+degree-1024 = refl
+
+pub degree-1025 : q10 (plainCircuit 1 none 1 (tower 1024 ∷ []) []) ≡ false
+unfolding everything tower
+degree-1025 = refl

@@ -1,0 +1,77 @@
+-- Demand 3's premises hold of the bench circuit words-5 (a constraint, a lookup and a cycle), so its conclusions do. Assumes nothing.
+use mathlib.Core.Path.{_≡_, refl, sym, ap, _∙_}
+use mathlib.Core.Logic.{_≢_}
+use mathlib.Core.List.{[], _∷_}
+use Prim.Native.Nat.{ℕ, zero, suc, _<_}
+use native.Mathlib.Nat.{suc-ne-zero}
+use native.Mathlib.Omega.{arith}
+use lib.ListN.{replicate}
+use Rattle.field.specs.Field.{𝔾, el, val, el-val, el-zero, val-el, P-pos}
+use Rattle.prover.specs.Log.{Log}
+use Rattle.calls.specs.Build.{logOf, checkBuild, buildOf}
+use Rattle.calls.specs.Meaning.{Premises, cellValue}
+use Rattle.calls.specs.Demand.{Succeeds}
+use Rattle.examples.specs.Open.{everything}
+use Rattle.examples.specs.Small.{words-5}
+use Rattle.completeness.specs.Three.{demand-three}
+
+same-val : (x y : 𝔾 .F) → val x ≡ val y → x ≡ y
+same-val x y e = sym (el-val x) ∙ ap el e ∙ el-val y
+
+val-zero : val (𝔾 .zero) ≡ 0
+val-zero = ap val (sym el-zero) ∙ val-el 0 P-pos
+
+is-zero : (x : 𝔾 .F) → val x ≡ 0 → x ≡ 𝔾 .zero
+is-zero x e = same-val x (𝔾 .zero) (e ∙ sym val-zero)
+
+not-zero : (x : 𝔾 .F) (n : ℕ) → val x ≡ suc n → x ≢ 𝔾 .zero
+not-zero x n e z = suc-ne-zero n (sym e ∙ ap val z ∙ val-zero)
+
+one : (Q : ℕ → Type 0) → Q 0 → (i : ℕ) → i < 1 → Q i
+one Q q zero l = q
+one Q q (suc i) l = absurd (bad l)
+  where
+    bad : suc i < 1 → ⊥
+    bad l = omega arith
+
+two : (Q : ℕ → Type 0) → Q 0 → Q 1 → (i : ℕ) → i < 2 → Q i
+two Q q r zero l = q
+two Q q r (suc zero) l = r
+two Q q r (suc (suc i)) l = absurd (bad l)
+  where
+    bad : suc (suc i) < 2 → ⊥
+    bad l = omega arith
+
+abbrev log : Log 𝔾
+log = logOf words-5 (6 ∷ []) (0 ∷ 6 ∷ []) (5 ∷ 7 ∷ [])
+
+pub premises : Premises 𝔾 log
+unfolding everything cellValue
+premises =
+    record {
+      zero-constraints = one _ (two _ (is-zero _ refl) (is-zero _ refl));
+      equal-cells = one _ (two _ (two _ refl (same-val _ _ refl)) (two _ (same-val _ _ refl) refl));
+      input-denominators = one _ (two _ (not-zero _ 6 refl) (not-zero _ 7 refl));
+      table-denominators = one _ (two _ (not-zero _ 6 refl) (not-zero _ 7 refl));
+      factor-denominators = two _ (two _ (λ l. absurd (none l)) (λ l. not-zero _ 27 refl)) (two _ (λ l. absurd (none l)) (λ l. not-zero _ 17 refl));
+      cuts-alike = refl;
+    }
+  where
+    none : 0 < 0 → ⊥
+    none l = omega arith
+
+-- questions 1 to 14 are yes, and 15 is not given
+asked : checkBuild words-5 (6 ∷ []) (0 ∷ 6 ∷ []) (5 ∷ 7 ∷ []) (replicate 17 9) (replicate 429 9) ≡ 0
+unfolding everything
+asked = refl
+
+answered : buildOf words-5 (6 ∷ []) (0 ∷ 6 ∷ []) (5 ∷ 7 ∷ []) (replicate 17 9) (replicate 429 9) .answer .number ≢ 15
+unfolding everything
+answered e = absurd (bad e)
+  where
+    bad : _≡_ {A = ℕ} 0 15 → ⊥
+    bad e = omega arith
+
+-- so for every α and y the row sum is 0, by demand 3
+pub succeeds : Succeeds words-5 (6 ∷ []) (0 ∷ 6 ∷ []) (5 ∷ 7 ∷ []) (replicate 17 9) (replicate 429 9)
+succeeds = demand-three words-5 (6 ∷ []) (0 ∷ 6 ∷ []) (5 ∷ 7 ∷ []) (replicate 17 9) (replicate 429 9) asked .otherwise premises answered
