@@ -1,19 +1,20 @@
 -- When the lookup, start and part constraints are zero: the claims of Composed, proved over any field and any columns.
-use mathlib.Core.Path.{_≡_, refl, sym, ap, _∙_, subst}
+use mathlib.Core.Path.{_≡_, refl, sym, ap, _∙_}
 use mathlib.Core.Logic.{_≢_, _↔_}
 use mathlib.Core.Bool.{Bool, true, false, cond}
 use mathlib.Core.List.{List, [], _∷_, map}
 use Prim.Native.Nat.{ℕ, suc, _+_, _^_, _<_}
 use native.Mathlib.Nat.{two-pow-succ, one-le-pow, mod-eq-of-lt}
 use native.Mathlib.Omega.{arith}
-use lib.ListN.{length, getD}
-use lib.Dec.{T, ltb, eqb, eqb→eq, lit<}
+use lib.ListN.{getD}
+use lib.Dec.{ltb, eqb, lit<}
 use lib.IntN.{pos}
+use borrow.Author.Tests.{ne-eqb}
 use Rattle.field.specs.Algebra.{Field, zero-add, mul-assoc, one-mul, zero-mul, mul-one, add-comm}
 use Rattle.field.specs.Algebra as Algebra
 use Rattle.field.specs.Solve.{var, nought, _:+_, _:*_, minus, solve}
 use Rattle.bh.specs.Rows.{rotated, iter, nextRow, rowAt, modZ, lagrangeRow}
-use Rattle.expression.specs.Expr.{Expr, evaluate, distributePowers, productFrom, productOf}
+use Rattle.expression.specs.Expr.{Expr, evaluate, productFrom, productOf}
 use Rattle.expression.specs.Value.{Environment, polyOf, valueOps, valueAt}
 use Rattle.backend.specs.Circuit.{Circuit, zNumber}
 use Rattle.backend.specs.Constraints.{lookupConstraint}
@@ -27,13 +28,6 @@ lagrange-1 ℕ.zero l = absurd (omega arith)
 lagrange-1 (suc n) l =
     let h : 1 < 2 ^ suc n = omega (arith, two-pow-succ n, one-le-pow n 2 (lit< tt)) in
     ap (rowAt (suc n)) (mod-eq-of-lt h)
-
-test-1 : (b : ℕ) → b ≢ 1 → eqb b 1 ≡ false
-test-1 b n = go (eqb b 1) refl
-  where
-    go : (t : Bool) → eqb b 1 ≡ t → t ≡ false
-    go true e = absurd (n (eqb→eq b 1 (subst T (sym e) tt)))
-    go false e = refl
 
 module _ (𝓕 : Field) where
   open Field 𝓕 using (F, zero, one, add, mul, neg)
@@ -115,5 +109,5 @@ module _ (𝓕 : Field) where
           elsewhere =
               λ h l b n.
               let v : F = add (polyOf 𝓕 (s .polys) (zNumber c 0) b) (neg one) in
-              value-start h l b ∙ ap (λ (t : Bool). mul (cond t one zero) v) (test-1 b n) ∙ zero-mul 𝓕 v;
+              value-start h l b ∙ ap (λ (t : Bool). mul (cond t one zero) v) (ne-eqb b 1 n) ∙ zero-mul 𝓕 v;
         }

@@ -1,32 +1,25 @@
 -- First facts of the definitions, proved: words enter 𝔾 as sums of ones; a refusal but 15 writes nothing; what 15 and success write.
-use mathlib.Core.Path.{_≡_, refl, sym, ap, _∙_}
-use mathlib.Core.Bool.{Bool, true, false, cond}
-use mathlib.Core.List.{List, [], _∷_, _++_, map}
+use mathlib.Core.Path.{_≡_, sym, ap, _∙_}
+use mathlib.Core.Bool.{true, false}
+use mathlib.Core.List.{List, [], _∷_, _++_}
 use Prim.Native.Nat.{ℕ, suc, _+_, _*_, _%_}
 use native.Mathlib.Nat.{zero-mul, suc-mul}
 use native.Mathlib.Omega.{arith}
+use native.Mathlib.Numerals.{add-one}
 use lib.ListN.{length, take, drop, length-append, length-map}
 use lib.Seq.{take-at, drop-at}
-use Rattle.util.specs.Lists.{column, split, concat}
-use Rattle.expression.specs.FlatFacts.{flat-length}
-use Rattle.preprocessor.specs.Compose.{numZ, compose, composedWords, composedNodes}
-use Rattle.prover.specs.Log.{Log}
-use native.Mathlib.Numerals.{add-one}
-use lib.Dec.{eqb, eqb·suc-zero}
+use lib.Dec.{eqb·suc-zero}
 use Rattle.field.specs.Prime.{P}
 use Rattle.field.specs.ModP as ModP
 use Rattle.field.specs.Field.{𝔾, el, val, P-pos, el-zero, el-one, el-add}
+use Rattle.util.specs.Lists.{concat}
+use Rattle.util.proofs.Lists.{split-length, pairs-length}
+use Rattle.util.proofs.Columns.{column-length}
+use Rattle.expression.specs.FlatFacts.{flat-length}
 use Rattle.backend.specs.Circuit.{Circuit, circuitOf, rowsOf, numInstance, numCopied, numLookups}
-use Rattle.prover.specs.Columns.{
-  allCovered,
-  instancePolys,
-  permutationPolys,
-  compressedPolys,
-  mPolys,
-  hPolys,
-  zPolys,
-  writtenPolys,
-}
+use Rattle.preprocessor.specs.Compose.{numZ, compose, composedWords, composedNodes}
+use Rattle.prover.specs.Log.{Log}
+use Rattle.prover.specs.Columns.{allCovered, instancePolys, permutationPolys, compressedPolys, mPolys, hPolys, zPolys, writtenPolys}
 use Rattle.calls.specs.Build.{Output, logOf, wordsOf, columnWords, checkBuild, refusal, made, zeroed, buildLog, buildOf}
 use Rattle.calls.specs.Meaning.{Embeds}
 use Rattle.calls.specs.Demand.{Written}
@@ -45,21 +38,6 @@ embeds =
     }
 
 -- ---- lengths
-
-column-length : {A : Type 0} (f : ℕ → A) (n : ℕ) → length (column f n) ≡ n
-unfolding column
-column-length f ℕ.zero = refl
-column-length f (suc n) = simp length-append (omega (arith, column-length f n))
-
-split-length : {A : Type 0} (ns : List ℕ) (xs : List A) → length (split ns xs) ≡ length ns
-unfolding split
-split-length [] xs = refl
-split-length (n ∷ ns) xs = ap suc (split-length ns (drop n xs))
-
-pairs-length : {A B : Type 0} (f h : A → B) (ls : List A) → length (concat (map (λ l. f l ∷ h l ∷ []) ls)) ≡ length ls * 2
-unfolding concat
-pairs-length f h [] = refl
-pairs-length f h (l ∷ ls) = omega (arith, pairs-length f h ls)
 
 words-length : (rows : ℕ) (ps : List (ℕ → 𝔾 .F)) → length (wordsOf rows ps) ≡ length ps * rows
 unfolding wordsOf concat

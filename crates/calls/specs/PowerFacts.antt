@@ -1,30 +1,21 @@
 -- The value of a list by powers of its base, and of the composed expression: proved over any field and any columns.
 use mathlib.Core.Path.{_≡_, refl, sym, ap, ap₂, _∙_, fun-ext}
-use mathlib.Core.List.{List, [], _∷_, _++_, map, append-assoc}
+use mathlib.Core.List.{List, [], _∷_, _++_, map, map-append}
 use Prim.Native.Nat.{ℕ, suc, _+_}
 use lib.ListN.{length, getD}
-use Rattle.field.specs.Algebra.{
-  Field,
-  add-assoc,
-  add-comm,
-  add-zero,
-  zero-add,
-  mul-assoc,
-  mul-add,
-  mul-zero,
-  one-mul,
-}
+use Rattle.field.specs.Algebra.{Field, add-assoc, add-comm, add-zero, mul-assoc, mul-add, mul-zero, one-mul}
 use Rattle.bh.specs.Sums.{upTo}
 use Rattle.bh.specs.Rows.{rotated, iter}
 use Rattle.util.specs.Lists.{column}
-use Rattle.expression.specs.Expr.{Expr, Exprs, Ops, running, evaluate, values, exprsOf, distributePowers, at}
+use Rattle.util.proofs.Columns.{map-column}
+use Rattle.expression.specs.Expr.{Expr, running, evaluate, values, exprsOf, distributePowers, at}
 use Rattle.expression.specs.Value.{Environment, valueOps, valueAt}
 use Rattle.backend.specs.Circuit.{Circuit, numLookups, hNumber}
 use Rattle.backend.specs.Constraints.{alphaOf}
 use Rattle.preprocessor.specs.Compose.{composedConstraints, zeroCheck, compose}
 use Rattle.prover.specs.Columns.{pow, powerSum}
 use Rattle.calls.specs.Meaning.{Embeds}
-use Rattle.calls.specs.Composed.{PowersValue, ComposeValue, zeroCheckIn, column-at}
+use Rattle.calls.specs.Composed.{PowersValue, ComposeValue, zeroCheckIn}
 
 module _ (𝓕 : Field) where
   open Field 𝓕 using (F, zero, one, add, mul)
@@ -97,14 +88,6 @@ module _ (𝓕 : Field) where
           ∙ add-zero 𝓕 (valueAt 𝓕 s e b))
       powers-value h (e ∷ (f ∷ es)) base b = powers-from es base b e f
 
-      map-column : (f : Expr → F) (p : ℕ → Expr) (n : ℕ) (r : List Expr)
-          → map f (column p n ++ r) ≡ column (λ i. f (p i)) n ++ map f r
-      unfolding column
-      map-column f p ℕ.zero r = refl
-      map-column f p (suc n) r =
-          ap (map f) (append-assoc (column p n) (p n ∷ []) r) ∙ map-column f p n (p n ∷ r)
-          ∙ sym (append-assoc (column (λ i. f (p i)) n) (f (p n) ∷ []) (map f r))
-
       zero-check-value : Embeds 𝓕 (s .el) → (b : ℕ) → valueAt 𝓕 s (zeroCheck c) b ≡ zeroCheckIn 𝓕 s c b
       unfolding zeroCheck evaluate valueAt valueOps
       zero-check-value h b =
@@ -116,5 +99,6 @@ module _ (𝓕 : Field) where
           let hs : ℕ → Expr = λ j. at (hNumber c j) in
           powers-value h (column hs (numLookups c) ++ (zeroCheck c ∷ [])) (alphaOf c) b
           ∙ ap (powerSum 𝓕 (valueAt 𝓕 s (alphaOf c) b))
-          (map-column (λ e. valueAt 𝓕 s e b) hs (numLookups c) (zeroCheck c ∷ [])
+          (map-append (λ e. valueAt 𝓕 s e b) (column hs (numLookups c)) (zeroCheck c ∷ [])
+          ∙ ap (λ (l : List F). l ++ (valueAt 𝓕 s (zeroCheck c) b ∷ [])) (map-column (λ e. valueAt 𝓕 s e b) hs (numLookups c))
           ∙ ap (λ (v : F). column (λ j. valueAt 𝓕 s (hs j) b) (numLookups c) ++ (v ∷ [])) (zero-check-value h b))

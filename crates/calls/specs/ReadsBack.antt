@@ -1,108 +1,22 @@
 -- The node words that building writes are read as the composed tree: the claim ReadsBack of Composed, proved.
-use mathlib.Core.Path.{_≡_, refl, sym, ap, _∙_, subst}
+use mathlib.Core.Path.{_≡_, refl, ap, _∙_}
 use mathlib.Core.Bool.{Bool, true, false, cond, not}
 use mathlib.Core.List.{List, [], _∷_, _++_, map}
 use Prim.Native.Nat.{ℕ, suc, _+_, _-_, _*_, _≤_, _<_}
-use native.Mathlib.Nat.{le-refl}
 use native.Mathlib.Omega.{arith}
 use lib.Dec.{T, eqb, ltb, ltb→lt, nltb→le}
-use lib.IntN.{ℤ, pos, negsuc}
-use lib.ListN.{length, getD, take, drop}
-use Rattle.util.specs.Lists.{column, split}
+use lib.IntN.{pos, negsuc}
+use lib.ListN.{getD}
+use Rattle.util.specs.Lists.{column, All}
+use Rattle.util.proofs.All.{all-getD, all-join, all-column, all-split, all-mapped, all-map}
 use Rattle.expression.specs.Expr.{Expr, Exprs, exprsOf, distributePowers, productFrom, productOf, at}
-use Rattle.expression.specs.Nodes.{
-  signed,
-  kept,
-  Kind,
-  kindOf,
-  noExpr,
-  nodeOf,
-  itemOf,
-  guard,
-  under,
-  exprAt,
-  itemsAt,
-  exprOf,
-  wordOf,
-}
-use Rattle.expression.specs.Flat.{flat, root, body}
+use Rattle.expression.specs.Nodes.{signed, kept, Kind, kindOf, noExpr, nodeOf, itemOf, guard, exprAt, itemsAt, exprOf, wordOf}
+use Rattle.expression.specs.Flat.{flat, root}
 use Rattle.expression.specs.ReadFacts.{Kept, KeptAll, reads}
-use Rattle.backend.specs.Circuit.{
-  Section,
-  Circuit,
-  Pair,
-  circuitOf,
-  bodyOf,
-  entries,
-  pairAt,
-  numLookups,
-  numCopied,
-  hNumber,
-  zNumber,
-}
+use Rattle.backend.specs.Circuit.{Section, Circuit, Pair, circuitOf, bodyOf, entries, pairAt, numLookups, numCopied, hNumber, zNumber}
 use Rattle.backend.specs.Constraints.{betaOf, alphaOf, inputsOf, tablesOf, lookupConstraint, lookupConstraints}
-use Rattle.preprocessor.specs.Compose.{
-  numZ,
-  constraintCut,
-  identityFactor,
-  permutationFactor,
-  nextZ,
-  partConstraint,
-  startConstraint,
-  permutationConstraints,
-  composedConstraints,
-  zeroCheck,
-  compose,
-  composedWords,
-  composedNodes,
-}
+use Rattle.preprocessor.specs.Compose.{numZ, constraintCut, identityFactor, permutationFactor, nextZ, partConstraint, startConstraint, permutationConstraints, composedConstraints, zeroCheck, compose, composedWords, composedNodes}
 use Rattle.calls.specs.Composed.{ReadsBack}
-
--- ---- lists
-
-abbrev Every : {A : Type 0} → (A → Type 0) → List A → Type 0
-Every Q [] = Unit {0}
-Every Q (x ∷ xs) = Q x × Every Q xs
-
-module _ {A : Type 0} (Q : A → Type 0) where
-  every-append : (xs ys : List A) → Every Q xs → Every Q ys → Every Q (xs ++ ys)
-  every-append [] ys a b = b
-  every-append (x ∷ xs) ys a b = (a .0, every-append xs ys (a .1) b)
-
-  every-column : (f : ℕ → A) → ((i : ℕ) → Q (f i)) → (n : ℕ) → Every Q (column f n)
-  unfolding column
-  every-column f h ℕ.zero = tt
-  every-column f h (suc n) = every-append (column f n) (f n ∷ []) (every-column f h n) (h n, tt)
-
-  every-take : (n : ℕ) (xs : List A) → Every Q xs → Every Q (take n xs)
-  every-take ℕ.zero xs a = tt
-  every-take (suc n) [] a = tt
-  every-take (suc n) (x ∷ xs) a = (a .0, every-take n xs (a .1))
-
-  every-drop : (n : ℕ) (xs : List A) → Every Q xs → Every Q (drop n xs)
-  every-drop ℕ.zero xs a = a
-  every-drop (suc n) [] a = tt
-  every-drop (suc n) (x ∷ xs) a = every-drop n xs (a .1)
-
-  every-split : (ns : List ℕ) (xs : List A) → Every Q xs → Every (Every Q) (split ns xs)
-  unfolding split
-  every-split [] xs a = tt
-  every-split (n ∷ ns) xs a = (every-take n xs a, every-split ns (drop n xs) (every-drop n xs a))
-
-  every-get : (xs : List A) (i : ℕ) (d : A) → Q d → Every Q xs → Q (getD xs i d)
-  every-get [] i d q a = q
-  every-get (x ∷ xs) ℕ.zero d q a = a .0
-  every-get (x ∷ xs) (suc i) d q a = every-get xs i d q (a .1)
-
-every-map : {A B : Type 0} (Q : A → Type 0) (R : B → Type 0) (f : A → B) → ((x : A) → Q x → R (f x)) → (xs : List A)
-    → Every Q xs
-    → Every R (map f xs)
-every-map Q R f h [] a = tt
-every-map Q R f h (x ∷ xs) a = (h x (a .0), every-map Q R f h xs (a .1))
-
-every-all : {A B : Type 0} (R : B → Type 0) (f : A → B) → ((x : A) → R (f x)) → (xs : List A) → Every R (map f xs)
-every-all R f h [] = tt
-every-all R f h (x ∷ xs) = (h x, every-all R f h xs)
 
 -- ---- what is read from words is kept
 
@@ -168,23 +82,23 @@ of-kept ws n = expr-kept (suc n) ws n
 
 -- ---- lists of trees
 
-exprs-kept : (e : Expr) (es : List Expr) → Kept e → Every Kept es → KeptAll (exprsOf e es)
+exprs-kept : (e : Expr) (es : List Expr) → Kept e → All Kept es → KeptAll (exprsOf e es)
 unfolding exprsOf
 exprs-kept e [] a b = a
 exprs-kept e (f ∷ es) a b = (a, exprs-kept f es (b .0) (b .1))
 
-powers-kept : (es : List Expr) (base : Expr) → Every Kept es → Kept base → Kept (distributePowers es base)
+powers-kept : (es : List Expr) (base : Expr) → All Kept es → Kept base → Kept (distributePowers es base)
 unfolding distributePowers
 powers-kept [] base a b = tt
 powers-kept (e ∷ []) base a b = a .0
 powers-kept (e ∷ (f ∷ es)) base a b = (exprs-kept e (f ∷ es) (a .0) (a .1), b)
 
-from-kept : (e : Expr) (es : List Expr) → Kept e → Every Kept es → Kept (productFrom e es)
+from-kept : (e : Expr) (es : List Expr) → Kept e → All Kept es → Kept (productFrom e es)
 unfolding productFrom
 from-kept e [] a b = a
 from-kept e (f ∷ es) a b = from-kept (Expr.product e f) es (a, b .0) (b .1)
 
-product-kept : (es : List Expr) → Every Kept es → Kept (productOf es)
+product-kept : (es : List Expr) → All Kept es → Kept (productOf es)
 unfolding productOf
 product-kept [] a = tt
 product-kept (e ∷ es) a = from-kept e es (a .0) (a .1)
@@ -194,21 +108,20 @@ PairKept p = Kept (p .input) × Kept (p .table)
 
 -- a circuit whose trees are kept
 record CircuitKept (c : Circuit) : Type 0 where
-  constraints : Every Kept (c .constraints)
-  lookups : Every (Every PairKept) (c .lookups)
+  constraints : All Kept (c .constraints)
+  lookups : All (All PairKept) (c .lookups)
 
 circuit-kept : (ws : List ℕ) → CircuitKept (circuitOf ws)
 unfolding circuitOf
 circuit-kept ws =
     record {
       constraints =
-          every-all Kept (exprOf (bodyOf ws Section.nodes)) (of-kept (bodyOf ws Section.nodes)) (bodyOf ws Section.constraints);
+          all-map Kept (exprOf (bodyOf ws Section.nodes)) (of-kept (bodyOf ws Section.nodes)) (bodyOf ws Section.constraints);
       lookups =
-          every-split PairKept (bodyOf ws Section.widths)
+          all-split PairKept (bodyOf ws Section.widths)
           (column (pairAt (bodyOf ws Section.nodes) (bodyOf ws Section.pairs)) (entries ws Section.pairs))
-          (every-column PairKept (pairAt (bodyOf ws Section.nodes) (bodyOf ws Section.pairs))
-          (λ i. (of-kept (bodyOf ws Section.nodes) _, of-kept (bodyOf ws Section.nodes) _))
-          (entries ws Section.pairs));
+          (all-column PairKept (pairAt (bodyOf ws Section.nodes) (bodyOf ws Section.pairs)) (entries ws Section.pairs)
+          (λ i l. (of-kept (bodyOf ws Section.nodes) _, of-kept (bodyOf ws Section.nodes) _)));
     }
 
 module _ (c : Circuit) (k : CircuitKept c) where
@@ -216,11 +129,11 @@ module _ (c : Circuit) (k : CircuitKept c) where
   unfolding lookupConstraint
   lookup-kept j =
       let l : List Pair = getD (c .lookups) j [] in
-      let h : Every PairKept l = every-get (Every PairKept) (c .lookups) j [] tt (k .lookups) in
+      let h : All PairKept l = all-getD (All PairKept) (c .lookups) j [] tt (k .lookups) in
       let i : Kept (distributePowers (inputsOf l) (betaOf c)) =
-      powers-kept (inputsOf l) (betaOf c) (every-map PairKept Kept (λ (p : Pair). p .input) (λ p q. q .0) l h) tt in
+      powers-kept (inputsOf l) (betaOf c) (all-mapped PairKept Kept (λ (p : Pair). p .input) (λ p q. q .0) l h) tt in
       let t : Kept (distributePowers (tablesOf l) (betaOf c)) =
-      powers-kept (tablesOf l) (betaOf c) (every-map PairKept Kept (λ (p : Pair). p .table) (λ p q. q .1) l h) tt in
+      powers-kept (tablesOf l) (betaOf c) (all-mapped PairKept Kept (λ (p : Pair). p .table) (λ p q. q .1) l h) tt in
       ((((refl, (i, tt)), (t, tt)), (t, tt)), (refl, (i, tt)))
 
   identity-kept : (i : ℕ) → Kept (identityFactor c i)
@@ -243,36 +156,36 @@ module _ (c : Circuit) (k : CircuitKept c) where
   unfolding partConstraint
   part-kept i =
       let part : List ℕ = getD (constraintCut c) i [] in (
-        (refl, product-kept (map (identityFactor c) part) (every-all Kept (identityFactor c) identity-kept part)),
-        (next-kept i, product-kept (map (permutationFactor c) part) (every-all Kept (permutationFactor c) permutation-kept part)),
+        (refl, product-kept (map (identityFactor c) part) (all-map Kept (identityFactor c) identity-kept part)),
+        (next-kept i, product-kept (map (permutationFactor c) part) (all-map Kept (permutationFactor c) permutation-kept part)),
       )
 
   start-kept : Kept (startConstraint c)
   unfolding startConstraint
   start-kept = (refl, (refl, tt))
 
-  permutations-kept : Every Kept (permutationConstraints c)
+  permutations-kept : All Kept (permutationConstraints c)
   unfolding permutationConstraints
   permutations-kept = go (eqb (numCopied c) 0)
     where
-      go : (t : Bool) → Every Kept (cond t [] (startConstraint c ∷ column (partConstraint c) (numZ c)))
+      go : (t : Bool) → All Kept (cond t [] (startConstraint c ∷ column (partConstraint c) (numZ c)))
       go true = tt
-      go false = (start-kept, every-column Kept (partConstraint c) part-kept (numZ c))
+      go false = (start-kept, all-column Kept (partConstraint c) (numZ c) (λ i l. part-kept i))
 
-  composed-kept : Every Kept (composedConstraints c)
+  composed-kept : All Kept (composedConstraints c)
   unfolding composedConstraints lookupConstraints
   composed-kept =
-      every-append Kept (c .constraints) _ (k .constraints)
-      (every-append Kept (lookupConstraints c) (permutationConstraints c)
-      (every-column Kept (lookupConstraint c) lookup-kept (numLookups c))
+      all-join Kept (c .constraints) _ (k .constraints)
+      (all-join Kept (lookupConstraints c) (permutationConstraints c)
+      (all-column Kept (lookupConstraint c) (numLookups c) (λ j l. lookup-kept j))
       permutations-kept)
 
   compose-kept : Kept (compose c)
   unfolding compose zeroCheck
   compose-kept =
       powers-kept _ (alphaOf c)
-      (every-append Kept (column (λ j. at (hNumber c j)) (numLookups c)) (zeroCheck c ∷ [])
-      (every-column Kept (λ j. at (hNumber c j)) (λ j. refl) (numLookups c))
+      (all-join Kept (column (λ j. at (hNumber c j)) (numLookups c)) (zeroCheck c ∷ [])
+      (all-column Kept (λ j. at (hNumber c j)) (numLookups c) (λ j l. refl))
       ((powers-kept (composedConstraints c) (alphaOf c) composed-kept tt, tt), tt))
       tt
 

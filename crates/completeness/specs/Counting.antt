@@ -1,116 +1,26 @@
 -- The counts of the definitions are those of the crate identities; so question 15's words, and the sums of m and h. Assumes nothing.
-use mathlib.Core.Path.{_≡_, refl, sym, ap, ap₂, _∙_, subst}
+use mathlib.Core.Path.{_≡_, refl, sym, ap, ap₂, _∙_}
 use mathlib.Core.Logic.{_≢_, _↔_, ite}
 use mathlib.Core.Bool.{Bool, true, false, cond, decide, _&&_}
-use mathlib.Core.List.{List, [], _∷_, _++_}
+use mathlib.Core.List.{[], _∷_, _++_}
 use mathlib.Core.Option.{Option, none, some, Option·none-ne-some}
 use Prim.Native.Nat.{ℕ, zero, suc, _+_, _<_}
-use native.Mathlib.Decide.{ℕ-discrete}
-use native.Mathlib.Nat.{not-suc-le-zero}
-use native.Mathlib.Omega.{arith}
-use lib.ListN.{length, getD, length-append}
-use lib.Dec.{T, eqb, eqb→eq, eqb-refl}
 use Rattle.field.specs.Algebra.{Field}
 use Rattle.bh.specs.Sums.{upTo}
-use Rattle.util.specs.Lists.{column, below, allOf, those, countOf, lastWhere, isSome, isAt}
-use Rattle.prover.specs.Lookup.{sumCounts, same, lastEqual, multiplicity, covered, hAt, sumRows, Turns}
-use Rattle.prover.specs.Log.{Log}
-use Rattle.prover.specs.Columns.{inputAt, tableAt, countAt, mAt, lookupHAt, allCovered}
-use Rattle.backend.specs.Circuit.{rowsOf}
-use Rattle.calls.specs.Meaning.{Embeds, EachLookup, NoCounts}
-use Rattle.identities.specs.Total.{upTo-cong}
+use Rattle.util.specs.Lists.{column, below, allOf, lastWhere, isSome, isAt}
+use Rattle.util.proofs.Tests.{false-true, cond-ite, cond-eqb, all-each, all-not, all-append}
+use Rattle.identities.specs.Total.{upTo-cong, count-upTo}
 use Rattle.identities.specs.Counts as Counts
 use Rattle.identities.specs.Counts.{lastRow, hit, both, given, counts, allFound, counted, AllStand, count-turns, turns-stand, counted-stand, stand-counted, count-all}
 use Rattle.identities.specs.Lookup as Lookup
 use Rattle.identities.specs.Lookup.{num, h-sum}
-
-pub false-true : {C : Type 0} → _≡_ {A = Bool} false true → C
-false-true e = absurd (subst T (sym e) tt)
-
--- both ways to choose
-pub cond-ite : {P C : Type 0} (d : Dec P) (x y : C) → cond (decide d) x y ≡ ite d x y
-unfolding decide
-cond-ite (yes p) x y = refl
-cond-ite (no p) x y = refl
-
-pub eqb-true : (m n : ℕ) → m ≡ n → eqb m n ≡ true
-eqb-true m n e = ap (eqb m) (sym e) ∙ go (eqb m m) (eqb-refl m)
-  where
-    go : (t : Bool) → T t → t ≡ true
-    go true h = refl
-    go false h = absurd h
-
-pub eqb-false : (m n : ℕ) → m ≢ n → eqb m n ≡ false
-eqb-false m n h = go (eqb m n) refl
-  where
-    go : (t : Bool) → eqb m n ≡ t → t ≡ false
-    go true e = absurd (h (eqb→eq m n (subst T (sym e) tt)))
-    go false e = refl
-
-pub cond-eqb : {C : Type 0} (m n : ℕ) (x y : C) → cond (eqb m n) x y ≡ ite (ℕ-discrete m n) x y
-cond-eqb {C} m n x y = go (ℕ-discrete m n)
-  where
-    go : (d : Dec (m ≡ n)) → cond (eqb m n) x y ≡ ite d x y
-    go (yes e) = ap (λ (t : Bool). cond t x y) (eqb-true m n e)
-    go (no e) = ap (λ (t : Bool). cond t x y) (eqb-false m n e)
-
-those-append : {A : Type 0} (p : A → Bool) (xs ys : List A) → those p (xs ++ ys) ≡ those p xs ++ those p ys
-unfolding those
-those-append p [] ys = refl
-those-append p (x ∷ xs) ys = go (p x) (those-append p xs ys)
-  where
-    go : (t : Bool) → those p (xs ++ ys) ≡ those p xs ++ those p ys
-        → cond t (x ∷ those p (xs ++ ys)) (those p (xs ++ ys)) ≡ cond t (x ∷ those p xs) (those p xs) ++ those p ys
-    go true ih = ap (λ (l : List _). x ∷ l) ih
-    go false ih = ih
-
-pub count-upTo : (p : ℕ → Bool) (n : ℕ) → countOf p (below n) ≡ upTo _+_ 0 (λ b. cond (p b) 1 0) n
-unfolding upTo column those
-count-upTo p zero = refl
-count-upTo p (suc n) =
-    ap length (those-append p (below n) (n ∷ [])) ∙ length-append (those p (below n)) (those p (n ∷ []))
-    ∙ ap₂ _+_ (count-upTo p n) (go (p n))
-  where
-    go : (t : Bool) → length (cond t (n ∷ []) []) ≡ cond t 1 0
-    go true = refl
-    go false = refl
-
-all-append : {A : Type 0} (p : A → Bool) (xs ys : List A) → allOf p (xs ++ ys) ≡ allOf p xs && allOf p ys
-unfolding allOf
-all-append p [] ys = refl
-all-append p (x ∷ xs) ys = go (p x) (all-append p xs ys)
-  where
-    go : (t : Bool) → allOf p (xs ++ ys) ≡ (allOf p xs && allOf p ys) → (t && allOf p (xs ++ ys)) ≡ ((t && allOf p xs) && allOf p ys)
-    go true ih = ih
-    go false ih = refl
+use Rattle.backend.specs.Circuit.{rowsOf}
+use Rattle.prover.specs.Lookup.{sumCounts, same, lastEqual, multiplicity, covered, hAt, sumRows, Turns}
+use Rattle.prover.specs.Log.{Log}
+use Rattle.prover.specs.Columns.{inputAt, tableAt, countAt, mAt, lookupHAt, allCovered}
+use Rattle.calls.specs.Meaning.{Embeds, EachLookup, NoCounts}
 
 -- ---- what all of a list hold
-pub all-each : {A : Type 0} (p : A → Bool) (d : A) (xs : List A) → allOf p xs ≡ true → (i : ℕ) → i < length xs → p (getD xs i d) ≡ true
-unfolding allOf
-all-each p d [] e i l = absurd (not-suc-le-zero l)
-all-each p d (x ∷ xs) e zero l = go (p x) e
-  where
-    go : (t : Bool) → (t && allOf p xs) ≡ true → t ≡ true
-    go true e = refl
-    go false e = e
-all-each p d (x ∷ xs) e (suc i) l = all-each p d xs (go (p x) e) i (omega arith)
-  where
-    go : (t : Bool) → (t && allOf p xs) ≡ true → allOf p xs ≡ true
-    go true e = e
-    go false e = false-true e
-
-pub all-not : {A : Type 0} (p : A → Bool) (d : A) (xs : List A) → allOf p xs ≡ false
-    → (i : ℕ) × (i < length xs) × (p (getD xs i d) ≡ false)
-unfolding allOf
-all-not p d [] e = false-true (sym e)
-all-not p d (x ∷ xs) e = go (p x) refl e (all-not p d xs)
-  where
-    go : (t : Bool) → p x ≡ t → (t && allOf p xs) ≡ false
-        → (allOf p xs ≡ false → (i : ℕ) × (i < length xs) × (p (getD xs i d) ≡ false))
-        → (i : ℕ) × (i < length (x ∷ xs)) × (p (getD (x ∷ xs) i d) ≡ false)
-    go true q e rec = let r = rec e in (suc (r .0), (let l = r .1 in omega arith), r .2)
-    go false q e rec = (0, omega arith, q)
-
 -- ---- over one lookup
 module _ (𝓕 : Field) where
   open Field 𝓕 using (F, zero as nil, one, add, mul, neg, inv)

@@ -3,14 +3,19 @@ use mathlib.Core.Path.{_≡_, refl, sym, ap, ap₂, _∙_}
 use mathlib.Core.Logic.{_≢_}
 use mathlib.Core.Bool.{Bool, true, false, cond, _&&_, _||_}
 use mathlib.Core.List.{List, [], _∷_, _++_, map}
-use Prim.Native.Nat.{ℕ, zero, suc, _-_, _≤_, _<_}
-use native.Mathlib.Nat.{not-suc-le-zero, suc-ne-zero}
+use Prim.Native.Nat.{ℕ, suc, _-_, _≤_, _<_}
 use native.Mathlib.Omega.{arith}
 use lib.ListN.{length, getD}
-use lib.Dec.{eqb, ltb, leb, eqb→eq, ltb→lt, leb→le}
-use Rattle.bh.proofs.Perm.{Out, Nodup}
+use lib.Dec.{eqb, ltb, leb}
+use borrow.Author.Tests.{eq-eqb, eqb-true, ltb-true, leb-true}
 use Rattle.field.specs.Algebra.{Field}
-use Rattle.util.specs.Lists.{below, allOf, anyOf, those, countOf, concat}
+use Rattle.bh.proofs.Perm.{Nodup}
+use Rattle.util.specs.Lists.{below, allOf, anyOf, those, countOf, concat, All}
+use Rattle.util.proofs.Tests.{false-true, all-each, and-left, and-right, any-at, any-concat, count-cons, count-none}
+use Rattle.util.proofs.All.{all-from, all-weaken, all-mapped, all-both}
+use Rattle.util.proofs.Places.{Among, get-index, among-below, among-those}
+use Rattle.identities.specs.Cycles as Cycles
+use Rattle.identities.specs.Copies.{atCell}
 use Rattle.expression.specs.Value.{polyOf}
 use Rattle.backend.specs.Circuit.{Circuit, Cell, sameCell, rowsOf, numPoly, copied, numCopied}
 use Rattle.backend.specs.Questions.{q11, goodCell}
@@ -18,73 +23,7 @@ use Rattle.preprocessor.specs.Permutation.{firstLabel}
 use Rattle.prover.specs.Log.{Log}
 use Rattle.prover.specs.Columns.{givenPolys, copiedAt}
 use Rattle.calls.specs.Meaning.{cellValue, Premises}
-use Rattle.identities.specs.Lists.{All}
-use Rattle.identities.specs.Cycles as Cycles
-use Rattle.identities.specs.Copies.{atCell}
-use Rattle.completeness.specs.Counting.{false-true, eqb-true, all-each}
-use Rattle.completeness.specs.Places.{all-from, all-weaken, all-mapped}
-use Rattle.completeness.specs.Passed.{and-first, and-second, is-true}
-use Rattle.completeness.specs.Cells.{Among, by-test, get-index, among-below, among-those, Placed, number-div, number-mod, number-in, same-true}
-
--- ---- any of a list
-any-at : {A : Type 0} (p : A → Bool) (d : A) (xs : List A) (i : ℕ) → i < length xs → p (getD xs i d) ≡ true → anyOf p xs ≡ true
-unfolding anyOf
-any-at p d [] i l e = absurd (not-suc-le-zero l)
-any-at p d (x ∷ xs) zero l e = ap (λ (t : Bool). t || anyOf p xs) e
-any-at p d (x ∷ xs) (suc i) l e = go (p x) (any-at p d xs i (omega arith) e)
-  where
-    go : (t : Bool) → anyOf p xs ≡ true → (t || anyOf p xs) ≡ true
-    go true r = refl
-    go false r = r
-
-any-left : {A : Type 0} (p : A → Bool) (xs ys : List A) → anyOf p xs ≡ true → anyOf p (xs ++ ys) ≡ true
-unfolding anyOf
-any-left p [] ys e = false-true e
-any-left p (x ∷ xs) ys e = go (p x) e (any-left p xs ys)
-  where
-    go : (t : Bool) → (t || anyOf p xs) ≡ true → (anyOf p xs ≡ true → anyOf p (xs ++ ys) ≡ true) → (t || anyOf p (xs ++ ys)) ≡ true
-    go true e rec = refl
-    go false e rec = rec e
-
-any-right : {A : Type 0} (p : A → Bool) (xs ys : List A) → anyOf p ys ≡ true → anyOf p (xs ++ ys) ≡ true
-unfolding anyOf
-any-right p [] ys e = e
-any-right p (x ∷ xs) ys e = go (p x) (any-right p xs ys e)
-  where
-    go : (t : Bool) → anyOf p (xs ++ ys) ≡ true → (t || anyOf p (xs ++ ys)) ≡ true
-    go true r = refl
-    go false r = r
-
-any-concat : {A : Type 0} (p : A → Bool) (xss : List (List A)) (j : ℕ) → j < length xss → anyOf p (getD xss j []) ≡ true → anyOf p (concat xss) ≡ true
-unfolding concat
-any-concat p [] j l e = absurd (not-suc-le-zero l)
-any-concat p (xs ∷ xss) zero l e = any-left p xs (concat xss) e
-any-concat p (xs ∷ xss) (suc j) l e = any-right p xs (concat xss) (any-concat p xss j (omega arith) e)
-
--- ---- counts
-count-cons : {A : Type 0} (p : A → Bool) (x : A) (xs : List A) → countOf p xs ≤ countOf p (x ∷ xs)
-unfolding those
-count-cons p x xs = go (p x)
-  where
-    go : (t : Bool) → countOf p xs ≤ length (cond t (x ∷ those p xs) (those p xs))
-    go true = omega arith
-    go false = omega arith
-
-count-none : {A : Type 0} (p : A → Bool) (xs : List A) → countOf p xs ≡ 0 → All (λ x. p x ≡ false) xs
-unfolding those
-count-none p [] e = tt
-count-none p (x ∷ xs) e = by-test (p x) (λ t. absurd (bad t)) (λ t. (t, count-none p xs (ap (λ (b : Bool). length (cond b (x ∷ those p xs) (those p xs))) (sym t) ∙ e)))
-  where
-    bad : p x ≡ true → ⊥
-    bad t = suc-ne-zero (length (those p xs)) (ap (λ (b : Bool). length (cond b (x ∷ those p xs) (those p xs))) (sym t) ∙ e)
-
-each-of : (Q : ℕ → Type 0) (xs : List ℕ) → All Q xs → Cycles.Each Q xs
-each-of Q [] a = tt
-each-of Q (x ∷ xs) a = (a .0, each-of Q xs (a .1))
-
-out-of : (q : ℕ) (xs : List ℕ) → All (λ x. q ≢ x) xs → Out q xs
-out-of q [] a = tt
-out-of q (x ∷ xs) a = (a .0, out-of q xs (a .1))
+use Rattle.completeness.specs.Cells.{out-all, Placed, number-div, number-mod, number-in, same-true}
 
 abbrev pub nowhere : Cell
 nowhere = record { polynomial = 0; row = 0 }
@@ -106,13 +45,13 @@ module _ (c : Circuit) where
       let t2 : Bool = leb 1 (x .row) in
       let t3 : Bool = leb (x .row) (rowsOf c - 1) in
       let t4 : Bool = eqb (countOf (sameCell x) cycle) 1 in
-      let a = and-first (t1 && (t2 && t3)) t4 e in
-      let b = and-second t1 (t2 && t3) a in
+      let a = and-left (t1 && (t2 && t3)) t4 e in
+      let b = and-right t1 (t2 && t3) a in
       record {
-        polynomial-in = ltb→lt (x .polynomial) (numPoly c) (is-true t1 (and-first t1 (t2 && t3) a));
-        row-pos = leb→le 1 (x .row) (is-true t2 (and-first t2 t3 b));
-        row-le = leb→le (x .row) (rowsOf c - 1) (is-true t3 (and-second t2 t3 b));
-        once = let q = eqb→eq (countOf (sameCell x) cycle) 1 (is-true t4 (and-second (t1 && (t2 && t3)) t4 e)) in omega arith;
+        polynomial-in = ltb-true (x .polynomial) (numPoly c) (and-left t1 (t2 && t3) a);
+        row-pos = leb-true 1 (x .row) (and-left t2 t3 b);
+        row-le = leb-true (x .row) (rowsOf c - 1) (and-right t2 t3 b);
+        once = let q = eqb-true (countOf (sameCell x) cycle) 1 (and-right (t1 && (t2 && t3)) t4 e) in omega arith;
       }
 
   module _ (y : q11 c ≡ true) where
@@ -122,7 +61,7 @@ module _ (c : Circuit) where
         let cycle : List Cell = getD (c .cycles) j [] in
         fine-of cycle (getD cycle i nowhere)
         (all-each (goodCell c cycle) nowhere cycle
-        (and-second (ltb 0 (length cycle)) (allOf (goodCell c cycle) cycle)
+        (and-right (ltb 0 (length cycle)) (allOf (goodCell c cycle) cycle)
         (all-each (λ cycle. ltb 0 (length cycle) && allOf (goodCell c cycle) cycle) [] (c .cycles) y j l))
         i
         m)
@@ -133,7 +72,7 @@ module _ (c : Circuit) where
         let x : Cell = getD (getD (c .cycles) j []) i nowhere in
         among-those (λ q. anyOf (λ (x : Cell). eqb (x .polynomial) q) (concat (c .cycles))) (x .polynomial) (below (numPoly c))
         (any-concat (λ (z : Cell). eqb (z .polynomial) (x .polynomial)) (c .cycles) j l
-        (any-at (λ (z : Cell). eqb (z .polynomial) (x .polynomial)) nowhere (getD (c .cycles) j []) i m (eqb-true (x .polynomial) (x .polynomial) refl)))
+        (any-at (λ (z : Cell). eqb (z .polynomial) (x .polynomial)) nowhere (getD (c .cycles) j []) i m (eq-eqb (x .polynomial) (x .polynomial) refl)))
         (among-below (numPoly c) (x .polynomial) (cycle-fine j l i m .polynomial-in))
 
     -- every cell of a cycle has a number
@@ -163,16 +102,12 @@ module _ (c : Circuit) where
     unfolding those
     once-of [] a o = tt
     once-of (x ∷ xs) a o = (
-      out-of (number x) (map number xs) (all-mapped (λ z. (sameCell x z ≡ false) × Placed c z) (λ n. number x ≢ n) number apart xs (zipped xs (count-none (sameCell x) xs none) (a .1))),
+      out-all (number x) (map number xs) (all-mapped (λ z. (sameCell x z ≡ false) × Placed c z) (λ n. number x ≢ n) number apart xs (all-both (λ z. sameCell x z ≡ false) (Placed c) xs (count-none (sameCell x) xs none) (a .1))),
       once-of xs (a .1) (all-weaken (λ z. countOf (sameCell z) (x ∷ xs) ≤ 1) (λ z. countOf (sameCell z) xs ≤ 1) (λ z l. let q = count-cons (sameCell z) x xs in omega arith) xs (o .1)),
     )
       where
         apart : (z : Cell) → (sameCell x z ≡ false) × Placed c z → number x ≢ number z
         apart z h e = false-true (sym (h .0) ∙ same-true c x z (a .0) (h .1) e)
-
-        zipped : (zs : List Cell) → All (λ z. sameCell x z ≡ false) zs → All (Placed c) zs → All (λ z. (sameCell x z ≡ false) × Placed c z) zs
-        zipped [] p q = tt
-        zipped (z ∷ zs) p q = ((p .0, q .0), zipped zs (p .1) (q .1))
 
         none : countOf (sameCell x) xs ≡ 0
         none =
@@ -191,7 +126,7 @@ module _ (c : Circuit) where
     cycles-of [] a f = tt
     cycles-of (C ∷ Cs) a f = (
       record {
-        cells = each-of (Cycles.Cell (numCopied c) (rowsOf c)) (map number C) (cells-of C C (a .0) (f .0));
+        cells = cells-of C C (a .0) (f .0);
         once = once-of C (a .0) (all-weaken (Fine C) (λ x. countOf (sameCell x) C ≤ 1) (λ x h. h .once) C (f .0));
       },
       cycles-of Cs (a .1) (f .1),
@@ -214,7 +149,7 @@ module _ (𝓕 : Field) (g : Log 𝓕) where
       ∙ ap (λ (q : ℕ). polyOf 𝓕 (givenPolys 𝓕 g) q (x .row)) (get-index (x .polynomial) (copied (g .circuit)) 0 (h .column-in))
 
   equal-rest : (x : Cell) (ys : List Cell) → Placed (g .circuit) x → All (Placed (g .circuit)) ys → All (λ y. cellValue 𝓕 g x ≡ cellValue 𝓕 g y) ys
-      → Cycles.Each (λ n. val (firstLabel (g .circuit) x) ≡ val n) (map (firstLabel (g .circuit)) ys)
+      → All (λ n. val (firstLabel (g .circuit) x) ≡ val n) (map (firstLabel (g .circuit)) ys)
   equal-rest x [] h a e = tt
   equal-rest x (y ∷ ys) h a e = (value-at x h ∙ e .0 ∙ sym (value-at y (a .0)), equal-rest x ys h (a .1) (e .1))
 

@@ -1,41 +1,26 @@
 -- z is the grand product in closed form: IsPlonkZ of Papers, proved. Assumes nothing.
 use mathlib.Core.Path.{_≡_, refl, sym, ap, ap₂, _∙_}
-use mathlib.Core.List.{List, [], _∷_, _++_, map, map-append, append-nil}
+use mathlib.Core.List.{List, [], _∷_, _++_, map, map-append}
 use Prim.Native.Nat.{ℕ, zero, suc, _+_, _*_, _≤_, _<_}
-use native.Mathlib.Nat.{mod-eq-of-lt, mul-add-mod-self-right, mul-add-div-right, div-eq-of-lt, add-zero, zero-mul, suc-mul}
+use native.Mathlib.Nat.{mod-eq-of-lt, mul-add-mod-self-right, mul-add-div-right, div-eq-of-lt, add-zero}
 use native.Mathlib.Omega.{arith}
-use lib.ListN.{length, getD, take, drop}
-use lib.Seq.{take-all, take-add}
+use lib.ListN.{getD, take}
+use lib.Seq.{take-all}
 use Rattle.field.specs.Algebra.{Field, product-append}
 use Rattle.field.specs.Algebra as Algebra
 use Rattle.bh.specs.Sums.{upTo}
 use Rattle.bh.specs.Rows.{rowAt}
-use Rattle.util.specs.Lists.{column, below, concat, cut, ceilDiv}
+use Rattle.util.specs.Lists.{below, concat}
+use Rattle.util.proofs.Totals.{concat-cut}
+use Rattle.identities.specs.Total.{upTo-cong, upTo-add, upTo-flat, upTo-first, upTo-zero, upTo-units}
+use Rattle.identities.specs.Fields.{muls}
 use Rattle.backend.specs.Circuit.{numCopied}
 use Rattle.preprocessor.specs.Compose.{numZ, zCut}
 use Rattle.prover.specs.Log.{Log}
 use Rattle.prover.specs.Columns.{ratioAt, partAt, stepAt, runningAt, zAtPlace}
 use Rattle.calls.specs.Papers.{plonkZ, IsPlonkZ}
-use Rattle.identities.specs.Total.{upTo-cong, upTo-add, upTo-flat, upTo-first, upTo-zero, upTo-units}
-use Rattle.identities.specs.Fields.{muls}
-use Rattle.completeness.specs.Places.{below-length}
-use Rattle.completeness.specs.Parts.{partSize, covers}
+use Rattle.completeness.specs.Parts.{partSize, size-pos}
 use Rattle.completeness.specs.Named.{parts-of-z, none-z}
-
-concat-end : {A : Type 0} (xss : List (List A)) (ys : List A) → concat (xss ++ (ys ∷ [])) ≡ concat xss ++ ys
-unfolding concat
-concat-end [] ys = append-nil ys
-concat-end (xs ∷ xss) ys = ap (λ (l : List _). xs ++ l) (concat-end xss ys) ∙ sym (mathlib.Core.List.append-assoc xs (concat xss) ys)
-
--- the first m parts are the first m * s
-concat-parts : {A : Type 0} (s : ℕ) (xs : List A) (m : ℕ) → concat (column (λ i. take s (drop (i * s) xs)) m) ≡ take (m * s) xs
-unfolding column concat
-concat-parts s xs zero = ap (λ (n : ℕ). take n xs) (sym (zero-mul s))
-concat-parts s xs (suc m) =
-    concat-end (column (λ i. take s (drop (i * s) xs)) m) (take s (drop (m * s) xs))
-    ∙ ap (λ (l : List _). l ++ take s (drop (m * s) xs)) (concat-parts s xs m)
-    ∙ sym (take-add (m * s) s xs)
-    ∙ ap (λ (n : ℕ). take n xs) (sym (suc-mul m s))
 
 module _ (𝓕 : Field) where
   open Field 𝓕 using (F, one, mul)
@@ -54,16 +39,12 @@ module _ (𝓕 : Field) where
 
   module _ (g : Log 𝓕) where
     whole : 0 < numCopied (g .circuit) → concat (take (numZ (g .circuit)) (zCut (g .circuit))) ≡ below (numCopied (g .circuit))
-    unfolding zCut cut
+    unfolding zCut
     whole p =
         let n : ℕ = numCopied (g .circuit) in
         let s : ℕ = partSize (g .circuit) p in
         let q = parts-of-z (g .circuit) in
-        let e : ceilDiv (length (below n)) s ≡ numZ (g .circuit) = sym (Rattle.completeness.specs.Places.column-length (λ i. take s (drop (i * s) (below n))) (ceilDiv (length (below n)) s)) ∙ q in
-        ap concat (take-all (numZ (g .circuit)) (zCut (g .circuit)) (omega arith))
-        ∙ concat-parts s (below n) (ceilDiv (length (below n)) s)
-        ∙ ap (λ (m : ℕ). take (m * s) (below n)) e
-        ∙ take-all (numZ (g .circuit) * s) (below n) (let w = below-length n in let v = covers (g .circuit) p in omega arith)
+        ap concat (take-all (numZ (g .circuit)) (zCut (g .circuit)) (omega arith)) ∙ concat-cut s (below n) (size-pos (g .circuit) p)
 
     step-at : (s j : ℕ) → j < numZ (g .circuit) → stepAt 𝓕 g (s * numZ (g .circuit) + j) ≡ partAt 𝓕 g (getD (zCut (g .circuit)) j []) (rowAt (g .circuit .k) (suc s))
     unfolding stepAt

@@ -1,5 +1,5 @@
 -- The row sum reads from the words what building wrote: its environment agrees on every row with that of the log. Assumes nothing.
-use mathlib.Core.Path.{_≡_, refl, sym, ap, ap₂, _∙_, subst}
+use mathlib.Core.Path.{_≡_, sym, ap, ap₂, _∙_, subst}
 use mathlib.Core.List.{List, [], _∷_, _++_, map, append-assoc, map-append}
 use Prim.Native.Nat.{ℕ, zero, suc, _+_, _*_, _^_, _<_}
 use native.Mathlib.Nat.{suc-mul, zero-mul, zero-add, not-suc-le-zero}
@@ -8,33 +8,19 @@ use lib.ListN.{length, getD, take, length-append, length-map, drop-of-length-le}
 use lib.Seq.{split-at, drop-cons}
 use Rattle.field.specs.Prime.{P}
 use Rattle.field.specs.Field.{𝔾, el, val, val-lt, el-val}
-use Rattle.util.specs.Lists.{column, concat}
+use Rattle.util.specs.Lists.{column, concat, All}
+use Rattle.util.proofs.Lists.{get-left, get-past, split-length, pairs-length}
+use Rattle.util.proofs.Columns.{get-column, column-length}
+use Rattle.util.proofs.All.{all-join, all-column}
 use Rattle.expression.specs.Expr.{Expr}
 use Rattle.expression.specs.Value.{polyOf, valueAt}
-use Rattle.multilinear.specs.EqXY.{eqAt}
 use Rattle.backend.specs.Circuit.{circuitOf, rowsOf, numInstance, numUser, numCopied, numLookups}
+use Rattle.multilinear.specs.EqXY.{eqAt}
 use Rattle.preprocessor.specs.Compose.{numZ}
 use Rattle.prover.specs.Log.{Log}
-use Rattle.prover.specs.Columns.{
-  inputAt,
-  tableAt,
-  instancePolys,
-  preprocessPolys,
-  witnessPolys,
-  givenPolys,
-  permutationPolys,
-  compressedPolys,
-  mPolys,
-  hPolys,
-  zPolys,
-  allPolys,
-  writtenPolys,
-  composedEnvironment,
-}
+use Rattle.prover.specs.Columns.{inputAt, tableAt, instancePolys, preprocessPolys, witnessPolys, givenPolys, permutationPolys, compressedPolys, mPolys, hPolys, zPolys, allPolys, writtenPolys, composedEnvironment}
 use Rattle.calls.specs.Build.{logOf, wordsOf}
 use Rattle.calls.specs.RowSum.{lentColumn, lentPolys, lentEnvironment}
-use Rattle.identities.specs.Lists.{All}
-use Rattle.completeness.specs.Places.{get-left, get-past, get-column, column-length, split-length, all-join, all-column}
 use Rattle.completeness.specs.Reading.{perm-length, m-length, h-length}
 use Rattle.completeness.specs.OnRows.{Same, same-refl, same-append, same-column, row-value}
 
@@ -59,11 +45,6 @@ words-small rows (p ∷ ps) =
     all-join (λ w. w < P) (column (λ b. val (p b)) rows) (wordsOf rows ps)
     (all-column (λ w. w < P) (λ b. val (p b)) rows (λ b l. val-lt (p b)))
     (words-small rows ps)
-
-pairs-length : {A B : Type 0} (f h : A → B) (ls : List A) → length (concat (map (λ l. f l ∷ h l ∷ []) ls)) ≡ length ls * 2
-unfolding concat
-pairs-length f h [] = refl
-pairs-length f h (l ∷ ls) = omega (arith, pairs-length f h ls)
 
 module _ (g : Log 𝔾) where
   instance-length : length (instancePolys 𝔾 g) ≡ numInstance (g .circuit)

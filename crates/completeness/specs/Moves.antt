@@ -5,9 +5,15 @@ use mathlib.Core.List.{List, [], _∷_, map}
 use Prim.Native.Nat.{ℕ, _<_}
 use native.Mathlib.Decide.{decLt}
 use lib.ListN.{length}
-use lib.Dec.{eqb, eqb→eq}
+use lib.Dec.{eqb}
+use borrow.Author.Tests.{eqb-true}
 use Rattle.field.specs.Algebra.{Field}
-use Rattle.util.specs.Lists.{indexOf}
+use Rattle.util.specs.Lists.{indexOf, All}
+use Rattle.util.proofs.Tests.{and-left, and-right, by-test}
+use Rattle.identities.specs.Cycles as Cycles
+use Rattle.identities.specs.Cycles.{good-labels}
+use Rattle.identities.specs.Walk.{unit-copied}
+use Rattle.identities.specs.Copies.{atCell}
 use Rattle.backend.specs.Circuit.{Circuit, Cell, sameCell, rowsOf, copied, numCopied}
 use Rattle.backend.specs.Questions.{q11}
 use Rattle.preprocessor.specs.Permutation.{lastCell, beforeFrom, before, source, firstLabel}
@@ -15,12 +21,7 @@ use Rattle.prover.specs.Log.{Log}
 use Rattle.prover.specs.Columns.{copiedAt}
 use Rattle.calls.specs.Meaning.{cellValue}
 use Rattle.calls.specs.Papers.{Permutes, Keeps}
-use Rattle.identities.specs.Lists.{All}
-use Rattle.identities.specs.Cycles as Cycles
-use Rattle.identities.specs.Cycles.{good-labels}
-use Rattle.identities.specs.Copies.{atCell}
-use Rattle.completeness.specs.Passed.{and-first, and-second, is-true}
-use Rattle.completeness.specs.Cells.{by-test, Placed, same-polynomial, same-row, source-placed, source-agree}
+use Rattle.completeness.specs.Cells.{Placed, same-polynomial, same-row, source-placed, source-agree}
 use Rattle.completeness.specs.Cycled.{cycles-placed, cycles-good, copied-good, value-at}
 use Rattle.completeness.specs.Whole.{eleven}
 
@@ -31,7 +32,7 @@ cell-same : (x y : Cell) → sameCell x y ≡ true → x ≡ y
 cell-same x y e =
     let s : Bool = eqb (x .polynomial) (y .polynomial) in
     let t : Bool = eqb (x .row) (y .row) in
-    same-cell x y (eqb→eq (x .polynomial) (y .polynomial) (is-true s (and-first s t e))) (eqb→eq (x .row) (y .row) (is-true t (and-second s t e)))
+    same-cell x y (eqb-true (x .polynomial) (y .polynomial) (and-left s t e)) (eqb-true (x .row) (y .row) (and-right s t e))
 
 module _ (c : Circuit) where
   placed? : (x : Cell) → Dec (Placed c x)
@@ -58,18 +59,6 @@ module _ (c : Circuit) where
   source-out [] x a n = refl
   source-out (C ∷ Cs) x a n = ap (before C) (source-out Cs x (a .1) n) ∙ before-out C x (a .0) n
 
-  still-all : (xs : List ℕ) → Cycles.Each (λ y. _≡_ {A = Unit {0}} tt tt) xs
-  still-all [] = tt
-  still-all (x ∷ xs) = (refl, still-all xs)
-
-  equal-all : (xs : List ℕ) → Cycles.Equal {W = Unit {0}} (λ n. tt) xs
-  equal-all [] = tt
-  equal-all (x ∷ xs) = still-all xs
-
-  copied-all : (Cs : List (List ℕ)) → Cycles.Copied {W = Unit {0}} (λ n. tt) Cs
-  copied-all [] = tt
-  copied-all (C ∷ Cs) = (equal-all C, copied-all Cs)
-
   pub source-apart : q11 c ≡ true → (x y : Cell) → source (c .cycles) x ≡ source (c .cycles) y → x ≡ y
   source-apart e x y h = go (placed? x) (placed? y)
     where
@@ -82,7 +71,7 @@ module _ (c : Circuit) where
       go : Dec (Placed c x) → Dec (Placed c y) → x ≡ y
       go (yes p) (yes q) =
           let n : firstLabel c x ≡ firstLabel c y =
-          good-labels (numCopied c) (rowsOf c) (λ n. tt) Cs (cycles-good c e) (copied-all Cs) .apart (firstLabel c x) (firstLabel c y)
+          good-labels (numCopied c) (rowsOf c) (λ n. tt) Cs (cycles-good c e) (unit-copied Cs) .apart (firstLabel c x) (firstLabel c y)
           (sym (source-agree c (c .cycles) x a p) ∙ ap (firstLabel c) h ∙ source-agree c (c .cycles) y a q) in
           same-cell x y (same-polynomial c x y p q n) (same-row c x y p q n)
       go (yes p) (no q) = absurd (q (subst (Placed c) (h ∙ source-out (c .cycles) y a q) (source-placed c (c .cycles) x a p)))

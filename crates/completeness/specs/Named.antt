@@ -1,12 +1,18 @@
 -- The papers' claims of Papers, proved: counts, h and its sum, and that the running product closes. Assumes nothing.
 use mathlib.Core.Path.{_≡_, sym, ap, ap₂, _∙_, subst, fun-ext}
 use Prim.Native.Nat.{ℕ, zero, _+_, _-_, _*_, _<_}
-use native.Mathlib.Nat.{mul-zero, add-zero, div-eq-of-lt}
+use native.Mathlib.Nat.{mul-zero, add-zero}
 use native.Mathlib.Decide.{ℕ-discrete}
 use native.Mathlib.Omega.{arith}
-use lib.ListN.{length}
 use Rattle.field.specs.Algebra.{Field}
 use Rattle.util.specs.Lists.{below, cut, ceilDiv}
+use Rattle.util.proofs.Columns.{below-length}
+use Rattle.util.proofs.Totals.{cut-length, ceil-none}
+use Rattle.identities.specs.Total.{upTo-zero}
+use Rattle.identities.specs.Counts as Counts
+use Rattle.identities.specs.Lookup as Lookup
+use Rattle.identities.specs.Copies.{safe-parts, balanced}
+use Rattle.identities.specs.Running as Running
 use Rattle.backend.specs.Circuit.{Circuit, rowsOf, numCopied}
 use Rattle.backend.specs.Constraints.{maxDegree}
 use Rattle.preprocessor.specs.Compose.{numZ, zCut}
@@ -14,15 +20,8 @@ use Rattle.prover.specs.Lookup.{multiplicity, hAt, Turns}
 use Rattle.prover.specs.Log.{Log}
 use Rattle.prover.specs.Columns.{runningAt, stepAt, copiedAt}
 use Rattle.calls.specs.Papers.{PartsOfZ, CountsTurn, IsHabockH, HabockSum, Closes}
-use Rattle.identities.specs.Total.{upTo-zero}
-use Rattle.identities.specs.Cut as Cut
-use Rattle.identities.specs.Counts as Counts
-use Rattle.identities.specs.Lookup as Lookup
-use Rattle.identities.specs.Copies.{safe-parts, balanced}
-use Rattle.identities.specs.Running as Running
 use Rattle.completeness.specs.Counting.{counts-agree, turns-agree, covered-stand, stand-covered, h-sum-of}
-use Rattle.completeness.specs.Places.{column-length, below-length}
-use Rattle.completeness.specs.Parts.{z-pos, size-pos, partSize, covers, ceil-same, degree-two}
+use Rattle.completeness.specs.Parts.{parts-even, z-pos, partSize, covers, degree-two}
 use Rattle.completeness.specs.Cycled.{cycles-good, copied-good}
 use Rattle.completeness.specs.Zs.{φ, Cs, A, B, factor-agree, running-agree}
 use Rattle.completeness.specs.Whole.{kp, ks, eleven}
@@ -31,29 +30,16 @@ pub none-z : (c : Circuit) → numCopied c ≡ 0 → numZ c ≡ 0
 unfolding numZ
 none-z c e =
     let q = degree-two c in
-    ap (λ (n : ℕ). ceilDiv n (maxDegree c - 1)) e ∙ div-eq-of-lt {n = 0 + (maxDegree c - 1) - 1} {m = maxDegree c - 1} (omega arith)
-
-even-parts : (c : Circuit) → 0 < numCopied c → ceilDiv (numCopied c) (ceilDiv (numCopied c) (numZ c)) ≡ numZ c
-unfolding numZ
-even-parts c p =
-    let q = degree-two c in
-    let n : ℕ = numCopied c in
-    let D : ℕ = maxDegree c - 1 in
-    let e : Cut.ceilDiv n D ≡ ceilDiv n D = ceil-same n D (omega arith) in
-    let f : Cut.ceilDiv n (ceilDiv n D) ≡ ceilDiv n (ceilDiv n D) = ceil-same n (ceilDiv n D) (z-pos c p) in
-    sym (ceil-same n (ceilDiv n (ceilDiv n D)) (size-pos c p))
-    ∙ ap (Cut.ceilDiv n) (sym (ap (Cut.ceilDiv n) e ∙ f))
-    ∙ Cut.even-parts n D p (omega arith)
-    ∙ e
+    ap (λ (n : ℕ). ceilDiv n (maxDegree c - 1)) e ∙ ceil-none (maxDegree c - 1) (omega arith)
 
 -- the parts of z are as many as the z columns
 pub parts-of-z : (c : Circuit) → PartsOfZ c
 unfolding zCut cut
-parts-of-z c = column-length _ (ceilDiv (length (below (numCopied c))) (ceilDiv (numCopied c) (numZ c))) ∙ ap (λ (n : ℕ). ceilDiv n (ceilDiv (numCopied c) (numZ c))) (below-length (numCopied c)) ∙ go (ℕ-discrete (numCopied c) 0)
+parts-of-z c = cut-length (ceilDiv (numCopied c) (numZ c)) (below (numCopied c)) ∙ ap (λ (n : ℕ). ceilDiv n (ceilDiv (numCopied c) (numZ c))) (below-length (numCopied c)) ∙ go (ℕ-discrete (numCopied c) 0)
   where
     go : Dec (numCopied c ≡ 0) → ceilDiv (numCopied c) (ceilDiv (numCopied c) (numZ c)) ≡ numZ c
     go (yes e) = ap₂ (λ (n m : ℕ). ceilDiv n (ceilDiv n m)) e (none-z c e) ∙ sym (none-z c e)
-    go (no n) = even-parts c (omega arith)
+    go (no n) = parts-even c (omega arith)
 
 module _ (𝓕 : Field) where
   open Field 𝓕 using (F, zero as nil, one, add, mul, neg, inv)

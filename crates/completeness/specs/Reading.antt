@@ -1,74 +1,27 @@
 -- Each part of a composed constraint is the stage's: the claim Reads of Composed, proved. Assumes nothing.
-use mathlib.Core.Path.{_≡_, refl, sym, ap, ap₂, _∙_, subst}
-use mathlib.Core.List.{List, [], _∷_, _++_, map}
+use mathlib.Core.Path.{_≡_, sym, ap, ap₂, _∙_, subst}
+use mathlib.Core.List.{List, [], _∷_, _++_}
 use Prim.Native.Nat.{ℕ, zero, suc, _+_, _*_, _<_}
 use native.Mathlib.Nat.{add-zero, add-suc}
 use native.Mathlib.Omega.{arith}
 use lib.ListN.{length, getD, length-append, length-map}
 use Rattle.field.specs.Algebra.{Field, add-assoc as f-assoc, add-zero as f-zero}
 use Rattle.bh.specs.Rows.{rotated, iter}
-use Rattle.util.specs.Lists.{below}
+use Rattle.util.specs.Lists.{below, All}
+use Rattle.util.proofs.Lists.{get-left, get-past, get-map, split-length}
+use Rattle.util.proofs.Columns.{column-length, below-length, below-get}
+use Rattle.util.proofs.All.{all-get, all-column, all-those, all-mapped, map-same}
 use Rattle.expression.specs.Expr.{Expr, evaluate, distributePowers}
 use Rattle.expression.specs.Value.{polyOf, valueOps, valueAt}
-use Rattle.multilinear.specs.EqXY.{eqAt}
-use Rattle.backend.specs.Circuit.{
-  Pair,
-  Circuit,
-  rowsOf,
-  numUser,
-  numPoly,
-  numLookups,
-  copied,
-  numCopied,
-  permNumber,
-  mNumber,
-  hNumber,
-  zNumber,
-}
+use Rattle.backend.specs.Circuit.{Pair, Circuit, rowsOf, numUser, numPoly, numLookups, copied, numCopied, permNumber, mNumber, hNumber, zNumber}
 use Rattle.backend.specs.Constraints.{betaOf, inputsOf, tablesOf}
+use Rattle.multilinear.specs.EqXY.{eqAt}
 use Rattle.preprocessor.specs.Compose.{numZ, identityFactor, permutationFactor}
 use Rattle.prover.specs.Log.{Log}
-use Rattle.prover.specs.Columns.{
-  powerSum,
-  instancePolys,
-  preprocessPolys,
-  witnessPolys,
-  givenPolys,
-  userEnvironment,
-  compressedAt,
-  inputAt,
-  tableAt,
-  mAt,
-  lookupHAt,
-  permutationAt,
-  copiedAt,
-  identityFactorAt,
-  permutationFactorAt,
-  zAt,
-  permutationPolys,
-  mPolys,
-  hPolys,
-  zPolys,
-  allPolys,
-  composedEnvironment,
-}
+use Rattle.prover.specs.Columns.{powerSum, instancePolys, preprocessPolys, witnessPolys, givenPolys, userEnvironment, compressedAt, inputAt, tableAt, mAt, lookupHAt, permutationAt, copiedAt, identityFactorAt, permutationFactorAt, zAt, permutationPolys, mPolys, hPolys, zPolys, allPolys, composedEnvironment}
 use Rattle.calls.specs.Meaning.{Embeds, Admitted}
 use Rattle.calls.specs.Composed.{inputIn, tableIn, Reads}
 use Rattle.calls.specs.PowerFacts.{powers-value}
-use Rattle.identities.specs.Lists.{All}
-use Rattle.completeness.specs.Places.{
-  get-left,
-  get-past,
-  get-map,
-  column-length,
-  split-length,
-  all-get,
-  all-column,
-  all-those,
-  all-mapped,
-  below-length,
-  below-get,
-}
 use Rattle.completeness.specs.Scope.{Scoped, scoped-value}
 use Rattle.completeness.specs.Passed.{yes-all, constraints-scoped, lookups-scoped}
 
@@ -76,11 +29,6 @@ use Rattle.completeness.specs.Passed.{yes-all, constraints-scoped, looku
 pub copied-below : (c : Circuit) → All (λ q. q < numPoly c) (copied c)
 unfolding copied
 copied-below c = all-those (λ q. q < numPoly c) _ (below (numPoly c)) (all-column (λ q. q < numPoly c) (λ i. i) (numPoly c) (λ i l. l))
-
--- two maps that agree on what has a property
-pub map-same : {A B : Type 0} (Q : A → Type 0) (f g : A → B) → ((x : A) → Q x → f x ≡ g x) → (xs : List A) → All Q xs → map f xs ≡ map g xs
-map-same Q f g h [] a = refl
-map-same Q f g h (x ∷ xs) a = ap₂ (λ (u : _) (v : List _). u ∷ v) (h x (a .0)) (map-same Q f g h xs (a .1))
 
 module _ (𝓕 : Field) where
   open Field 𝓕 using (F, zero as nil, one, add, mul, neg)

@@ -7,13 +7,12 @@ use native.Mathlib.Decide.{ℕ-discrete}
 use native.Mathlib.Omega.{arith}
 use Rattle.field.specs.Algebra.{Field, zero-add, one-mul, zero-mul, mul-left-comm, mul-one}
 use Rattle.bh.specs.Sums.{upTo}
+use Rattle.util.proofs.Tests.{false-true, by-test}
+use Rattle.identities.specs.Total.{upTo-cong, upTo-units, nats, le-total, count-upTo}
+use Rattle.identities.specs.Fields.{sum-mul}
 use Rattle.prover.specs.Lookup.{sumCounts, same, covered, multiplicity, Turns}
 use Rattle.calls.specs.Meaning.{Embeds}
 use Rattle.calls.specs.Papers.{often, sharedM, totalOf, SameTotals}
-use Rattle.identities.specs.Total.{upTo-cong, upTo-units, nats, le-total}
-use Rattle.identities.specs.Fields.{sum-mul}
-use Rattle.completeness.specs.Counting.{false-true, count-upTo}
-use Rattle.completeness.specs.Cells.{by-test}
 use Rattle.completeness.specs.Reading.{el-add}
 use Rattle.completeness.specs.Named.{counts-turn}
 

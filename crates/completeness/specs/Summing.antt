@@ -9,7 +9,13 @@ use native.Mathlib.Omega.{arith}
 use lib.ListN.{length, getD, length-append}
 use Rattle.field.specs.Algebra.{Field, mul-zero, zero-mul}
 use Rattle.bh.specs.Sums.{upTo}
-use Rattle.util.specs.Lists.{column}
+use Rattle.util.specs.Lists.{column, All}
+use Rattle.util.proofs.Lists.{get-left, get-past}
+use Rattle.util.proofs.Columns.{get-column, column-length}
+use Rattle.util.proofs.All.{all-get, all-from, all-column}
+use Rattle.identities.specs.Total.{upTo-cong, upTo-swap, upTo-units}
+use Rattle.identities.specs.Fields.{adds, mul-sum}
+use Rattle.identities.specs.Lookup as Lookup
 use Rattle.expression.specs.Expr.{Expr}
 use Rattle.expression.specs.Value.{Environment, valueAt}
 use Rattle.backend.specs.Circuit.{Circuit, rowsOf, numUser, numPoly, numLookups, hNumber}
@@ -22,11 +28,6 @@ use Rattle.calls.specs.Meaning.{Embeds, Admitted, EachRow, Premises}
 use Rattle.calls.specs.Composed.{zeroCheckIn, column-at, alpha, LookupHolds}
 use Rattle.calls.specs.ComposedFacts as ComposedFacts
 use Rattle.calls.specs.PowerFacts.{compose-value}
-use Rattle.identities.specs.Total.{upTo-cong, upTo-swap, upTo-units}
-use Rattle.identities.specs.Fields.{adds, mul-sum}
-use Rattle.identities.specs.Lists.{All}
-use Rattle.identities.specs.Lookup as Lookup
-use Rattle.completeness.specs.Places.{get-left, get-past, get-column, column-length, all-get, all-from, all-column}
 use Rattle.completeness.specs.Scope.{Scoped}
 use Rattle.completeness.specs.Reading.{reads, user-value, constraints-in, gamma-value}
 use Rattle.completeness.specs.Counting.{h-sums}

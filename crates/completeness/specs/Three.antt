@@ -8,6 +8,8 @@ use native.Mathlib.Omega.{arith}
 use lib.ListN.{length, getD, take, length-map, length-take}
 use Rattle.field.specs.Prime.{P}
 use Rattle.field.specs.Field.{𝔾, el, val, val-el, el-zero, P-pos}
+use Rattle.util.proofs.All.{all-from}
+use Rattle.identities.specs.Total.{upTo-cong}
 use Rattle.expression.specs.Nodes.{exprOf}
 use Rattle.expression.specs.Value.{valueAt}
 use Rattle.backend.specs.Circuit.{circuitOf, rowsOf, numUser}
@@ -20,8 +22,6 @@ use Rattle.calls.specs.Meaning.{Each, Admitted, Premises, Conclusions}
 use Rattle.calls.specs.Demand.{Succeeds, Demand3, DemandThree}
 use Rattle.calls.specs.Facts.{embeds, columns-length, fifteen-by, built-by, written-by}
 use Rattle.calls.specs.ReadsBack.{reads-back}
-use Rattle.identities.specs.Total.{upTo-cong}
-use Rattle.completeness.specs.Places.{all-from}
 use Rattle.completeness.specs.Passed.{yes-all, k-small}
 use Rattle.completeness.specs.Asking.{Lending, lending, sum-yes}
 use Rattle.completeness.specs.Lent.{words-small, lent-value}

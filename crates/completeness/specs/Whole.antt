@@ -5,8 +5,11 @@ use mathlib.Core.List.{[], _∷_}
 use Prim.Native.Nat.{ℕ, zero, suc, _<_}
 use native.Mathlib.Omega.{arith}
 use lib.Dec.{eqb}
+use borrow.Author.Tests.{eq-eqb}
 use Rattle.field.specs.Algebra.{Field}
-use Rattle.util.specs.Lists.{column}
+use Rattle.util.specs.Lists.{column, All}
+use Rattle.util.proofs.Tests.{false-true}
+use Rattle.util.proofs.All.{all-get, all-join, all-column}
 use Rattle.expression.specs.Expr.{Expr}
 use Rattle.expression.specs.Value.{valueAt}
 use Rattle.backend.specs.Circuit.{Circuit, numCopied}
@@ -16,9 +19,7 @@ use Rattle.preprocessor.specs.Compose.{numZ, startConstraint, partConstraint, p
 use Rattle.prover.specs.Log.{Log}
 use Rattle.prover.specs.Columns.{allCovered, composedEnvironment}
 use Rattle.calls.specs.Meaning.{Admitted, EachRow, Premises, Conclusions, Demand3Of, DemandThreeOf}
-use Rattle.identities.specs.Lists.{All}
-use Rattle.completeness.specs.Counting.{refused-when, m-sums, h-sums, eqb-true, false-true}
-use Rattle.completeness.specs.Places.{all-get, all-join, all-column}
+use Rattle.completeness.specs.Counting.{refused-when, m-sums, h-sums}
 use Rattle.completeness.specs.Passed.{Yes, yes-all, k-pos, k-small}
 use Rattle.completeness.specs.Summing.{user-zeros, lookup-zeros, composed-zero}
 use Rattle.completeness.specs.Zs.{start-zeros, part-zeros}
@@ -58,7 +59,7 @@ module _ (𝓕 : Field) (g : Log 𝓕) (ad : Admitted 𝓕 g) where
             pos = go' (numCopied (g .circuit)) e
               where
                 go' : (n : ℕ) → eqb n 0 ≡ false → 0 < n
-                go' zero w = false-true (sym w ∙ eqb-true 0 0 refl)
+                go' zero w = false-true (sym w ∙ eq-eqb 0 0 refl)
                 go' (suc n) w = omega arith
 
     pub all-zeros : All Zero (composedConstraints (g .circuit))

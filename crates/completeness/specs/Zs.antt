@@ -1,19 +1,26 @@
 -- The z columns of the definitions are those of the crate identities; so the start and part constraints are zero. Assumes nothing.
-use mathlib.Core.Path.{_≡_, refl, sym, ap, ap₂, _∙_, subst}
+use mathlib.Core.Path.{_≡_, refl, sym, ap, ap₂, _∙_}
 use mathlib.Core.Logic.{ite, if-neg}
-use mathlib.Core.Bool.{Bool, true, cond, not}
+use mathlib.Core.Bool.{Bool, true, cond}
 use mathlib.Core.List.{List, [], map}
 use Prim.Native.Nat.{ℕ, zero, suc, _+_, _-_, _*_, _/_, _%_, _^_, _≤_, _<_, min}
 use native.Mathlib.Nat.{suc-ne-zero}
 use native.Mathlib.Decide.{ℕ-discrete}
 use native.Mathlib.Omega.{arith}
 use lib.ListN.{getD}
-use lib.Dec.{T, ltb, ltb→lt, nltb→le}
+use lib.Dec.{ltb}
+use borrow.Author.Tests.{lt-ltb, le-ltb}
+use Rattle.field.specs.Algebra.{Field}
+use Rattle.field.specs.Algebra as Algebra
 use Rattle.bh.specs.Sums.{upTo}
 use Rattle.bh.specs.Rows.{rowAt, placeOf, nextRow, seek}
 use Rattle.bh.proofs.Order.{row-lt}
-use Rattle.field.specs.Algebra.{Field}
-use Rattle.field.specs.Algebra as Algebra
+use Rattle.identities.specs.Total.{upTo-cong, upTo-op}
+use Rattle.identities.specs.Fields.{muls, prod-inv}
+use Rattle.identities.specs.Cycles.{labels}
+use Rattle.identities.specs.Copies.{partWith, ids, perms, copies-meet}
+use Rattle.identities.specs.Running.{ratio, zCol, scan, z-scan, z-nought, Met}
+use Rattle.identities.specs.Running as Running
 use Rattle.expression.specs.Expr.{Expr}
 use Rattle.expression.specs.Value.{Environment, valueAt}
 use Rattle.backend.specs.Circuit.{rowsOf, numCopied, zNumber}
@@ -21,30 +28,11 @@ use Rattle.backend.specs.Questions.{q11}
 use Rattle.preprocessor.specs.Compose.{numZ, zCut, constraintCut, identityFactor, permutationFactor, startConstraint, partConstraint}
 use Rattle.preprocessor.specs.Permutation.{firstLabel}
 use Rattle.prover.specs.Log.{Log}
-use Rattle.prover.specs.Columns.{
-  permutationAt,
-  copiedAt,
-  identityFactorAt,
-  permutationFactorAt,
-  ratioAt,
-  partAt,
-  stepAt,
-  runningAt,
-  zAtPlace,
-  zAt,
-  composedEnvironment,
-}
+use Rattle.prover.specs.Columns.{permutationAt, copiedAt, identityFactorAt, permutationFactorAt, ratioAt, partAt, stepAt, runningAt, zAtPlace, zAt, composedEnvironment}
 use Rattle.calls.specs.Meaning.{Admitted, EachRow, Premises}
 use Rattle.calls.specs.Composed.{column-at, nextIn, over-part, PartHolds}
 use Rattle.calls.specs.ComposedFacts as ComposedFacts
-use Rattle.identities.specs.Total.{upTo-cong, upTo-op}
-use Rattle.identities.specs.Fields.{muls, prod-inv}
-use Rattle.identities.specs.Cycles.{labels}
-use Rattle.identities.specs.Copies.{partWith, ids, perms, copies-meet}
-use Rattle.identities.specs.Running.{ratio, zCol, scan, z-scan, z-nought, Met}
-use Rattle.identities.specs.Running as Running
-use Rattle.completeness.specs.Passed.{is-true}
-use Rattle.completeness.specs.Cells.{by-test, label-agree}
+use Rattle.completeness.specs.Cells.{label-agree}
 use Rattle.completeness.specs.Cycled.{cycles-placed, cycles-good, copied-good}
 use Rattle.completeness.specs.Parts.{product-part, z-pos, partSize, covers, z-part}
 use Rattle.completeness.specs.Reading.{reads}
@@ -181,18 +169,12 @@ module _ (𝓕 : Field) (g : Log 𝓕) where
               ≡ ite d (zCol 𝓕 (g .circuit .k) (numZ (g .circuit)) A B 0 (nextRow (g .circuit .k) b)) (zCol 𝓕 (g .circuit .k) (numZ (g .circuit)) A B (suc i) b)
           go (yes e) =
               ap (λ (t : Bool). cond t here after)
-              (by-test (ltb (suc i) (numZ (g .circuit))) (λ t. absurd (bad (ltb→lt (suc i) (numZ (g .circuit)) (is-true (ltb (suc i) (numZ (g .circuit))) t)))) (λ t. t))
+              (le-ltb (suc i) (numZ (g .circuit)) (omega arith))
               ∙ column-z 0 (nextRow (g .circuit .k) b) (omega arith)
-            where
-              bad : suc i < numZ (g .circuit) → ⊥
-              bad w = omega arith
           go (no n) =
               ap (λ (t : Bool). cond t here after)
-              (by-test (ltb (suc i) (numZ (g .circuit))) (λ t. t) (λ t. absurd (bad (nltb→le (suc i) (numZ (g .circuit)) (subst (λ (u : Bool). T (not u)) (sym t) tt)))))
+              (lt-ltb (suc i) (numZ (g .circuit)) (omega arith))
               ∙ column-z (suc i) b (omega arith)
-            where
-              bad : numZ (g .circuit) ≤ suc i → ⊥
-              bad w = omega arith
 
       part-holds : (i b : ℕ) → i < numZ (g .circuit) → b < rowsOf (g .circuit) → PartHolds 𝓕 scene (g .circuit) i b
       part-holds i b l m =
