@@ -7,7 +7,6 @@ use Prim.Native.Nat.{ℕ, zero, suc, _-_, _^_}
 use lib.IntN.{pos, negsuc}
 use lib.ListN.{take, replicate}
 use Rattle.field.specs.Field.{𝔾, el, val}
-use Rattle.field.specs.Inverse.{witness}
 use Rattle.field.specs.Algebra.{product}
 use Rattle.bh.specs.Rows.{prevRow, order, lagrangeRow}
 use Rattle.util.specs.Lists.{column, firstNo}
