@@ -1,35 +1,13 @@
 -- Words and elements of 𝔾, in both directions, beside Field's laws of `el`: what an operation answers is below P, an element's
 -- number is what the operation on numbers answers, and a number below P is known by its element. Assumes nothing.
-use mathlib.Core.Path.{_≡_, refl, sym, ap, ap₂, _∙_}
+use mathlib.Core.Path.{_≡_, sym, ap, ap₂, _∙_}
 use Prim.Native.Nat.{ℕ, zero, suc, _+_, _-_, _*_, _%_, _^_, _<_}
-use native.Mathlib.Nat.{mod-lt, mod-mod, mod-eq-of-lt, pow-zero, pow-suc}
+use native.Mathlib.Nat.{mod-lt, pow-zero, pow-suc}
 use lib.Dec.{lit<}
 use Rattle.field.specs.Prime.{P}
 use Rattle.field.specs.Algebra.{pow, mul-comm}
 use Rattle.field.specs.ModP as ModP
-use Rattle.field.specs.Field.{
-  addP,
-  subP,
-  negP,
-  mulP,
-  powP,
-  invP,
-  𝔾,
-  el,
-  val,
-  P-pos,
-  powP-is,
-  el-val,
-  val-el,
-  val-lt,
-  el-zero,
-  el-one,
-  el-add,
-  el-sub,
-  el-neg,
-  el-mul,
-  el-inv,
-}
+use Rattle.field.specs.Field.{addP, subP, negP, mulP, powP, invP, 𝔾, el, val, P-pos, powP-is, el-val, val-el, el-zero, el-one, el-add, el-sub, el-neg, el-mul, el-inv}
 
 -- ---- the answers are reduced
 
