@@ -1,0 +1,12 @@
+pub mod Totals
+pub mod Fields
+pub mod Counts
+pub mod Lookup
+pub mod Cycles
+pub mod Running
+pub mod Copies
+pub mod Walk
+pub mod Words
+pub mod Steps
+pub mod Groups
+pub mod Homs
