@@ -78,10 +78,12 @@ module _ (𝓕 : Field) where
     LookupZero = (j b : ℕ) → (valueAt 𝓕 s (lookupConstraint c j) b ≡ zero) ↔ LookupHolds j b
 
     -- "one is for the start: at row 1 it is zero exactly when the first z is 1 there, at other rows always"
-    pub record StartZero : Type 0 where
-      pub at-one : Embeds 𝓕 (s .el) → 0 < s .k
-          → (valueAt 𝓕 s (startConstraint c) 1 ≡ zero) ↔ (column-at (zNumber c 0) 1 ≡ one)
-      pub elsewhere : Embeds 𝓕 (s .el) → 0 < s .k → (b : ℕ) → b ≢ 1 → valueAt 𝓕 s (startConstraint c) b ≡ zero
+    pub record StartAt : Type 0 where
+      pub at-one : (valueAt 𝓕 s (startConstraint c) 1 ≡ zero) ↔ (column-at (zNumber c 0) 1 ≡ one)
+      pub elsewhere : (b : ℕ) → b ≢ 1 → valueAt 𝓕 s (startConstraint c) b ≡ zero
+
+    abbrev pub StartZero : Type 0
+    StartZero = Embeds 𝓕 (s .el) → 0 < s .k → StartAt
 
     -- "Next is the following part's z at that row; after the last part it is the first z with rotation 1."
     unfoldable pub nextIn : ℕ → ℕ → F
@@ -127,20 +129,27 @@ module _ (𝓕 : Field) where
   -- ---- over the columns of a log: each part of a constraint is the stage's
 
   module _ (g : Log 𝓕) (α : F) (y : ℕ → F) where
-    pub record Reads : Type 0 where
-      pub input : Admitted 𝓕 g → (j : ℕ) → j < length (g .circuit .lookups)
-          → EachRow 𝓕 g (λ b. inputIn (composedEnvironment 𝓕 g α y) (g .circuit) j b ≡ inputAt 𝓕 g (getD (g .circuit .lookups) j []) b)
-      pub table : Admitted 𝓕 g → (j : ℕ) → j < length (g .circuit .lookups)
-          → EachRow 𝓕 g (λ b. tableIn (composedEnvironment 𝓕 g α y) (g .circuit) j b ≡ tableAt 𝓕 g (getD (g .circuit .lookups) j []) b)
-      pub m : (j b : ℕ) → j < length (g .circuit .lookups)
-          → column-at (composedEnvironment 𝓕 g α y) (g .circuit) (mNumber (g .circuit) j) b
-          ≡ mAt 𝓕 g (getD (g .circuit .lookups) j []) b
-      pub h : (j b : ℕ) → j < length (g .circuit .lookups)
-          → column-at (composedEnvironment 𝓕 g α y) (g .circuit) (hNumber (g .circuit) j) b
-          ≡ lookupHAt 𝓕 g (getD (g .circuit .lookups) j []) b
-      pub z : (i b : ℕ) → i < numZ (g .circuit)
-          → column-at (composedEnvironment 𝓕 g α y) (g .circuit) (zNumber (g .circuit) i) b ≡ zAt 𝓕 g i b
-      pub identity-factor : Admitted 𝓕 g → (i b : ℕ) → i < numCopied (g .circuit)
-          → valueAt 𝓕 (composedEnvironment 𝓕 g α y) (identityFactor (g .circuit) i) b ≡ identityFactorAt 𝓕 g i b
-      pub permutation-factor : Admitted 𝓕 g → (i b : ℕ) → i < numCopied (g .circuit)
-          → valueAt 𝓕 (composedEnvironment 𝓕 g α y) (permutationFactor (g .circuit) i) b ≡ permutationFactorAt 𝓕 g i b
+    abbrev pub scene : Environment 𝓕
+    scene = composedEnvironment 𝓕 g α y
+
+    -- lookup j, and a column's value at a row
+    abbrev pub lookupOf : ℕ → List Pair
+    lookupOf j = getD (g .circuit .lookups) j []
+
+    abbrev pub valueIn : ℕ → ℕ → F
+    valueIn q b = column-at scene (g .circuit) q b
+
+    pub record ReadAs : Type 0 where
+      pub input : (j : ℕ) → j < length (g .circuit .lookups) → EachRow 𝓕 g (λ b. inputIn scene (g .circuit) j b ≡ inputAt 𝓕 g (lookupOf j) b)
+      pub table : (j : ℕ) → j < length (g .circuit .lookups) → EachRow 𝓕 g (λ b. tableIn scene (g .circuit) j b ≡ tableAt 𝓕 g (lookupOf j) b)
+      pub m : (j b : ℕ) → j < length (g .circuit .lookups) → valueIn (mNumber (g .circuit) j) b ≡ mAt 𝓕 g (lookupOf j) b
+      pub h : (j b : ℕ) → j < length (g .circuit .lookups) → valueIn (hNumber (g .circuit) j) b ≡ lookupHAt 𝓕 g (lookupOf j) b
+      pub z : (i b : ℕ) → i < numZ (g .circuit) → valueIn (zNumber (g .circuit) i) b ≡ zAt 𝓕 g i b
+      pub identity-factor : (i b : ℕ) → i < numCopied (g .circuit)
+          → valueAt 𝓕 scene (identityFactor (g .circuit) i) b ≡ identityFactorAt 𝓕 g i b
+      pub permutation-factor : (i b : ℕ) → i < numCopied (g .circuit)
+          → valueAt 𝓕 scene (permutationFactor (g .circuit) i) b ≡ permutationFactorAt 𝓕 g i b
+
+    -- of a log that is admitted
+    abbrev pub Reads : Type 0
+    Reads = Admitted 𝓕 g → ReadAs

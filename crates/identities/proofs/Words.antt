@@ -54,7 +54,7 @@ el-mod m =
     ap (λ (x : ℕ). el (x % P)) (sym (zero-add m)) ∙ el-add 0 m ∙ ap (λ (x : 𝔾 .F). 𝔾 .add x (el m)) el-zero
     ∙ Rattle.field.specs.Algebra.zero-add 𝔾 (el m)
 
-el-suc : (n : ℕ) → el (suc n) ≡ 𝔾 .add (el n) (el 1)
+pub el-suc : (n : ℕ) → el (suc n) ≡ 𝔾 .add (el n) (el 1)
 el-suc n = ap el (sym (add-one n)) ∙ sym (el-mod (n + 1)) ∙ el-add n 1
 
 -- a whole number as an element is its word

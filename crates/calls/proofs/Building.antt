@@ -1,43 +1,26 @@
--- First facts of the definitions, proved: words enter 𝔾 as sums of ones; a refusal but 15 writes nothing; what 15 and success write.
+-- The building call: a refusal but 15 writes nothing; what 15 and success write; the words needed are those written.
+-- Assumes nothing.
 use mathlib.Core.Path.{_≡_, sym, ap, _∙_}
 use mathlib.Core.Bool.{true, false}
 use mathlib.Core.List.{List, [], _∷_, _++_}
 use Prim.Native.Nat.{ℕ, suc, _+_, _*_, _%_}
 use native.Mathlib.Nat.{zero-mul, suc-mul}
 use native.Mathlib.Omega.{arith}
-use native.Mathlib.Numerals.{add-one}
 use lib.ListN.{length, take, drop, length-append, length-map}
 use lib.Seq.{take-at, drop-at}
 use lib.Dec.{eqb·suc-zero}
-use Rattle.field.specs.Prime.{P}
 use Rattle.field.specs.ModP as ModP
-use Rattle.field.specs.Field.{𝔾, el, val, P-pos, el-zero, el-one, el-add}
+use Rattle.field.specs.Field.{𝔾, val}
 use Rattle.util.specs.Lists.{concat}
 use Rattle.util.proofs.Lists.{split-length, pairs-length}
 use Rattle.util.proofs.Columns.{column-length}
-use Rattle.expression.specs.FlatFacts.{flat-length}
+use Rattle.expression.proofs.FlatLength.{flat-length}
 use Rattle.backend.specs.Circuit.{Circuit, circuitOf, rowsOf, numInstance, numCopied, numLookups}
 use Rattle.preprocessor.specs.Compose.{numZ, compose, composedWords, composedNodes}
 use Rattle.prover.specs.Log.{Log}
 use Rattle.prover.specs.Columns.{allCovered, instancePolys, permutationPolys, compressedPolys, mPolys, hPolys, zPolys, writtenPolys}
 use Rattle.calls.specs.Build.{Output, logOf, wordsOf, columnWords, checkBuild, refusal, made, zeroed, buildLog, buildOf}
-use Rattle.calls.specs.Meaning.{Embeds}
 use Rattle.calls.specs.Demand.{Written}
-
-el-mod : (n : ℕ) → el (n % P) ≡ el n
-unfolding 𝔾 el
-el-mod n = ModP.of-mod P P-pos n
-
--- 𝔾 is a field into which words enter as the claims over any field ask
-pub embeds : Embeds 𝔾 el
-embeds =
-    record {
-      el-zero = el-zero;
-      el-suc =
-          λ n. ap el (sym (add-one n)) ∙ sym (el-mod (n + 1)) ∙ el-add n 1 ∙ ap (𝔾 .add (el n)) el-one;
-    }
-
--- ---- lengths
 
 words-length : (rows : ℕ) (ps : List (ℕ → 𝔾 .F)) → length (wordsOf rows ps) ≡ length ps * rows
 unfolding wordsOf concat

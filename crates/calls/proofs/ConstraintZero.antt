@@ -1,4 +1,4 @@
--- When the lookup, start and part constraints are zero: the claims of Composed, proved over any field and any columns.
+-- When the lookup, start and part constraints are zero: LookupZero, StartZero and PartZero of Composed. Assumes nothing.
 use mathlib.Core.Path.{_≡_, refl, sym, ap, _∙_}
 use mathlib.Core.Logic.{_≢_, _↔_}
 use mathlib.Core.Bool.{Bool, true, false, cond}
@@ -14,12 +14,14 @@ use Rattle.field.specs.Algebra.{Field, zero-add, mul-assoc, one-mul, zero-mul, 
 use Rattle.field.specs.Algebra as Algebra
 use Rattle.field.specs.Solve.{var, nought, _:+_, _:*_, minus, solve}
 use Rattle.bh.specs.Rows.{rotated, iter, nextRow, rowAt, modZ, lagrangeRow}
+use Rattle.identities.proofs.Fields.{sub-zero}
 use Rattle.expression.specs.Expr.{Expr, evaluate, productFrom, productOf}
 use Rattle.expression.specs.Value.{Environment, polyOf, valueOps, valueAt}
-use Rattle.backend.specs.Circuit.{Circuit, zNumber}
+use Rattle.backend.specs.Circuit.{Circuit, numUser, zNumber}
 use Rattle.backend.specs.Constraints.{lookupConstraint}
 use Rattle.preprocessor.specs.Compose.{numZ, constraintCut, nextZ, identityFactor, permutationFactor, partConstraint, startConstraint}
 use Rattle.calls.specs.Meaning.{Embeds}
+use Rattle.calls.proofs.Embeds.{embeds-one}
 use Rattle.calls.specs.Composed.{inputIn, tableIn, nextIn, LookupZero, StartZero, PartZero}
 
 lagrange-1 : (k : ℕ) → 0 < k → lagrangeRow k (pos 1) ≡ 1
@@ -44,21 +46,13 @@ module _ (𝓕 : Field) where
         ∙ solve 𝓕 (t ∷ y ∷ []) (((var 0 :+ minus (var 1)) :+ minus (var 0)) :+ var 1) nought refl,
   )
 
-  -- a − b = 0 exactly when a = b
-  apart : (a b : F) → (add a (neg b) ≡ zero) ↔ (a ≡ b)
-  apart a b = (
-    λ e.
-        solve 𝓕 (a ∷ b ∷ []) (var 0) ((var 0 :+ minus (var 1)) :+ var 1) refl ∙ ap (λ (v : F). add v b) e ∙ zero-add 𝓕 b,
-    λ e. ap (λ (v : F). add v (neg b)) e ∙ solve 𝓕 (b ∷ []) (var 0 :+ minus (var 0)) nought refl,
-  )
-
   module _ (s : Environment 𝓕) (c : Circuit) where
     pub lookup-zero : LookupZero 𝓕 s c
     unfolding valueAt valueOps evaluate lookupConstraint inputIn tableIn rotated iter
     lookup-zero j b =
         rw (
-          add-comm 𝓕 (getD (s .challenges) (Rattle.backend.specs.Circuit.numUser c + 1) zero) (inputIn 𝓕 s c j b),
-          add-comm 𝓕 (getD (s .challenges) (Rattle.backend.specs.Circuit.numUser c + 1) zero) (tableIn 𝓕 s c j b),
+          add-comm 𝓕 (getD (s .challenges) (numUser c + 1) zero) (inputIn 𝓕 s c j b),
+          add-comm 𝓕 (getD (s .challenges) (numUser c + 1) zero) (tableIn 𝓕 s c j b),
         )
         (moved _ _ _)
 
@@ -75,7 +69,7 @@ module _ (𝓕 : Field) where
     pub product-value : Embeds 𝓕 (s .el) → (f : ℕ → Expr) (part : List ℕ) (b : ℕ)
         → valueAt 𝓕 s (productOf (map f part)) b ≡ Algebra.product 𝓕 (map (λ t. valueAt 𝓕 s (f t) b) part)
     unfolding valueAt valueOps evaluate productOf Algebra.product
-    product-value h f [] b = h .el-suc 0 ∙ ap (λ (v : F). add v one) (h .el-zero) ∙ zero-add 𝓕 one
+    product-value h f [] b = embeds-one 𝓕 (s .el) h
     product-value h f (t ∷ ts) b = product-from (f t) f ts b
 
     next-value : (i b : ℕ) → valueAt 𝓕 s (nextZ c i) b ≡ nextIn 𝓕 s c i b
@@ -92,7 +86,7 @@ module _ (𝓕 : Field) where
     unfolding valueAt valueOps evaluate partConstraint rotated iter
     part-zero h i b l =
         rw (← next-value i b, ← product-value h (identityFactor c) (getD (constraintCut c) i []) b, ← product-value h (permutationFactor c) (getD (constraintCut c) i []) b)
-        (apart _ _)
+        (sub-zero 𝓕 _ _)
 
     value-start : Embeds 𝓕 (s .el) → 0 < s .k → (b : ℕ)
         → valueAt 𝓕 s (startConstraint c) b
@@ -102,12 +96,11 @@ module _ (𝓕 : Field) where
         rw (lagrange-1 (s .k) l, h .el-suc 0, h .el-zero, zero-add 𝓕 one)
 
     pub start-zero : StartZero 𝓕 s c
-    start-zero =
+    start-zero h l =
         record {
-          at-one =
-              λ h l. rw (value-start h l 1, one-mul 𝓕 (add (polyOf 𝓕 (s .polys) (zNumber c 0) 1) (neg one))) (apart _ _);
+          at-one = rw (value-start h l 1, one-mul 𝓕 (add (polyOf 𝓕 (s .polys) (zNumber c 0) 1) (neg one))) (sub-zero 𝓕 _ _);
           elsewhere =
-              λ h l b n.
+              λ b n.
               let v : F = add (polyOf 𝓕 (s .polys) (zNumber c 0) b) (neg one) in
               value-start h l b ∙ ap (λ (t : Bool). mul (cond t one zero) v) (ne-eqb b 1 n) ∙ zero-mul 𝓕 v;
         }

@@ -1,13 +1,17 @@
--- The value of a list by powers of its base, and of the composed expression: proved over any field and any columns.
+-- The value of a list by powers of its base, and of the composed expression: PowersValue and ComposeValue of Composed; and when such
+-- lists sum to zero. Assumes nothing.
 use mathlib.Core.Path.{_≡_, refl, sym, ap, ap₂, _∙_, fun-ext}
 use mathlib.Core.List.{List, [], _∷_, _++_, map, map-append}
-use Prim.Native.Nat.{ℕ, suc, _+_}
+use Prim.Native.Nat.{ℕ, suc, _+_, _<_}
+use native.Mathlib.Omega.{arith}
 use lib.ListN.{length, getD}
-use Rattle.field.specs.Algebra.{Field, add-assoc, add-comm, add-zero, mul-assoc, mul-add, mul-zero, one-mul}
+use Rattle.field.specs.Algebra.{Field, add-assoc, add-zero, mul-assoc, mul-add, mul-zero, one-mul}
 use Rattle.bh.specs.Sums.{upTo}
 use Rattle.bh.specs.Rows.{rotated, iter}
-use Rattle.util.specs.Lists.{column}
-use Rattle.util.proofs.Columns.{map-column}
+use Rattle.util.specs.Lists.{column, All}
+use Rattle.util.proofs.Columns.{map-column, column-first}
+use Rattle.identities.proofs.Totals.{upTo-first, upTo-units, upTo-cong, upTo-op}
+use Rattle.identities.proofs.Fields.{adds, mul-sum}
 use Rattle.expression.specs.Expr.{Expr, running, evaluate, values, exprsOf, distributePowers, at}
 use Rattle.expression.specs.Value.{Environment, valueOps, valueAt}
 use Rattle.backend.specs.Circuit.{Circuit, numLookups, hNumber}
@@ -20,19 +24,6 @@ use Rattle.calls.specs.Composed.{PowersValue, ComposeValue, zeroCheckIn}
 module _ (𝓕 : Field) where
   open Field 𝓕 using (F, zero, one, add, mul)
 
-  -- a sum's first term apart
-  sum-first : (f : ℕ → F) (n : ℕ) → upTo add zero f (suc n) ≡ add (f 0) (upTo add zero (λ i. f (suc i)) n)
-  unfolding upTo
-  sum-first f ℕ.zero = add-comm 𝓕 zero (f 0)
-  sum-first f (suc n) =
-      ap (λ (x : F). add x (f (suc n))) (sum-first f n) ∙ add-assoc 𝓕 (f 0) (upTo add zero (λ i. f (suc i)) n) (f (suc n))
-
-  sum-times : (a : F) (f : ℕ → F) (n : ℕ) → upTo add zero (λ i. mul a (f i)) n ≡ mul a (upTo add zero f n)
-  unfolding upTo
-  sum-times a f ℕ.zero = sym (mul-zero 𝓕 a)
-  sum-times a f (suc n) =
-      ap (λ (x : F). add x (mul a (f n))) (sum-times a f n) ∙ sym (mul-add 𝓕 a (upTo add zero f n) (f n))
-
   pub power-nil : (β : F) → powerSum 𝓕 β [] ≡ zero
   unfolding powerSum upTo
   power-nil β = refl
@@ -41,11 +32,38 @@ module _ (𝓕 : Field) where
   pub power-cons : (β x : F) (xs : List F) → powerSum 𝓕 β (x ∷ xs) ≡ add x (mul β (powerSum 𝓕 β xs))
   unfolding powerSum pow
   power-cons β x xs =
-      sum-first (λ i. mul (pow 𝓕 β i) (getD (x ∷ xs) i zero)) (length xs)
+      upTo-first add zero (adds 𝓕) (λ i. mul (pow 𝓕 β i) (getD (x ∷ xs) i zero)) (length xs)
       ∙ ap₂ add (one-mul 𝓕 x)
       (ap (λ (f : ℕ → F). upTo add zero f (length xs))
       (fun-ext (λ i. mul-assoc 𝓕 β (pow 𝓕 β i) (getD xs i zero)))
-      ∙ sum-times β (λ i. mul (pow 𝓕 β i) (getD xs i zero)) (length xs))
+      ∙ sym (mul-sum 𝓕 β (λ i. mul (pow 𝓕 β i) (getD xs i zero)) (length xs)))
+
+  -- zeros by powers
+  pub power-zeros : (α : F) (xs : List F) → All (λ x. x ≡ zero) xs → powerSum 𝓕 α xs ≡ zero
+  power-zeros α [] a = power-nil α
+  power-zeros α (x ∷ xs) a =
+      power-cons α x xs ∙ ap₂ (λ (u v : F). add u (mul α v)) (a .0) (power-zeros α xs (a .1)) ∙ ap (add zero) (mul-zero 𝓕 α)
+      ∙ add-zero 𝓕 zero
+
+  -- columns by powers, and last one that is zero: together they sum to zero where each column does
+  pub sum-composed : (α : F) (H : ℕ → ℕ → F) (v : ℕ → F) (n rows : ℕ)
+      → ((j : ℕ) → j < n → upTo add zero (λ b. H j b) rows ≡ zero) → ((b : ℕ) → b < rows → v b ≡ zero)
+      → upTo add zero (λ b. powerSum 𝓕 α (column (λ j. H j b) n ++ (v b ∷ []))) rows ≡ zero
+  unfolding column
+  sum-composed α H v ℕ.zero rows h z = upTo-units add zero (adds 𝓕) _ rows (λ b l. power-zeros α (column (λ j. H j b) 0 ++ (v b ∷ [])) (none b l))
+    where
+      none : (b : ℕ) → b < rows → All (λ x. x ≡ zero) (column (λ j. H j b) 0 ++ (v b ∷ []))
+      none b l = (z b l, tt)
+  sum-composed α H v (suc n) rows h z =
+      upTo-cong add zero _ (λ b. add (H 0 b) (mul α (rest b))) rows
+      (λ b l. ap (λ (xs : List F). powerSum 𝓕 α (xs ++ (v b ∷ []))) (column-first (λ j. H j b) n) ∙ power-cons α (H 0 b) (column (λ j. H (suc j) b) n ++ (v b ∷ [])))
+      ∙ upTo-op add zero (adds 𝓕) (λ b. H 0 b) (λ b. mul α (rest b)) rows
+      ∙ ap₂ add (h 0 (omega arith))
+      (sym (mul-sum 𝓕 α rest rows) ∙ ap (mul α) (sum-composed α (λ j. H (suc j)) v n rows (λ j l. h (suc j) (omega arith)) z) ∙ mul-zero 𝓕 α)
+      ∙ add-zero 𝓕 zero
+    where
+      rest : ℕ → F
+      rest b = powerSum 𝓕 α (column (λ j. H (suc j) b) n ++ (v b ∷ []))
 
   module _ (s : Environment 𝓕) where
     running-value : (b : ℕ) (base power acc : F) (vs : List F)
