@@ -1,11 +1,10 @@
--- Each part of a composed constraint is the stage's: the claim Reads of Composed, proved. Assumes nothing.
-use mathlib.Core.Path.{_≡_, sym, ap, ap₂, _∙_, subst}
+-- Each part of a composed constraint is the stage's: Reads of Composed. Assumes nothing.
+use mathlib.Core.Path.{_≡_, sym, ap, ap₂, _∙_, subst, refl}
 use mathlib.Core.List.{List, [], _∷_, _++_}
-use Prim.Native.Nat.{ℕ, zero, suc, _+_, _*_, _<_}
-use native.Mathlib.Nat.{add-zero, add-suc}
+use Prim.Native.Nat.{ℕ, zero, _+_, _*_, _<_}
 use native.Mathlib.Omega.{arith}
 use lib.ListN.{length, getD, length-append, length-map}
-use Rattle.field.specs.Algebra.{Field, add-assoc as f-assoc, add-zero as f-zero}
+use Rattle.field.specs.Algebra.{Field}
 use Rattle.bh.specs.Rows.{rotated, iter}
 use Rattle.util.specs.Lists.{below, All}
 use Rattle.util.proofs.Lists.{get-left, get-past, get-map, split-length}
@@ -13,17 +12,18 @@ use Rattle.util.proofs.Columns.{column-length, below-length, below-get}
 use Rattle.util.proofs.All.{all-get, all-column, all-those, all-mapped, map-same}
 use Rattle.expression.specs.Expr.{Expr, evaluate, distributePowers}
 use Rattle.expression.specs.Value.{polyOf, valueOps, valueAt}
+use Rattle.expression.proofs.Agree.{agree-value}
 use Rattle.backend.specs.Circuit.{Pair, Circuit, rowsOf, numUser, numPoly, numLookups, copied, numCopied, permNumber, mNumber, hNumber, zNumber}
 use Rattle.backend.specs.Constraints.{betaOf, inputsOf, tablesOf}
-use Rattle.multilinear.specs.EqXY.{eqAt}
 use Rattle.preprocessor.specs.Compose.{numZ, identityFactor, permutationFactor}
 use Rattle.prover.specs.Log.{Log}
 use Rattle.prover.specs.Columns.{powerSum, instancePolys, preprocessPolys, witnessPolys, givenPolys, userEnvironment, compressedAt, inputAt, tableAt, mAt, lookupHAt, permutationAt, copiedAt, identityFactorAt, permutationFactorAt, zAt, permutationPolys, mPolys, hPolys, zPolys, allPolys, composedEnvironment}
-use Rattle.calls.specs.Meaning.{Embeds, Admitted}
-use Rattle.calls.specs.Composed.{inputIn, tableIn, Reads}
-use Rattle.calls.specs.PowerFacts.{powers-value}
-use Rattle.completeness.specs.Scope.{Scoped, scoped-value}
-use Rattle.completeness.specs.Passed.{yes-all, constraints-scoped, lookups-scoped}
+use Rattle.calls.proofs.Embeds.{embeds-add}
+use Rattle.calls.specs.Meaning.{Admitted}
+use Rattle.calls.specs.Composed.{inputIn, tableIn, ReadAs}
+use Rattle.calls.proofs.Powers.{powers-value}
+use Rattle.completeness.specs.Scope.{userScope, Scoped}
+use Rattle.completeness.proofs.Passed.{yes-all, constraints-scoped, lookups-scoped}
 
 -- ---- circuits
 pub copied-below : (c : Circuit) → All (λ q. q < numPoly c) (copied c)
@@ -32,14 +32,6 @@ copied-below c = all-those (λ q. q < numPoly c) _ (below (numPoly c)) (all-colu
 
 module _ (𝓕 : Field) where
   open Field 𝓕 using (F, zero as nil, one, add, mul, neg)
-
-  -- words add as elements
-  pub el-add : (el : ℕ → F) → Embeds 𝓕 el → (m n : ℕ) → el (m + n) ≡ add (el m) (el n)
-  el-add el h m zero = ap el (add-zero m) ∙ sym (f-zero 𝓕 (el m)) ∙ ap (add (el m)) (sym (h .el-zero))
-  el-add el h m (suc n) =
-      ap el (add-suc m n) ∙ h .el-suc (m + n) ∙ ap (λ (x : F). add x one) (el-add el h m n)
-      ∙ f-assoc 𝓕 (el m) (el n) one
-      ∙ ap (add (el m)) (sym (h .el-suc n))
 
   module _ (g : Log 𝓕) where
     abbrev c : Circuit
@@ -130,14 +122,16 @@ module _ (𝓕 : Field) where
             → valueAt 𝓕 (composedEnvironment 𝓕 g α y) e b ≡ valueAt 𝓕 (userEnvironment 𝓕 g) e b
         unfolding composedEnvironment userEnvironment
         user-value e h b =
-            scoped-value 𝓕 (numPoly (g .circuit)) (numUser (g .circuit)) (g .circuit .k) (g .el) (allPolys 𝓕 g) (givenPolys 𝓕 g) challenges (g .user)
-            (eqAt 𝓕 (g .circuit .k) y)
-            (λ b. nil)
-            (λ i l b. poly-given i b l)
-            (λ i l. get-left (g .user) _ i nil (let e = ad .user-all in omega arith))
+            agree-value 𝓕 (userScope (numPoly (g .circuit)) (numUser (g .circuit))) (composedEnvironment 𝓕 g α y) (userEnvironment 𝓕 g) b
+            (record {
+              same-k = refl;
+              same-el = refl;
+              same-eq = λ i l. absurd l;
+              same-poly = λ q r l. poly-given q (rotated (g .circuit .k) b r) l;
+              same-challenge = λ i l. get-left (g .user) _ i nil (let e = ad .user-all in omega arith);
+            })
             e
             h
-            b
 
         abbrev InScope : Expr → Type 0
         InScope e = Scoped (numPoly (g .circuit)) (numUser (g .circuit)) e
@@ -164,25 +158,25 @@ module _ (𝓕 : Field) where
         pairs-in : (j : ℕ) → j < length (g .circuit .lookups) → All (λ (p : Pair). InScope (p .input) × InScope (p .table)) (getD (g .circuit .lookups) j [])
         pairs-in j l = all-get (All (λ (p : Pair). InScope (p .input) × InScope (p .table))) (g .circuit .lookups) lookups-in j [] l
 
-        pub reads : Reads 𝓕 g α y
+        pub reads : ReadAs 𝓕 g α y
         unfolding composedEnvironment inputIn tableIn inputAt tableAt identityFactor permutationFactor identityFactorAt permutationFactorAt valueAt valueOps evaluate rotated iter
         reads =
             record {
-              input = λ _ j l b m.
+              input = λ j l b m.
                   compressed-value (inputsOf (getD (g .circuit .lookups) j []))
                   (all-mapped (λ (p : Pair). InScope (p .input) × InScope (p .table)) InScope (λ (p : Pair). p .input) (λ p q. q .0) (getD (g .circuit .lookups) j []) (pairs-in j l))
                   b;
-              table = λ _ j l b m.
+              table = λ j l b m.
                   compressed-value (tablesOf (getD (g .circuit .lookups) j []))
                   (all-mapped (λ (p : Pair). InScope (p .input) × InScope (p .table)) InScope (λ (p : Pair). p .table) (λ p q. q .1) (getD (g .circuit .lookups) j []) (pairs-in j l))
                   b;
               m = λ j b l. poly-m j b l;
               h = λ j b l. poly-h j b l;
               z = λ i b l. poly-z i b l;
-              identity-factor = λ _ i b l.
+              identity-factor = λ i b l.
                   ap₂ add
-                  (ap₂ add (copied-poly i b l) (ap₂ mul beta-value (sym (el-add (g .el) (ad .embeds) (i * rowsOf (g .circuit)) b))))
+                  (ap₂ add (copied-poly i b l) (ap₂ mul beta-value (sym (embeds-add 𝓕 (g .el) (ad .embeds) (i * rowsOf (g .circuit)) b))))
                   gamma-value;
-              permutation-factor = λ _ i b l.
+              permutation-factor = λ i b l.
                   ap₂ add (ap₂ add (copied-poly i b l) (ap₂ mul beta-value (poly-permutation i b l))) gamma-value;
             }

@@ -19,10 +19,10 @@ use Rattle.preprocessor.specs.Compose.{numZ, startConstraint, partConstraint, p
 use Rattle.prover.specs.Log.{Log}
 use Rattle.prover.specs.Columns.{allCovered, composedEnvironment}
 use Rattle.calls.specs.Meaning.{Admitted, EachRow, Premises, Conclusions, Demand3Of, DemandThreeOf}
-use Rattle.completeness.specs.Counting.{refused-when, m-sums, h-sums}
-use Rattle.completeness.specs.Passed.{Yes, yes-all, k-pos, k-small}
-use Rattle.completeness.specs.Summing.{user-zeros, lookup-zeros, composed-zero}
-use Rattle.completeness.specs.Zs.{start-zeros, part-zeros}
+use Rattle.completeness.proofs.Counts.{refused-when, m-sums, h-sums}
+use Rattle.completeness.proofs.Passed.{Yes, yes-all, k-pos, k-small}
+use Rattle.completeness.proofs.ComposedZero.{user-zeros, lookup-zeros, composed-zero}
+use Rattle.completeness.proofs.PermutationZero.{start-zeros, part-zeros}
 
 module _ (𝓕 : Field) (g : Log 𝓕) (ad : Admitted 𝓕 g) where
   open Field 𝓕 using (F, zero as nil)

@@ -15,11 +15,13 @@ use Rattle.field.specs.Algebra as Algebra
 use Rattle.bh.specs.Sums.{upTo}
 use Rattle.bh.specs.Rows.{rowAt, placeOf, nextRow, seek}
 use Rattle.bh.proofs.Order.{row-lt}
-use Rattle.identities.specs.Total.{upTo-cong, upTo-op}
-use Rattle.identities.specs.Fields.{muls, prod-inv}
+use Rattle.identities.proofs.Totals.{upTo-cong, upTo-op}
+use Rattle.identities.proofs.Fields.{muls, prod-inv}
 use Rattle.identities.specs.Cycles.{labels}
-use Rattle.identities.specs.Copies.{partWith, ids, perms, copies-meet}
-use Rattle.identities.specs.Running.{ratio, zCol, scan, z-scan, z-nought, Met}
+use Rattle.identities.specs.Copies.{partWith, ids, perms}
+use Rattle.identities.proofs.Copies.{copies-meet}
+use Rattle.identities.specs.Running.{ratio, zCol, scan, Met}
+use Rattle.identities.proofs.Running.{z-scan, z-nought}
 use Rattle.identities.specs.Running as Running
 use Rattle.expression.specs.Expr.{Expr}
 use Rattle.expression.specs.Value.{Environment, valueAt}
@@ -31,12 +33,12 @@ use Rattle.prover.specs.Log.{Log}
 use Rattle.prover.specs.Columns.{permutationAt, copiedAt, identityFactorAt, permutationFactorAt, ratioAt, partAt, stepAt, runningAt, zAtPlace, zAt, composedEnvironment}
 use Rattle.calls.specs.Meaning.{Admitted, EachRow, Premises}
 use Rattle.calls.specs.Composed.{column-at, nextIn, over-part, PartHolds}
-use Rattle.calls.specs.ComposedFacts as ComposedFacts
-use Rattle.completeness.specs.Cells.{label-agree}
-use Rattle.completeness.specs.Cycled.{cycles-placed, cycles-good, copied-good}
-use Rattle.completeness.specs.Parts.{product-part, z-pos, partSize, covers, z-part}
-use Rattle.completeness.specs.Reading.{reads}
-use Rattle.completeness.specs.Summing.{embeds-in}
+use Rattle.calls.proofs.ConstraintZero.{start-zero, part-zero}
+use Rattle.completeness.proofs.CellNumbers.{label-agree}
+use Rattle.completeness.proofs.CycleNumbers.{cycles-placed, cycles-good, copied-good}
+use Rattle.completeness.proofs.Cuts.{product-part, z-pos, partSize, covers, z-part, parts-alike}
+use Rattle.completeness.proofs.ReadColumns.{reads}
+use Rattle.completeness.proofs.ComposedZero.{embeds-in}
 
 module _ (𝓕 : Field) (g : Log 𝓕) where
   open Field 𝓕 using (F, zero as nil, one, add, mul, neg, inv)
@@ -134,8 +136,7 @@ module _ (𝓕 : Field) (g : Log 𝓕) where
           → Algebra.product 𝓕 (map f (getD (constraintCut (g .circuit)) i []))
           ≡ upTo mul one (λ r. f' (i * size + r)) (min size (numCopied (g .circuit) - i * size))
       over-agree f f' h i =
-          ap (λ (parts : List (List ℕ)). Algebra.product 𝓕 (map f (getD parts i []))) (p .cuts-alike)
-          ∙ ap (λ (part : List ℕ). Algebra.product 𝓕 (map f part)) (z-part (g .circuit) n-pos i)
+          ap (λ (part : List ℕ). Algebra.product 𝓕 (map f part)) (parts-alike (g .circuit) (p .cuts-alike) n-pos i)
           ∙ product-part 𝓕 f size (numCopied (g .circuit)) i
           ∙ upTo-cong mul one (λ r. f (i * size + r)) (λ r. f' (i * size + r)) (min size (numCopied (g .circuit) - i * size))
           (λ r l. h (i * size + r) (omega arith))
@@ -143,13 +144,13 @@ module _ (𝓕 : Field) (g : Log 𝓕) where
       over-ids : (i b : ℕ) → over-part 𝓕 scene (g .circuit) (identityFactor (g .circuit)) i b ≡ A i b
       over-ids i b =
           over-agree (λ t. valueAt 𝓕 scene (identityFactor (g .circuit) t) b) (λ t. identityFactorAt 𝓕 g t b)
-          (λ t l. reads 𝓕 g ad α x .identity-factor ad t b l) i
+          (λ t l. reads 𝓕 g ad α x .identity-factor t b l) i
           ∙ ids-agree i b
 
       over-perms : (i b : ℕ) → b < rowsOf (g .circuit) → over-part 𝓕 scene (g .circuit) (permutationFactor (g .circuit)) i b ≡ B i b
       over-perms i b m =
           over-agree (λ t. valueAt 𝓕 scene (permutationFactor (g .circuit) t) b) (λ t. permutationFactorAt 𝓕 g t b)
-          (λ t l. reads 𝓕 g ad α x .permutation-factor ad t b l) i
+          (λ t l. reads 𝓕 g ad α x .permutation-factor t b l) i
           ∙ perms-agree i b m
 
       next-agree : (i b : ℕ) → i < numZ (g .circuit)
@@ -184,7 +185,7 @@ module _ (𝓕 : Field) (g : Log 𝓕) where
       Zero e = EachRow 𝓕 g (λ b. valueAt 𝓕 scene e b ≡ nil)
 
       pub part-zeros : (i : ℕ) → i < numZ (g .circuit) → Zero (partConstraint (g .circuit) i)
-      part-zeros i l b m = ComposedFacts.part-zero 𝓕 scene (g .circuit) (embeds-in 𝓕 g ad α x) i b l .1 (part-holds i b l m)
+      part-zeros i l b m = part-zero 𝓕 scene (g .circuit) (embeds-in 𝓕 g ad α x) i b l .1 (part-holds i b l m)
 
       scene-k : 0 < scene .k
       unfolding composedEnvironment
@@ -196,6 +197,6 @@ module _ (𝓕 : Field) (g : Log 𝓕) where
           go : Dec (b ≡ 1) → valueAt 𝓕 scene (startConstraint (g .circuit)) b ≡ nil
           go (yes e) =
               ap (valueAt 𝓕 scene (startConstraint (g .circuit))) e
-              ∙ ComposedFacts.start-zero 𝓕 scene (g .circuit) .at-one (embeds-in 𝓕 g ad α x) scene-k .1
+              ∙ start-zero 𝓕 scene (g .circuit) (embeds-in 𝓕 g ad α x) scene-k .at-one .1
               (column-z 0 1 (z-pos (g .circuit) n-pos) ∙ met p .start)
-          go (no n) = ComposedFacts.start-zero 𝓕 scene (g .circuit) .elsewhere (embeds-in 𝓕 g ad α x) scene-k b n
+          go (no n) = start-zero 𝓕 scene (g .circuit) (embeds-in 𝓕 g ad α x) scene-k .elsewhere b n

@@ -1,4 +1,5 @@
--- The counts of the definitions are those of the crate identities; so question 15's words, and the sums of m and h. Assumes nothing.
+-- The counts of the definitions are those of the crate identities: so 15 is given exactly when no column of whole counts turns the
+-- table into the inputs, each m sums to 2^k and each h to 0. Assumes nothing.
 use mathlib.Core.Path.{_≡_, refl, sym, ap, ap₂, _∙_}
 use mathlib.Core.Logic.{_≢_, _↔_, ite}
 use mathlib.Core.Bool.{Bool, true, false, cond, decide, _&&_}
@@ -6,19 +7,21 @@ use mathlib.Core.List.{[], _∷_, _++_}
 use mathlib.Core.Option.{Option, none, some, Option·none-ne-some}
 use Prim.Native.Nat.{ℕ, zero, suc, _+_, _<_}
 use Rattle.field.specs.Algebra.{Field}
-use Rattle.bh.specs.Sums.{upTo}
 use Rattle.util.specs.Lists.{column, below, allOf, lastWhere, isSome, isAt}
 use Rattle.util.proofs.Tests.{false-true, cond-ite, cond-eqb, all-each, all-not, all-append}
-use Rattle.identities.specs.Total.{upTo-cong, count-upTo}
+use Rattle.identities.proofs.Totals.{upTo-cong, count-upTo}
 use Rattle.identities.specs.Counts as Counts
-use Rattle.identities.specs.Counts.{lastRow, hit, both, given, counts, allFound, counted, AllStand, count-turns, turns-stand, counted-stand, stand-counted, count-all}
+use Rattle.identities.specs.Counts.{lastRow, hit, both, given, counts, allFound, counted, AllStand}
+use Rattle.identities.proofs.Counts.{count-turns, turns-stand, counted-stand, stand-counted, count-all}
 use Rattle.identities.specs.Lookup as Lookup
-use Rattle.identities.specs.Lookup.{num, h-sum}
+use Rattle.identities.specs.Lookup.{num}
+use Rattle.identities.proofs.Lookup.{h-sum}
 use Rattle.backend.specs.Circuit.{rowsOf}
 use Rattle.prover.specs.Lookup.{sumCounts, same, lastEqual, multiplicity, covered, hAt, sumRows, Turns}
 use Rattle.prover.specs.Log.{Log}
 use Rattle.prover.specs.Columns.{inputAt, tableAt, countAt, mAt, lookupHAt, allCovered}
 use Rattle.calls.specs.Meaning.{Embeds, EachLookup, NoCounts}
+use Rattle.calls.proofs.Embeds.{embeds-num}
 
 -- ---- what all of a list hold
 -- ---- over one lookup
@@ -121,12 +124,6 @@ module _ (𝓕 : Field) where
         upTo-cong _+_ 0 (multiplicity 𝓕 rows input table) (counts (𝓕 .decide) rows rows input table) rows (λ j l. counts-agree j)
         ∙ count-all (𝓕 .decide) rows rows input table (covered-stand e)
 
-  -- ---- words as elements
-  pub el-num : (el : ℕ → F) → Embeds 𝓕 el → (n : ℕ) → el n ≡ num 𝓕 n
-  unfolding num upTo
-  el-num el h zero = h .el-zero
-  el-num el h (suc n) = h .el-suc n ∙ ap (λ (x : F). add x one) (el-num el h n)
-
   pub h-sum-of : (el : ℕ → F) → Embeds 𝓕 el → (γ : F) (rows : ℕ) (input table : ℕ → F) → covered 𝓕 rows input table ≡ true
       → sumRows 𝓕 rows (hAt 𝓕 γ input table (λ b. el (multiplicity 𝓕 rows input table b))) ≡ nil
   unfolding hAt Lookup.hAt
@@ -135,7 +132,7 @@ module _ (𝓕 : Field) where
       (Lookup.hAt 𝓕 γ input table (λ r. num 𝓕 (counts (𝓕 .decide) rows rows input table r))) rows
       (λ b l.
       ap (λ (m : F). add (inv (add γ (input b))) (neg (mul m (inv (add γ (table b))))))
-      (el-num el h (multiplicity 𝓕 rows input table b) ∙ ap (num 𝓕) (counts-agree rows input table b)))
+      (embeds-num 𝓕 el h (multiplicity 𝓕 rows input table b) ∙ ap (num 𝓕) (counts-agree rows input table b)))
       ∙ h-sum 𝓕 γ rows input table (covered-stand rows input table e)
 
   -- ---- over a log

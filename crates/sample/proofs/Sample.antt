@@ -13,7 +13,7 @@ use Rattle.calls.specs.Meaning.{Premises, cellValue}
 use Rattle.calls.specs.Demand.{Succeeds}
 use Rattle.examples.specs.Open.{everything}
 use Rattle.examples.specs.Small.{words-5}
-use Rattle.completeness.specs.Three.{demand-three}
+use Rattle.completeness.proofs.DemandThree.{demand-three}
 
 same-val : (x y : 𝔾 .F) → val x ≡ val y → x ≡ y
 same-val x y e = sym (el-val x) ∙ ap el e ∙ el-val y

@@ -21,8 +21,8 @@ use Rattle.prover.specs.Log.{Log}
 use Rattle.prover.specs.Columns.{inputAt, tableAt, instancePolys, preprocessPolys, witnessPolys, givenPolys, permutationPolys, compressedPolys, mPolys, hPolys, zPolys, allPolys, writtenPolys, composedEnvironment}
 use Rattle.calls.specs.Build.{logOf, wordsOf}
 use Rattle.calls.specs.RowSum.{lentColumn, lentPolys, lentEnvironment}
-use Rattle.completeness.specs.Reading.{perm-length, m-length, h-length}
-use Rattle.completeness.specs.OnRows.{Same, same-refl, same-append, same-column, row-value}
+use Rattle.completeness.proofs.ReadColumns.{perm-length, m-length, h-length}
+use Rattle.completeness.proofs.SameRows.{Same, same-refl, same-append, same-column, row-value}
 
 -- ---- columns as words
 pub words-at : (rows : ℕ) (ps : List (ℕ → 𝔾 .F)) (i b : ℕ) → i < length ps → b < rows

@@ -1,20 +1,25 @@
--- The counts have the totals of the paper's normalised multiplicities: SameTotals of Papers, proved. Assumes nothing.
-use mathlib.Core.Path.{_≡_, refl, sym, ap, _∙_}
+-- Haböck's paper: the counts turn the table into the inputs, h is the paper's and sums to zero, and the counts have the totals of
+-- the paper's normalised multiplicities: CountsTurn, IsHabockH, HabockSum and SameTotals of Papers. Assumes nothing.
+use mathlib.Core.Path.{_≡_, refl, sym, ap, _∙_, subst, fun-ext}
 use mathlib.Core.Logic.{_≢_}
 use mathlib.Core.Bool.{Bool, true, false, cond, decide}
-use Prim.Native.Nat.{ℕ, zero, suc, _+_, _≤_, _<_}
+use Prim.Native.Nat.{ℕ, zero, suc, _+_, _≤_, _<_, _-_, _*_}
 use native.Mathlib.Decide.{ℕ-discrete}
 use native.Mathlib.Omega.{arith}
-use Rattle.field.specs.Algebra.{Field, zero-add, one-mul, zero-mul, mul-left-comm, mul-one}
+use Rattle.field.specs.Algebra.{Field, one-mul, zero-mul, mul-left-comm, mul-one}
 use Rattle.bh.specs.Sums.{upTo}
 use Rattle.util.proofs.Tests.{false-true, by-test}
-use Rattle.identities.specs.Total.{upTo-cong, upTo-units, nats, le-total, count-upTo}
-use Rattle.identities.specs.Fields.{sum-mul}
-use Rattle.prover.specs.Lookup.{sumCounts, same, covered, multiplicity, Turns}
+use Rattle.identities.proofs.Totals.{upTo-cong, upTo-units, nats, le-total, count-upTo}
+use Rattle.identities.proofs.Fields.{sum-mul}
+use Rattle.identities.specs.Lookup as Lookup
+use Rattle.prover.specs.Lookup.{sumCounts, same, covered, multiplicity, Turns, hAt}
 use Rattle.calls.specs.Meaning.{Embeds}
-use Rattle.calls.specs.Papers.{often, sharedM, totalOf, SameTotals}
-use Rattle.completeness.specs.Reading.{el-add}
-use Rattle.completeness.specs.Named.{counts-turn}
+use Rattle.calls.specs.Papers.{often, sharedM, totalOf, SameTotals, CountsTurn, IsHabockH, HabockSum}
+use Rattle.calls.proofs.Embeds.{embeds-one, embeds-sum}
+use Rattle.completeness.proofs.Counts.{counts-agree, turns-agree, covered-stand, stand-covered, h-sum-of}
+use Rattle.identities.specs.Counts.{counts}
+use Rattle.identities.proofs.Counts.{count-turns, turns-stand}
+use Rattle.identities.proofs.Lookup.{h-fits}
 
 few : (t : ℕ → Bool) (n : ℕ) → upTo _+_ 0 (λ r. cond (t r) 1 0) n ≤ n
 unfolding upTo
@@ -36,15 +41,27 @@ module _ (𝓕 : Field) where
       go (yes p) e = p
       go (no p) e = false-true e
 
+  module _ (el : ℕ → F) (rows : ℕ) (input table : ℕ → F) where
+    pub counts-turn : CountsTurn 𝓕 el rows input table
+    counts-turn = (
+      λ e.
+          subst (λ (m : ℕ → ℕ). Turns 𝓕 rows input table m) (sym (fun-ext (counts-agree 𝓕 rows input table)))
+          (turns-agree 𝓕 rows input table (counts (𝓕 .decide) rows rows input table) .1
+          (count-turns (𝓕 .decide) rows rows input table (covered-stand 𝓕 rows input table e))),
+      λ t.
+          stand-covered 𝓕 rows input table
+          (turns-stand (𝓕 .decide) rows rows input table (multiplicity 𝓕 rows input table)
+          (turns-agree 𝓕 rows input table (multiplicity 𝓕 rows input table) .0 t)),
+    )
+
+    pub is-habock-h : (γ : F) (m : ℕ → F) → IsHabockH 𝓕 el rows input table γ m
+    unfolding hAt Lookup.hAt
+    is-habock-h γ m p q b l = h-fits 𝓕 γ input table m b (p b l) (q b l)
+
+    pub habock-sum : (γ : F) → HabockSum 𝓕 el rows input table γ
+    habock-sum γ p q h e = h-sum-of 𝓕 el h γ rows input table e
+
   module _ (el : ℕ → F) (h : Embeds 𝓕 el) where
-    el-one : el 1 ≡ one
-    el-one = h .el-suc 0 ∙ ap (λ (x : F). add x one) (h .el-zero) ∙ zero-add 𝓕 one
-
-    el-sum : (f : ℕ → ℕ) (n : ℕ) → upTo add nil (λ r. el (f r)) n ≡ el (upTo _+_ 0 f n)
-    unfolding upTo
-    el-sum f zero = sym (h .el-zero)
-    el-sum f (suc n) = ap (λ (x : F). add x (el (f n))) (el-sum f n) ∙ sym (el-add 𝓕 el h (upTo _+_ 0 f n) (f n))
-
     module _ (rows : ℕ) (input table : ℕ → F) where
       module _ (e : covered 𝓕 rows input table ≡ true) (char : (n : ℕ) → 0 < n → n < suc rows → el n ≢ nil) (v : F) where
         t : ℕ → Bool
@@ -52,7 +69,7 @@ module _ (𝓕 : Field) where
 
         counted : sumCounts rows (λ r. cond (t r) (multiplicity 𝓕 rows input table r) 0) ≡ often 𝓕 el rows input table input v
         unfolding t often Turns
-        counted = counts-turn 𝓕 el rows input table .0 e v ∙ sym (count-upTo (λ b. same 𝓕 (input b) v) rows)
+        counted = counts-turn el rows input table .0 e v ∙ sym (count-upTo (λ b. same 𝓕 (input b) v) rows)
 
         here : ℕ
         here = upTo _+_ 0 (λ r. cond (t r) 1 0) rows
@@ -66,7 +83,7 @@ module _ (𝓕 : Field) where
         left =
             upTo-cong add nil (λ r. cond (t r) (el (multiplicity 𝓕 rows input table r)) nil) (λ r. el (cond (t r) (multiplicity 𝓕 rows input table r) 0)) rows
             (λ r l. go (t r) (multiplicity 𝓕 rows input table r))
-            ∙ el-sum (λ r. cond (t r) (multiplicity 𝓕 rows input table r) 0) rows
+            ∙ embeds-sum 𝓕 el h (λ r. cond (t r) (multiplicity 𝓕 rows input table r) 0) rows
             ∙ ap el counted
           where
             go : (b : Bool) (n : ℕ) → cond b (el n) nil ≡ el (cond b n 0)
@@ -81,7 +98,7 @@ module _ (𝓕 : Field) where
         right =
             upTo-cong add nil (λ r. cond (t r) (sharedM 𝓕 el rows input table r) nil) (λ r. mul (el (cond (t r) 1 0)) K) rows (λ r l. at r)
             ∙ sym (sum-mul 𝓕 (λ r. el (cond (t r) 1 0)) K rows)
-            ∙ ap (λ (x : F). mul x K) (el-sum (λ r. cond (t r) 1 0) rows)
+            ∙ ap (λ (x : F). mul x K) (embeds-sum 𝓕 el h (λ r. cond (t r) 1 0) rows)
           where
             at : (r : ℕ) → cond (t r) (sharedM 𝓕 el rows input table r) nil ≡ mul (el (cond (t r) 1 0)) K
             at r =
@@ -89,7 +106,7 @@ module _ (𝓕 : Field) where
                 (λ w.
                 ap (λ (b : Bool). cond b (sharedM 𝓕 el rows input table r) nil) w
                 ∙ ap (λ (x : F). mul (el (often 𝓕 el rows input table input x)) (inv (el (often 𝓕 el rows input table table x)))) (same-is (table r) v w)
-                ∙ sym (ap (λ (b : Bool). mul (el (cond b 1 0)) K) w ∙ ap (λ (x : F). mul x K) el-one ∙ one-mul 𝓕 K))
+                ∙ sym (ap (λ (b : Bool). mul (el (cond b 1 0)) K) w ∙ ap (λ (x : F). mul x K) (embeds-one 𝓕 el h) ∙ one-mul 𝓕 K))
                 (λ w.
                 ap (λ (b : Bool). cond b (sharedM 𝓕 el rows input table r) nil) w
                 ∙ sym (ap (λ (b : Bool). mul (el (cond b 1 0)) K) w ∙ ap (λ (x : F). mul x K) (h .el-zero) ∙ zero-mul 𝓕 K))

@@ -1,4 +1,4 @@
--- Demand 3: DemandThree of Demand, proved. Assumes nothing.
+-- Demand 3: DemandThree of Demand. Assumes nothing.
 use mathlib.Core.Path.{_≡_, refl, sym, ap, ap₂, _∙_}
 use mathlib.Core.Logic.{_≢_, _↔_}
 use mathlib.Core.Bool.{Bool, true, false}
@@ -9,7 +9,8 @@ use lib.ListN.{length, getD, take, length-map, length-take}
 use Rattle.field.specs.Prime.{P}
 use Rattle.field.specs.Field.{𝔾, el, val, val-el, el-zero, P-pos}
 use Rattle.util.proofs.All.{all-from}
-use Rattle.identities.specs.Total.{upTo-cong}
+use Rattle.identities.proofs.Totals.{upTo-cong}
+use Rattle.expression.specs.Expr.{Expr}
 use Rattle.expression.specs.Nodes.{exprOf}
 use Rattle.expression.specs.Value.{valueAt}
 use Rattle.backend.specs.Circuit.{circuitOf, rowsOf, numUser}
@@ -20,12 +21,14 @@ use Rattle.calls.specs.Build.{Output, logOf, wordsOf, checkBuild, buildOf, made
 use Rattle.calls.specs.RowSum.{rowSumOf, sumOf, lentEnvironment}
 use Rattle.calls.specs.Meaning.{Each, Admitted, Premises, Conclusions}
 use Rattle.calls.specs.Demand.{Succeeds, Demand3, DemandThree}
-use Rattle.calls.specs.Facts.{embeds, columns-length, fifteen-by, built-by, written-by}
-use Rattle.calls.specs.ReadsBack.{reads-back}
-use Rattle.completeness.specs.Passed.{yes-all, k-small}
-use Rattle.completeness.specs.Asking.{Lending, lending, sum-yes}
-use Rattle.completeness.specs.Lent.{words-small, lent-value}
-use Rattle.completeness.specs.Whole.{demand-3-of, concluded}
+use Rattle.calls.proofs.Embeds.{embeds}
+use Rattle.calls.proofs.Building.{columns-length, fifteen-by, built-by, written-by}
+use Rattle.calls.proofs.ReadsBack.{reads-back}
+use Rattle.completeness.proofs.Passed.{yes-all, k-small}
+use Rattle.completeness.proofs.Asked.{Lending, lending, sum-yes}
+use Rattle.completeness.proofs.RowSumReads.{words-small, lent-value}
+use Rattle.completeness.proofs.DemandThreeOf.{demand-3-of, concluded}
+use Rattle.completeness.specs.Claims.{RowSumZero}
 
 val-zero : val (𝔾 .zero) ≡ 0
 val-zero = ap val (sym el-zero) ∙ val-el 0 P-pos
@@ -88,7 +91,7 @@ module _ (ws instances witness challenges columns nodes : List ℕ) (asked : che
   sum-zero c α y =
       upTo-cong (𝔾 .add) (𝔾 .zero) _ (valueAt 𝔾 (composedEnvironment 𝔾 log (el α) (λ i. el (getD y i 0))) (compose (circuitOf ws))) (rowsOf (circuitOf ws))
       (λ b m.
-      ap (λ (e : Rattle.expression.specs.Expr.Expr). valueAt 𝔾 (lentEnvironment ws witness lent (challenges ++ (α ∷ [])) y) e b) (reads-back ws)
+      ap (λ (e : Expr). valueAt 𝔾 (lentEnvironment ws witness lent (challenges ++ (α ∷ [])) y) e b) (reads-back ws)
       ∙ lent-value ws instances witness challenges (l .challenges-length) (let q = k-small ws (yes-all ws (l .circuit-yes)) in omega arith) α y (compose (circuitOf ws)) b m)
       ∙ c .composed-sum (el α) (λ i. el (getD y i 0))
 
@@ -122,6 +125,9 @@ module _ (ws instances witness challenges columns nodes : List ℕ) (asked : che
         fifteen = (λ e. d .refused-when .0 (fifteen .0 e), λ n. fifteen .1 (d .refused-when .1 n));
         otherwise = λ p n. succeeds p (covered-unless n);
       }
+
+pub row-sum-zero : RowSumZero
+row-sum-zero ws instances witness challenges columns nodes asked c α y = row-sum ws instances witness challenges columns nodes asked c α y
 
 pub demand-three : DemandThree
 demand-three ws instances witness challenges columns nodes asked = demand-3 ws instances witness challenges columns nodes asked

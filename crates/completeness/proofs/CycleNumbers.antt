@@ -22,11 +22,8 @@ use Rattle.backend.specs.Questions.{q11, goodCell}
 use Rattle.preprocessor.specs.Permutation.{firstLabel}
 use Rattle.prover.specs.Log.{Log}
 use Rattle.prover.specs.Columns.{givenPolys, copiedAt}
-use Rattle.calls.specs.Meaning.{cellValue, Premises}
-use Rattle.completeness.specs.Cells.{out-all, Placed, number-div, number-mod, number-in, same-true}
-
-abbrev pub nowhere : Cell
-nowhere = record { polynomial = 0; row = 0 }
+use Rattle.calls.specs.Meaning.{noCell, cellValue, Premises}
+use Rattle.completeness.proofs.CellNumbers.{out-all, Placed, number-div, number-mod, number-in, same-true}
 
 module _ (c : Circuit) where
   abbrev number : Cell → ℕ
@@ -55,24 +52,24 @@ module _ (c : Circuit) where
       }
 
   module _ (y : q11 c ≡ true) where
-    cycle-fine : (j : ℕ) → j < length (c .cycles) → (i : ℕ) → i < length (getD (c .cycles) j []) → Fine (getD (c .cycles) j []) (getD (getD (c .cycles) j []) i nowhere)
+    cycle-fine : (j : ℕ) → j < length (c .cycles) → (i : ℕ) → i < length (getD (c .cycles) j []) → Fine (getD (c .cycles) j []) (getD (getD (c .cycles) j []) i noCell)
     unfolding q11
     cycle-fine j l i m =
         let cycle : List Cell = getD (c .cycles) j [] in
-        fine-of cycle (getD cycle i nowhere)
-        (all-each (goodCell c cycle) nowhere cycle
+        fine-of cycle (getD cycle i noCell)
+        (all-each (goodCell c cycle) noCell cycle
         (and-right (ltb 0 (length cycle)) (allOf (goodCell c cycle) cycle)
         (all-each (λ cycle. ltb 0 (length cycle) && allOf (goodCell c cycle) cycle) [] (c .cycles) y j l))
         i
         m)
 
-    cell-among : (j : ℕ) → j < length (c .cycles) → (i : ℕ) → i < length (getD (c .cycles) j []) → Among (getD (getD (c .cycles) j []) i nowhere .polynomial) (copied c)
+    cell-among : (j : ℕ) → j < length (c .cycles) → (i : ℕ) → i < length (getD (c .cycles) j []) → Among (getD (getD (c .cycles) j []) i noCell .polynomial) (copied c)
     unfolding copied
     cell-among j l i m =
-        let x : Cell = getD (getD (c .cycles) j []) i nowhere in
+        let x : Cell = getD (getD (c .cycles) j []) i noCell in
         among-those (λ q. anyOf (λ (x : Cell). eqb (x .polynomial) q) (concat (c .cycles))) (x .polynomial) (below (numPoly c))
         (any-concat (λ (z : Cell). eqb (z .polynomial) (x .polynomial)) (c .cycles) j l
-        (any-at (λ (z : Cell). eqb (z .polynomial) (x .polynomial)) nowhere (getD (c .cycles) j []) i m (eq-eqb (x .polynomial) (x .polynomial) refl)))
+        (any-at (λ (z : Cell). eqb (z .polynomial) (x .polynomial)) noCell (getD (c .cycles) j []) i m (eq-eqb (x .polynomial) (x .polynomial) refl)))
         (among-below (numPoly c) (x .polynomial) (cycle-fine j l i m .polynomial-in))
 
     -- every cell of a cycle has a number
@@ -80,7 +77,7 @@ module _ (c : Circuit) where
     cycles-placed =
         all-from (All (Placed c)) (c .cycles) []
         (λ j l.
-        all-from (Placed c) (getD (c .cycles) j []) nowhere
+        all-from (Placed c) (getD (c .cycles) j []) noCell
         (λ i m.
         let f = cycle-fine j l i m in
         let a = f .row-pos in
@@ -90,12 +87,12 @@ module _ (c : Circuit) where
     pub cells-below : All (All (λ (x : Cell). x .polynomial < numPoly c)) (c .cycles)
     cells-below =
         all-from (All (λ (x : Cell). x .polynomial < numPoly c)) (c .cycles) []
-        (λ j l. all-from (λ (x : Cell). x .polynomial < numPoly c) (getD (c .cycles) j []) nowhere (λ i m. cycle-fine j l i m .polynomial-in))
+        (λ j l. all-from (λ (x : Cell). x .polynomial < numPoly c) (getD (c .cycles) j []) noCell (λ i m. cycle-fine j l i m .polynomial-in))
 
     fine-all : All (λ cycle. All (Fine cycle) cycle) (c .cycles)
     fine-all =
         all-from (λ cycle. All (Fine cycle) cycle) (c .cycles) []
-        (λ j l. all-from (Fine (getD (c .cycles) j [])) (getD (c .cycles) j []) nowhere (λ i m. cycle-fine j l i m))
+        (λ j l. all-from (Fine (getD (c .cycles) j [])) (getD (c .cycles) j []) noCell (λ i m. cycle-fine j l i m))
 
     -- ---- the cycles of numbers
     once-of : (xs : List Cell) → All (Placed c) xs → All (λ x. countOf (sameCell x) xs ≤ 1) xs → Nodup (map number xs)
@@ -170,5 +167,5 @@ module _ (𝓕 : Field) (g : Log 𝓕) where
       (all-from (λ C. All (λ x. All (λ y. cellValue 𝓕 g x ≡ cellValue 𝓕 g y) C) C) (g .circuit .cycles) []
       (λ j l.
       let C : List Cell = getD (g .circuit .cycles) j [] in
-      all-from (λ x. All (λ y. cellValue 𝓕 g x ≡ cellValue 𝓕 g y) C) C nowhere
-      (λ i m. all-from (λ y. cellValue 𝓕 g (getD C i nowhere) ≡ cellValue 𝓕 g y) C nowhere (λ n w. p .equal-cells j l i m n w))))
+      all-from (λ x. All (λ y. cellValue 𝓕 g x ≡ cellValue 𝓕 g y) C) C noCell
+      (λ i m. all-from (λ y. cellValue 𝓕 g (getD C i noCell) ≡ cellValue 𝓕 g y) C noCell (λ n w. p .equal-cells j l i m n w))))

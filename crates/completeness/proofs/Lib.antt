@@ -1,0 +1,17 @@
+pub mod Passed
+pub mod WellFormed
+pub mod Counts
+pub mod CellNumbers
+pub mod CycleNumbers
+pub mod Cuts
+pub mod SameRows
+pub mod ReadColumns
+pub mod ComposedZero
+pub mod PermutationZero
+pub mod DemandThreeOf
+pub mod Asked
+pub mod RowSumReads
+pub mod DemandThree
+pub mod Habock
+pub mod Plonk
+pub mod Claims

@@ -1,0 +1,205 @@
+-- PLONK: the labels' source is a permutation of the cells that keeps values, z is the grand product in closed form, and the running
+-- product closes at one: Permutes, Keeps, IsPlonkZ and Closes of Papers. Assumes nothing.
+use mathlib.Core.Path.{_≡_, refl, sym, ap, ap₂, _∙_, subst}
+use mathlib.Core.Bool.{Bool, true, cond}
+use mathlib.Core.List.{List, [], _∷_, map, _++_, map-append}
+use Prim.Native.Nat.{ℕ, _<_, zero, suc, _+_, _*_, _≤_, _-_}
+use native.Mathlib.Decide.{decLt, ℕ-discrete}
+use native.Mathlib.Nat.{mod-eq-of-lt, mul-add-mod-self-right, mul-add-div-right, div-eq-of-lt, add-zero, mul-zero}
+use native.Mathlib.Omega.{arith}
+use lib.ListN.{length, getD, take}
+use lib.Dec.{eqb}
+use lib.Seq.{take-all}
+use borrow.Author.Tests.{eqb-true}
+use Rattle.field.specs.Algebra.{Field, product-append}
+use Rattle.field.specs.Algebra as Algebra
+use Rattle.bh.specs.Sums.{upTo}
+use Rattle.bh.specs.Rows.{rowAt}
+use Rattle.util.specs.Lists.{indexOf, All, below, concat}
+use Rattle.util.proofs.Tests.{and-left, and-right, by-test}
+use Rattle.util.proofs.Totals.{concat-cut}
+use Rattle.identities.proofs.Cycles.{good-labels}
+use Rattle.identities.proofs.Walk.{unit-copied}
+use Rattle.identities.specs.Copies.{atCell}
+use Rattle.identities.proofs.Totals.{upTo-cong, upTo-add, upTo-flat, upTo-first, upTo-zero, upTo-units}
+use Rattle.identities.proofs.Fields.{muls}
+use Rattle.identities.proofs.Copies.{safe-parts, balanced}
+use Rattle.backend.specs.Circuit.{Circuit, Cell, sameCell, rowsOf, copied, numCopied}
+use Rattle.backend.specs.Questions.{q11}
+use Rattle.preprocessor.specs.Permutation.{lastCell, beforeFrom, before, source, firstLabel}
+use Rattle.preprocessor.specs.Compose.{numZ, zCut}
+use Rattle.prover.specs.Log.{Log}
+use Rattle.prover.specs.Columns.{copiedAt, ratioAt, partAt, stepAt, runningAt, zAtPlace}
+use Rattle.calls.specs.Meaning.{cellValue}
+use Rattle.calls.specs.Papers.{Permutes, Keeps, plonkZ, IsPlonkZ, Closes}
+use Rattle.completeness.proofs.CellNumbers.{Placed, same-polynomial, same-row, source-placed, source-agree}
+use Rattle.completeness.proofs.CycleNumbers.{cycles-placed, cycles-good, copied-good, value-at}
+use Rattle.completeness.proofs.DemandThreeOf.{eleven, kp, ks}
+use Rattle.completeness.proofs.Cuts.{partSize, size-pos, z-pos, covers, parts-of-z, none-z}
+use Rattle.completeness.proofs.PermutationZero.{φ, Cs, A, B, factor-agree, running-agree}
+use Rattle.identities.specs.Running.{scan}
+use Rattle.identities.proofs.Running.{z-scan, closes as running-closes}
+
+same-cell : (x y : Cell) → x .polynomial ≡ y .polynomial → x .row ≡ y .row → x ≡ y
+same-cell x y p r = ap₂ (λ (q b : ℕ). record { polynomial = q; row = b }) p r
+
+cell-same : (x y : Cell) → sameCell x y ≡ true → x ≡ y
+cell-same x y e =
+    let s : Bool = eqb (x .polynomial) (y .polynomial) in
+    let t : Bool = eqb (x .row) (y .row) in
+    same-cell x y (eqb-true (x .polynomial) (y .polynomial) (and-left s t e)) (eqb-true (x .row) (y .row) (and-right s t e))
+
+module _ (c : Circuit) where
+  placed? : (x : Cell) → Dec (Placed c x)
+  placed? x = go (decLt (indexOf (x .polynomial) (copied c)) (length (copied c))) (decLt (x .row) (rowsOf c))
+    where
+      go : Dec (indexOf (x .polynomial) (copied c) < length (copied c)) → Dec (x .row < rowsOf c) → Dec (Placed c x)
+      go (yes p) (yes q) = yes (record { column-in = p; row-in = q })
+      go (no p) d = no (λ h. p (h .column-in))
+      go (yes p) (no q) = no (λ h. q (h .row-in))
+
+  -- a cell that is in no cycle stays
+  from-out : (p : Cell) (ys : List Cell) (x : Cell) → All (Placed c) ys → ¬ Placed c x → beforeFrom p ys x ≡ x
+  unfolding beforeFrom
+  from-out p [] x a n = refl
+  from-out p (y ∷ ys) x a n = by-test (sameCell x y) (λ e. absurd (n (subst (Placed c) (sym (cell-same x y e)) (a .0)))) (λ e. ap (λ (t : Bool). cond t p (beforeFrom y ys x)) e ∙ from-out y ys x (a .1) n)
+
+  before-out : (ys : List Cell) (x : Cell) → All (Placed c) ys → ¬ Placed c x → before ys x ≡ x
+  unfolding before
+  before-out [] x a n = refl
+  before-out (y ∷ ys) x a n = from-out (lastCell y ys) (y ∷ ys) x a n
+
+  source-out : (Cs : List (List Cell)) (x : Cell) → All (All (Placed c)) Cs → ¬ Placed c x → source Cs x ≡ x
+  unfolding source
+  source-out [] x a n = refl
+  source-out (C ∷ Cs) x a n = ap (before C) (source-out Cs x (a .1) n) ∙ before-out C x (a .0) n
+
+  pub source-apart : q11 c ≡ true → (x y : Cell) → source (c .cycles) x ≡ source (c .cycles) y → x ≡ y
+  source-apart e x y h = go (placed? x) (placed? y)
+    where
+      a : All (All (Placed c)) (c .cycles)
+      a = cycles-placed c e
+
+      Cs : List (List ℕ)
+      Cs = map (map (firstLabel c)) (c .cycles)
+
+      go : Dec (Placed c x) → Dec (Placed c y) → x ≡ y
+      go (yes p) (yes q) =
+          let n : firstLabel c x ≡ firstLabel c y =
+          good-labels (numCopied c) (rowsOf c) (λ n. tt) Cs (cycles-good c e) (unit-copied Cs) .apart (firstLabel c x) (firstLabel c y)
+          (sym (source-agree c (c .cycles) x a p) ∙ ap (firstLabel c) h ∙ source-agree c (c .cycles) y a q) in
+          same-cell x y (same-polynomial c x y p q n) (same-row c x y p q n)
+      go (yes p) (no q) = absurd (q (subst (Placed c) (h ∙ source-out (c .cycles) y a q) (source-placed c (c .cycles) x a p)))
+      go (no p) (yes q) = absurd (p (subst (Placed c) (sym h ∙ source-out (c .cycles) x a p) (source-placed c (c .cycles) y a q)))
+      go (no p) (no q) = sym (source-out (c .cycles) x a p) ∙ h ∙ source-out (c .cycles) y a q
+
+module _ (𝓕 : Field) (g : Log 𝓕) where
+  pub permutes : Permutes 𝓕 g
+  permutes ad x y h = source-apart (g .circuit) (eleven 𝓕 g ad) x y h
+
+  pub keeps : Keeps 𝓕 g
+  keeps ad p x = go (placed? (g .circuit) x)
+    where
+      a : All (All (Placed (g .circuit))) (g .circuit .cycles)
+      a = cycles-placed (g .circuit) (eleven 𝓕 g ad)
+
+      Cs : List (List ℕ)
+      Cs = map (map (firstLabel (g .circuit))) (g .circuit .cycles)
+
+      v : ℕ → 𝓕 .F
+      v = atCell (rowsOf (g .circuit)) (copiedAt 𝓕 g)
+
+      go : Dec (Placed (g .circuit) x) → cellValue 𝓕 g (source (g .circuit .cycles) x) ≡ cellValue 𝓕 g x
+      go (yes h) =
+          sym (value-at 𝓕 g (source (g .circuit .cycles) x) (source-placed (g .circuit) (g .circuit .cycles) x a h))
+          ∙ ap v (source-agree (g .circuit) (g .circuit .cycles) x a h)
+          ∙ good-labels (numCopied (g .circuit)) (rowsOf (g .circuit)) v Cs (cycles-good (g .circuit) (eleven 𝓕 g ad)) (copied-good 𝓕 g (eleven 𝓕 g ad) p) .same (firstLabel (g .circuit) x)
+          ∙ value-at 𝓕 g x h
+      go (no h) = ap (cellValue 𝓕 g) (source-out (g .circuit) (g .circuit .cycles) x a h)
+
+-- ---- the grand product
+module _ (𝓕 : Field) where
+  open Field 𝓕 using (F, one, mul)
+
+  -- products over parts
+  parts-product : (f : ℕ → F) (i : ℕ) (xss : List (List ℕ))
+      → upTo mul one (λ j. Algebra.product 𝓕 (map f (getD xss j []))) i ≡ Algebra.product 𝓕 (map f (concat (take i xss)))
+  unfolding concat Algebra.product
+  parts-product f zero xss = upTo-zero mul one (λ j. Algebra.product 𝓕 (map f (getD xss j [])))
+  parts-product f (suc i) [] = upTo-units mul one (muls 𝓕) (λ j. Algebra.product 𝓕 (map f (getD [] j []))) (suc i) (λ j l. refl)
+  parts-product f (suc i) (xs ∷ xss) =
+      upTo-first mul one (muls 𝓕) (λ j. Algebra.product 𝓕 (map f (getD (xs ∷ xss) j []))) i
+      ∙ ap (mul (Algebra.product 𝓕 (map f xs))) (parts-product f i xss)
+      ∙ sym (product-append 𝓕 (map f xs) (map f (concat (take i xss))))
+      ∙ ap (Algebra.product 𝓕) (sym (map-append f xs (concat (take i xss))))
+
+  module _ (g : Log 𝓕) where
+    whole : 0 < numCopied (g .circuit) → concat (take (numZ (g .circuit)) (zCut (g .circuit))) ≡ below (numCopied (g .circuit))
+    unfolding zCut
+    whole p =
+        let n : ℕ = numCopied (g .circuit) in
+        let s : ℕ = partSize (g .circuit) p in
+        let q = parts-of-z (g .circuit) in
+        ap concat (take-all (numZ (g .circuit)) (zCut (g .circuit)) (omega arith)) ∙ concat-cut s (below n) (size-pos (g .circuit) p)
+
+    step-at : (s j : ℕ) → j < numZ (g .circuit) → stepAt 𝓕 g (s * numZ (g .circuit) + j) ≡ partAt 𝓕 g (getD (zCut (g .circuit)) j []) (rowAt (g .circuit .k) (suc s))
+    unfolding stepAt
+    step-at s j l =
+        ap₂ (λ (x y : ℕ). partAt 𝓕 g (getD (zCut (g .circuit)) x []) (rowAt (g .circuit .k) (suc y))) (mul-add-mod-self-right s (numZ (g .circuit)) j ∙ mod-eq-of-lt l)
+        (mul-add-div-right {m = numZ (g .circuit)} (omega arith) s j ∙ ap (λ (x : ℕ). s + x) (div-eq-of-lt l) ∙ add-zero s)
+
+    steps-at : (s i : ℕ) → i ≤ numZ (g .circuit)
+        → upTo mul one (λ j. stepAt 𝓕 g (s * numZ (g .circuit) + j)) i
+        ≡ Algebra.product 𝓕 (map (ratioAt 𝓕 g (rowAt (g .circuit .k) (suc s))) (concat (take i (zCut (g .circuit)))))
+    unfolding partAt
+    steps-at s i m =
+        upTo-cong mul one (λ j. stepAt 𝓕 g (s * numZ (g .circuit) + j)) (λ j. partAt 𝓕 g (getD (zCut (g .circuit)) j []) (rowAt (g .circuit .k) (suc s))) i
+        (λ j l. step-at s j (omega arith))
+        ∙ parts-product (ratioAt 𝓕 g (rowAt (g .circuit .k) (suc s))) i (zCut (g .circuit))
+
+    pub is-plonk-z : IsPlonkZ 𝓕 g
+    unfolding plonkZ zAtPlace runningAt
+    is-plonk-z i t l m =
+        upTo-add mul one (muls 𝓕) (stepAt 𝓕 g) (t * numZ (g .circuit)) i
+        ∙ ap₂ mul
+        (sym (upTo-flat mul one (muls 𝓕) (stepAt 𝓕 g) t (numZ (g .circuit)))
+        ∙ upTo-cong mul one (λ s. upTo mul one (λ j. stepAt 𝓕 g (s * numZ (g .circuit) + j)) (numZ (g .circuit)))
+        (λ s. Algebra.product 𝓕 (map (ratioAt 𝓕 g (rowAt (g .circuit .k) (suc s))) (below (numCopied (g .circuit))))) t
+        (λ s w.
+        steps-at s (numZ (g .circuit)) (omega arith)
+        ∙ ap (λ (xs : List ℕ). Algebra.product 𝓕 (map (ratioAt 𝓕 g (rowAt (g .circuit .k) (suc s))) xs)) (whole pos)))
+        (steps-at t i (omega arith))
+      where
+        pos : 0 < numCopied (g .circuit)
+        pos = go (native.Mathlib.Decide.ℕ-discrete (numCopied (g .circuit)) 0)
+          where
+            go : Dec (numCopied (g .circuit) ≡ 0) → 0 < numCopied (g .circuit)
+            go (yes e) = let z = none-z (g .circuit) e in absurd (bad z)
+              where
+                bad : numZ (g .circuit) ≡ 0 → ⊥
+                bad z = omega arith
+            go (no n) = omega arith
+
+    pub closes : Closes 𝓕 g
+    unfolding runningAt
+    closes ad p = go (ℕ-discrete (numCopied (g .circuit)) 0)
+      where
+        M : ℕ
+        M = rowsOf (g .circuit)
+
+        go : Dec (numCopied (g .circuit) ≡ 0) → runningAt 𝓕 g ((M - 1) * numZ (g .circuit)) ≡ one
+        go (no n) =
+            let pos : 0 < numCopied (g .circuit) = omega arith in
+            let N : ℕ = numZ (g .circuit) in
+            let a : ℕ → ℕ → F = A 𝓕 g pos (kp 𝓕 g ad) (ks 𝓕 g ad) (eleven 𝓕 g ad) in
+            let b : ℕ → ℕ → F = B 𝓕 g pos (kp 𝓕 g ad) (ks 𝓕 g ad) (eleven 𝓕 g ad) in
+            running-agree 𝓕 g pos (kp 𝓕 g ad) (ks 𝓕 g ad) (eleven 𝓕 g ad) ((M - 1) * N)
+            ∙ ap (scan 𝓕 (g .circuit .k) N a b) (sym (add-zero ((M - 1) * N)))
+            ∙ sym (z-scan 𝓕 (g .circuit .k) N a b 0 (M - 1) (z-pos (g .circuit) pos) (omega arith))
+            ∙ running-closes 𝓕 (g .circuit .k) N a b (kp 𝓕 g ad) (ks 𝓕 g ad)
+            (safe-parts 𝓕 (g .circuit .k) (numCopied (g .circuit)) (partSize (g .circuit) pos) (copiedAt 𝓕 g) (φ 𝓕 g) (Cs 𝓕 g) N
+            (λ i r l q m e. p .factor-denominators i l r m q (factor-agree 𝓕 g pos (kp 𝓕 g ad) (ks 𝓕 g ad) (eleven 𝓕 g ad) i r l m ∙ e)))
+            (balanced 𝓕 (g .circuit .k) (numCopied (g .circuit)) (partSize (g .circuit) pos) (copiedAt 𝓕 g) (φ 𝓕 g) (Cs 𝓕 g) N (covers (g .circuit) pos)
+            (cycles-good (g .circuit) (eleven 𝓕 g ad))
+            (copied-good 𝓕 g (eleven 𝓕 g ad) p))
+        go (yes e) = ap (runningAt 𝓕 g) (ap (λ (n : ℕ). (M - 1) * n) (none-z (g .circuit) e) ∙ mul-zero (M - 1)) ∙ upTo-zero mul one (stepAt 𝓕 g)

@@ -1,0 +1,86 @@
+-- All that is claimed of the definitions, in one place. Each is proved in proofs/, under the name it has here. Assumes nothing.
+use mathlib.Core.Path.{_≡_}
+use mathlib.Core.Logic.{_↔_}
+use mathlib.Core.Bool.{Bool, false}
+use mathlib.Core.List.{List, [], _∷_, _++_}
+use Prim.Native.Nat.{ℕ, _*_, _<_}
+use lib.ListN.{length, getD, take, drop}
+use Rattle.field.specs.Prime.{P}
+use Rattle.field.specs.Algebra.{Field}
+use Rattle.field.specs.Field.{𝔾}
+use Rattle.util.specs.Lists.{below, ceilDiv}
+use Rattle.expression.specs.Expr.{Expr}
+use Rattle.expression.specs.Value.{Environment, valueAt}
+use Rattle.backend.specs.Circuit.{Circuit, circuitOf, rowsOf, numCopied, numPoly, numUser}
+use Rattle.backend.specs.Questions.{PassedIsWellFormed}
+use Rattle.preprocessor.specs.Compose.{numZ, constraintCut, zCut, composedWords}
+use Rattle.prover.specs.Log.{Log}
+use Rattle.prover.specs.Columns.{allCovered, writtenPolys, userEnvironment, composedEnvironment}
+use Rattle.calls.specs.Build.{logOf, wordsOf, checkBuild}
+use Rattle.calls.specs.RowSum.{rowSumOf}
+use Rattle.calls.specs.Meaning.{Each, Admitted, NoCounts, Conclusions, DemandThreeOf}
+use Rattle.calls.specs.Demand.{DemandThree}
+use Rattle.calls.specs.Composed.{ReadsBack, LookupZero, StartZero, PartZero, ComposeValue, Reads}
+use Rattle.calls.specs.Papers.{PartsOfZ, SameTotals, CountsTurn, IsHabockH, HabockSum, Permutes, Keeps, IsPlonkZ, Closes}
+use Rattle.completeness.specs.Scope.{Scoped}
+
+-- "Then 15 is given exactly when, for some lookup, no column of whole counts turns the compressed table into the compressed inputs"
+abbrev pub RefusedWhen : Type 1
+RefusedWhen = (𝓕 : Field) (g : Log 𝓕) → (allCovered 𝓕 g ≡ false) ↔ NoCounts 𝓕 g
+
+-- a user expression has one value over what the user gives and over all columns
+abbrev pub UserValue : Type 1
+UserValue =
+    (𝓕 : Field) (g : Log 𝓕) → Admitted 𝓕 g → (α : 𝓕 .F) (y : ℕ → 𝓕 .F) (e : Expr) → Scoped (numPoly (g .circuit)) (numUser (g .circuit)) e
+    → (b : ℕ) → valueAt 𝓕 (composedEnvironment 𝓕 g α y) e b ≡ valueAt 𝓕 (userEnvironment 𝓕 g) e b
+
+-- "both cuts of the copied columns alike": then part j of the constraints' cut is the n/N (rounded up) columns from j times that on
+abbrev pub PartsAlike : Type 0
+PartsAlike =
+    (c : Circuit) → constraintCut c ≡ zCut c → 0 < numCopied c → (j : ℕ)
+    → getD (constraintCut c) j []
+    ≡ take (ceilDiv (numCopied c) (numZ c)) (drop (j * ceilDiv (numCopied c) (numZ c)) (below (numCopied c)))
+
+-- "and the row sum, given what that build wrote, answers so"
+abbrev pub RowSumZero : Type 0
+RowSumZero =
+    (ws instances witness challenges columns nodes : List ℕ) → checkBuild ws instances witness challenges columns nodes ≡ 0
+    → Conclusions 𝔾 (logOf ws instances witness challenges)
+    → (α : ℕ) (y : List ℕ) → α < P → length y ≡ circuitOf ws .k → Each 0 y (λ v. v < P)
+    → rowSumOf ws witness (wordsOf (rowsOf (circuitOf ws)) (writtenPolys 𝔾 (logOf ws instances witness challenges)))
+    (composedWords (circuitOf ws))
+    (challenges ++ (α ∷ []))
+    y
+    ≡ record { number = 0; sum = 0 }
+
+pub record Claims : Type 1 where
+  -- demand 3, over any field and at 𝔾 with the words
+  pub demand-three-of : DemandThreeOf
+  pub demand-three : DemandThree
+  pub refused-when : RefusedWhen
+  pub row-sum-zero : RowSumZero
+
+  -- what the composed constraints say, over any field and any columns, and what they read of a log
+  pub reads-back : ReadsBack
+  pub lookup-zero : (𝓕 : Field) (s : Environment 𝓕) (c : Circuit) → LookupZero 𝓕 s c
+  pub start-zero : (𝓕 : Field) (s : Environment 𝓕) (c : Circuit) → StartZero 𝓕 s c
+  pub part-zero : (𝓕 : Field) (s : Environment 𝓕) (c : Circuit) → PartZero 𝓕 s c
+  pub compose-value : (𝓕 : Field) (s : Environment 𝓕) (c : Circuit) → ComposeValue 𝓕 s c
+  pub reads : (𝓕 : Field) (g : Log 𝓕) (α : 𝓕 .F) (y : ℕ → 𝓕 .F) → Reads 𝓕 g α y
+  pub user-value : UserValue
+
+  -- the cuts, and the questions
+  pub parts-of-z : (c : Circuit) → PartsOfZ c
+  pub parts-alike : PartsAlike
+  pub passed-is-well-formed : PassedIsWellFormed
+
+  -- the papers
+  pub counts-turn : (𝓕 : Field) (el : ℕ → 𝓕 .F) (rows : ℕ) (input table : ℕ → 𝓕 .F) → CountsTurn 𝓕 el rows input table
+  pub same-totals : (𝓕 : Field) (el : ℕ → 𝓕 .F) (rows : ℕ) (input table : ℕ → 𝓕 .F) → SameTotals 𝓕 el rows input table
+  pub is-habock-h : (𝓕 : Field) (el : ℕ → 𝓕 .F) (rows : ℕ) (input table : ℕ → 𝓕 .F) (γ : 𝓕 .F) (m : ℕ → 𝓕 .F)
+      → IsHabockH 𝓕 el rows input table γ m
+  pub habock-sum : (𝓕 : Field) (el : ℕ → 𝓕 .F) (rows : ℕ) (input table : ℕ → 𝓕 .F) (γ : 𝓕 .F) → HabockSum 𝓕 el rows input table γ
+  pub permutes : (𝓕 : Field) (g : Log 𝓕) → Permutes 𝓕 g
+  pub keeps : (𝓕 : Field) (g : Log 𝓕) → Keeps 𝓕 g
+  pub is-plonk-z : (𝓕 : Field) (g : Log 𝓕) → IsPlonkZ 𝓕 g
+  pub closes : (𝓕 : Field) (g : Log 𝓕) → Closes 𝓕 g
