@@ -18,7 +18,16 @@ use Rattle.expression.proofs.FlatLength.{flat-length}
 use Rattle.backend.specs.Circuit.{Circuit, circuitOf, rowsOf, numInstance, numCopied, numLookups}
 use Rattle.preprocessor.specs.Compose.{numZ, compose, composedWords, composedNodes}
 use Rattle.prover.specs.Log.{Log}
-use Rattle.prover.specs.Columns.{allCovered, instancePolys, permutationPolys, compressedPolys, mPolys, hPolys, zPolys, writtenPolys}
+use Rattle.prover.specs.Columns.{
+  allCovered,
+  instancePolys,
+  permutationPolys,
+  compressedPolys,
+  mPolys,
+  hPolys,
+  zPolys,
+  writtenPolys,
+}
 use Rattle.calls.specs.Build.{Output, logOf, wordsOf, columnWords, checkBuild, refusal, made, zeroed, buildLog, buildOf}
 use Rattle.calls.specs.Demand.{Written}
 

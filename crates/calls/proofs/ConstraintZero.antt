@@ -19,7 +19,15 @@ use Rattle.expression.specs.Expr.{Expr, evaluate, productFrom, productOf}
 use Rattle.expression.specs.Value.{Environment, polyOf, valueOps, valueAt}
 use Rattle.backend.specs.Circuit.{Circuit, numUser, zNumber}
 use Rattle.backend.specs.Constraints.{lookupConstraint}
-use Rattle.preprocessor.specs.Compose.{numZ, constraintCut, nextZ, identityFactor, permutationFactor, partConstraint, startConstraint}
+use Rattle.preprocessor.specs.Compose.{
+  numZ,
+  constraintCut,
+  nextZ,
+  identityFactor,
+  permutationFactor,
+  partConstraint,
+  startConstraint,
+}
 use Rattle.calls.specs.Meaning.{Embeds}
 use Rattle.calls.proofs.Embeds.{embeds-one}
 use Rattle.calls.specs.Composed.{inputIn, tableIn, nextIn, LookupZero, StartZero, PartZero}

@@ -12,9 +12,35 @@ use Rattle.expression.specs.Expr.{Expr, distributePowers, at}
 use Rattle.expression.specs.Nodes.{kept, exprOf}
 use Rattle.expression.proofs.Within.{powers-within, product-within}
 use Rattle.expression.proofs.ReadBack.{kept-signs, Kept, read-kept, read-back}
-use Rattle.backend.specs.Circuit.{Section, Circuit, Pair, circuitOf, bodyOf, entries, pairAt, numLookups, numCopied, hNumber, zNumber}
+use Rattle.backend.specs.Circuit.{
+  Section,
+  Circuit,
+  Pair,
+  circuitOf,
+  bodyOf,
+  entries,
+  pairAt,
+  numLookups,
+  numCopied,
+  hNumber,
+  zNumber,
+}
 use Rattle.backend.specs.Constraints.{betaOf, alphaOf, inputsOf, tablesOf, lookupConstraint, lookupConstraints}
-use Rattle.preprocessor.specs.Compose.{numZ, constraintCut, identityFactor, permutationFactor, nextZ, partConstraint, startConstraint, permutationConstraints, composedConstraints, zeroCheck, compose, composedWords, composedNodes}
+use Rattle.preprocessor.specs.Compose.{
+  numZ,
+  constraintCut,
+  identityFactor,
+  permutationFactor,
+  nextZ,
+  partConstraint,
+  startConstraint,
+  permutationConstraints,
+  composedConstraints,
+  zeroCheck,
+  compose,
+  composedWords,
+  composedNodes,
+}
 use Rattle.calls.specs.Composed.{ReadsBack}
 
 abbrev PairKept : Pair → Type 0

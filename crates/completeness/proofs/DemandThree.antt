@@ -21,7 +21,7 @@ use Rattle.calls.specs.Build.{Output, logOf, wordsOf, checkBuild, buildOf, made
 use Rattle.calls.specs.RowSum.{rowSumOf, sumOf, lentEnvironment}
 use Rattle.calls.specs.Meaning.{Each, Admitted, Premises, Conclusions}
 use Rattle.calls.specs.Demand.{Succeeds, Demand3, DemandThree}
-use Rattle.calls.proofs.Embeds.{embeds}
+use Rattle.calls.proofs.Embeds.{embeds, val-zero}
 use Rattle.calls.proofs.Building.{columns-length, fifteen-by, built-by, written-by}
 use Rattle.calls.proofs.ReadsBack.{reads-back}
 use Rattle.completeness.proofs.Passed.{yes-all, k-small}
@@ -29,9 +29,6 @@ use Rattle.completeness.proofs.Asked.{Lending, lending, sum-yes}
 use Rattle.completeness.proofs.RowSumReads.{words-small, lent-value}
 use Rattle.completeness.proofs.DemandThreeOf.{demand-3-of, concluded}
 use Rattle.completeness.specs.Claims.{RowSumZero}
-
-val-zero : val (𝔾 .zero) ≡ 0
-val-zero = ap val (sym el-zero) ∙ val-el 0 P-pos
 
 module _ (ws instances witness challenges columns nodes : List ℕ) (asked : checkBuild ws instances witness challenges columns nodes ≡ 0) where
   abbrev log : Log 𝔾

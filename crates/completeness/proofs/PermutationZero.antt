@@ -27,18 +27,39 @@ use Rattle.expression.specs.Expr.{Expr}
 use Rattle.expression.specs.Value.{Environment, valueAt}
 use Rattle.backend.specs.Circuit.{rowsOf, numCopied, zNumber}
 use Rattle.backend.specs.Questions.{q11}
-use Rattle.preprocessor.specs.Compose.{numZ, zCut, constraintCut, identityFactor, permutationFactor, startConstraint, partConstraint}
+use Rattle.preprocessor.specs.Compose.{
+  numZ,
+  zCut,
+  constraintCut,
+  identityFactor,
+  permutationFactor,
+  startConstraint,
+  partConstraint,
+}
 use Rattle.preprocessor.specs.Permutation.{firstLabel}
 use Rattle.prover.specs.Log.{Log}
-use Rattle.prover.specs.Columns.{permutationAt, copiedAt, identityFactorAt, permutationFactorAt, ratioAt, partAt, stepAt, runningAt, zAtPlace, zAt, composedEnvironment}
+use Rattle.prover.specs.Columns.{
+  permutationAt,
+  copiedAt,
+  identityFactorAt,
+  permutationFactorAt,
+  ratioAt,
+  partAt,
+  stepAt,
+  runningAt,
+  zAtPlace,
+  zAt,
+  composedEnvironment,
+}
 use Rattle.calls.specs.Meaning.{Admitted, EachRow, Premises}
 use Rattle.calls.specs.Composed.{column-at, nextIn, over-part, PartHolds}
 use Rattle.calls.proofs.ConstraintZero.{start-zero, part-zero}
 use Rattle.completeness.proofs.CellNumbers.{label-agree}
 use Rattle.completeness.proofs.CycleNumbers.{cycles-placed, cycles-good, copied-good}
-use Rattle.completeness.proofs.Cuts.{product-part, z-pos, partSize, covers, z-part, parts-alike}
+use Rattle.completeness.proofs.Cuts.{z-pos, partSize, covers, z-part, parts-alike}
 use Rattle.completeness.proofs.ReadColumns.{reads}
 use Rattle.completeness.proofs.ComposedZero.{embeds-in}
+use Rattle.identities.proofs.Products.{product-part}
 
 module _ (𝓕 : Field) (g : Log 𝓕) where
   open Field 𝓕 using (F, zero as nil, one, add, mul, neg, inv)

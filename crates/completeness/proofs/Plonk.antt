@@ -39,6 +39,7 @@ use Rattle.completeness.proofs.Cuts.{partSize, size-pos, z-pos, covers,
 use Rattle.completeness.proofs.PermutationZero.{φ, Cs, A, B, factor-agree, running-agree}
 use Rattle.identities.specs.Running.{scan}
 use Rattle.identities.proofs.Running.{z-scan, closes as running-closes}
+use Rattle.identities.proofs.Products.{parts-product}
 
 same-cell : (x y : Cell) → x .polynomial ≡ y .polynomial → x .row ≡ y .row → x ≡ y
 same-cell x y p r = ap₂ (λ (q b : ℕ). record { polynomial = q; row = b }) p r
@@ -121,18 +122,6 @@ module _ (𝓕 : Field) (g : Log 𝓕) where
 module _ (𝓕 : Field) where
   open Field 𝓕 using (F, one, mul)
 
-  -- products over parts
-  parts-product : (f : ℕ → F) (i : ℕ) (xss : List (List ℕ))
-      → upTo mul one (λ j. Algebra.product 𝓕 (map f (getD xss j []))) i ≡ Algebra.product 𝓕 (map f (concat (take i xss)))
-  unfolding concat Algebra.product
-  parts-product f zero xss = upTo-zero mul one (λ j. Algebra.product 𝓕 (map f (getD xss j [])))
-  parts-product f (suc i) [] = upTo-units mul one (muls 𝓕) (λ j. Algebra.product 𝓕 (map f (getD [] j []))) (suc i) (λ j l. refl)
-  parts-product f (suc i) (xs ∷ xss) =
-      upTo-first mul one (muls 𝓕) (λ j. Algebra.product 𝓕 (map f (getD (xs ∷ xss) j []))) i
-      ∙ ap (mul (Algebra.product 𝓕 (map f xs))) (parts-product f i xss)
-      ∙ sym (product-append 𝓕 (map f xs) (map f (concat (take i xss))))
-      ∙ ap (Algebra.product 𝓕) (sym (map-append f xs (concat (take i xss))))
-
   module _ (g : Log 𝓕) where
     whole : 0 < numCopied (g .circuit) → concat (take (numZ (g .circuit)) (zCut (g .circuit))) ≡ below (numCopied (g .circuit))
     unfolding zCut
@@ -155,7 +144,7 @@ module _ (𝓕 : Field) where
     steps-at s i m =
         upTo-cong mul one (λ j. stepAt 𝓕 g (s * numZ (g .circuit) + j)) (λ j. partAt 𝓕 g (getD (zCut (g .circuit)) j []) (rowAt (g .circuit .k) (suc s))) i
         (λ j l. step-at s j (omega arith))
-        ∙ parts-product (ratioAt 𝓕 g (rowAt (g .circuit .k) (suc s))) i (zCut (g .circuit))
+        ∙ parts-product 𝓕 (ratioAt 𝓕 g (rowAt (g .circuit .k) (suc s))) i (zCut (g .circuit))
 
     pub is-plonk-z : IsPlonkZ 𝓕 g
     unfolding plonkZ zAtPlace runningAt

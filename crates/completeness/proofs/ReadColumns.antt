@@ -13,11 +13,47 @@ use Rattle.util.proofs.All.{all-get, all-column, all-those, all-mapped, map-sam
 use Rattle.expression.specs.Expr.{Expr, evaluate, distributePowers}
 use Rattle.expression.specs.Value.{polyOf, valueOps, valueAt}
 use Rattle.expression.proofs.Agree.{agree-value}
-use Rattle.backend.specs.Circuit.{Pair, Circuit, rowsOf, numUser, numPoly, numLookups, copied, numCopied, permNumber, mNumber, hNumber, zNumber}
+use Rattle.backend.specs.Circuit.{
+  Pair,
+  Circuit,
+  rowsOf,
+  numUser,
+  numPoly,
+  numLookups,
+  copied,
+  numCopied,
+  permNumber,
+  mNumber,
+  hNumber,
+  zNumber,
+}
 use Rattle.backend.specs.Constraints.{betaOf, inputsOf, tablesOf}
 use Rattle.preprocessor.specs.Compose.{numZ, identityFactor, permutationFactor}
 use Rattle.prover.specs.Log.{Log}
-use Rattle.prover.specs.Columns.{powerSum, instancePolys, preprocessPolys, witnessPolys, givenPolys, userEnvironment, compressedAt, inputAt, tableAt, mAt, lookupHAt, permutationAt, copiedAt, identityFactorAt, permutationFactorAt, zAt, permutationPolys, mPolys, hPolys, zPolys, allPolys, composedEnvironment}
+use Rattle.prover.specs.Columns.{
+  powerSum,
+  instancePolys,
+  preprocessPolys,
+  witnessPolys,
+  givenPolys,
+  userEnvironment,
+  compressedAt,
+  inputAt,
+  tableAt,
+  mAt,
+  lookupHAt,
+  permutationAt,
+  copiedAt,
+  identityFactorAt,
+  permutationFactorAt,
+  zAt,
+  permutationPolys,
+  mPolys,
+  hPolys,
+  zPolys,
+  allPolys,
+  composedEnvironment,
+}
 use Rattle.calls.proofs.Embeds.{embeds-add}
 use Rattle.calls.specs.Meaning.{Admitted}
 use Rattle.calls.specs.Composed.{inputIn, tableIn, ReadAs}

@@ -18,7 +18,22 @@ use Rattle.backend.specs.Circuit.{circuitOf, rowsOf, numInstance, numUser, numC
 use Rattle.multilinear.specs.EqXY.{eqAt}
 use Rattle.preprocessor.specs.Compose.{numZ}
 use Rattle.prover.specs.Log.{Log}
-use Rattle.prover.specs.Columns.{inputAt, tableAt, instancePolys, preprocessPolys, witnessPolys, givenPolys, permutationPolys, compressedPolys, mPolys, hPolys, zPolys, allPolys, writtenPolys, composedEnvironment}
+use Rattle.prover.specs.Columns.{
+  inputAt,
+  tableAt,
+  instancePolys,
+  preprocessPolys,
+  witnessPolys,
+  givenPolys,
+  permutationPolys,
+  compressedPolys,
+  mPolys,
+  hPolys,
+  zPolys,
+  allPolys,
+  writtenPolys,
+  composedEnvironment,
+}
 use Rattle.calls.specs.Build.{logOf, wordsOf}
 use Rattle.calls.specs.RowSum.{lentColumn, lentPolys, lentEnvironment}
 use Rattle.completeness.proofs.ReadColumns.{perm-length, m-length, h-length}

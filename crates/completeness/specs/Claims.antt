@@ -1,7 +1,7 @@
 -- All that is claimed of the definitions, in one place. Each is proved in proofs/, under the name it has here. Assumes nothing.
 use mathlib.Core.Path.{_≡_}
 use mathlib.Core.Logic.{_↔_}
-use mathlib.Core.Bool.{Bool, false}
+use mathlib.Core.Bool.{Bool, true, false}
 use mathlib.Core.List.{List, [], _∷_, _++_}
 use Prim.Native.Nat.{ℕ, _*_, _<_}
 use lib.ListN.{length, getD, take, drop}
@@ -59,7 +59,6 @@ pub record Claims : Type 1 where
   pub demand-three : DemandThree
   pub refused-when : RefusedWhen
   pub row-sum-zero : RowSumZero
-
   -- what the composed constraints say, over any field and any columns, and what they read of a log
   pub reads-back : ReadsBack
   pub lookup-zero : (𝓕 : Field) (s : Environment 𝓕) (c : Circuit) → LookupZero 𝓕 s c
@@ -68,12 +67,10 @@ pub record Claims : Type 1 where
   pub compose-value : (𝓕 : Field) (s : Environment 𝓕) (c : Circuit) → ComposeValue 𝓕 s c
   pub reads : (𝓕 : Field) (g : Log 𝓕) (α : 𝓕 .F) (y : ℕ → 𝓕 .F) → Reads 𝓕 g α y
   pub user-value : UserValue
-
   -- the cuts, and the questions
   pub parts-of-z : (c : Circuit) → PartsOfZ c
   pub parts-alike : PartsAlike
   pub passed-is-well-formed : PassedIsWellFormed
-
   -- the papers
   pub counts-turn : (𝓕 : Field) (el : ℕ → 𝓕 .F) (rows : ℕ) (input table : ℕ → 𝓕 .F) → CountsTurn 𝓕 el rows input table
   pub same-totals : (𝓕 : Field) (el : ℕ → 𝓕 .F) (rows : ℕ) (input table : ℕ → 𝓕 .F) → SameTotals 𝓕 el rows input table

@@ -6,22 +6,147 @@ use Rattle.field.specs.Field.{𝔾, el, val}
 use Rattle.field.specs.ModP.{of, decideB}
 use Rattle.field.specs.Power.{withBit, powerWithin, power}
 use Rattle.field.specs.Algebra.{product}
-use Rattle.bh.specs.Rows.{primitives, xInvs, primitive, xInv, stepWith, backWith, nextRow, prevRow, iter, rowAt, run, order, seek, placeOf, rotated, modZ, lagrangeRow}
+use Rattle.bh.specs.Rows.{
+  primitives,
+  xInvs,
+  primitive,
+  xInv,
+  stepWith,
+  backWith,
+  nextRow,
+  prevRow,
+  iter,
+  rowAt,
+  run,
+  order,
+  seek,
+  placeOf,
+  rotated,
+  modZ,
+  lagrangeRow,
+}
 use Rattle.bh.specs.Sums.{upTo}
-use Rattle.util.specs.Lists.{column, allOf, anyOf, those, total, largest, concat, split, cut, indexOf, lastWhere, sameWords, firstNo}
-use Rattle.expression.specs.Expr.{running, evaluate, degreeOps, degree, queryOps, usedQuery, challengeOps, exprsOf, distributePowers, productFrom, productOf}
+use Rattle.util.specs.Lists.{
+  column,
+  allOf,
+  anyOf,
+  those,
+  total,
+  largest,
+  concat,
+  split,
+  cut,
+  indexOf,
+  lastWhere,
+  sameWords,
+  firstNo,
+}
+use Rattle.expression.specs.Expr.{
+  running,
+  evaluate,
+  degreeOps,
+  degree,
+  queryOps,
+  usedQuery,
+  challengeOps,
+  exprsOf,
+  distributePowers,
+  productFrom,
+  productOf,
+}
 use Rattle.expression.specs.Value.{valueOps, valueAt}
 use Rattle.expression.specs.Nodes.{kindOf, nodeOf, itemOf, guard, exprAt, exprOf, itemsOf}
 use Rattle.expression.specs.Flat.{body, flat}
 use Rattle.backend.specs.Circuit.{bodyOf, statedOf, circuitOf, numWitness, numUser, numPoly, copied}
 use Rattle.backend.specs.Constraints.{lookupConstraint, lookupConstraints, leastD, maxDegree}
-use Rattle.backend.specs.Questions.{q1, q2, q3, follow, q4, q3-bodies, q4-bodies, q5, q6, names, q7, q8, q9, q10, q11, circuitQuestions, expressions, wellFormed}
+use Rattle.backend.specs.Questions.{
+  q1,
+  q2,
+  q3,
+  follow,
+  q4,
+  q3-bodies,
+  q4-bodies,
+  q5,
+  q6,
+  names,
+  q7,
+  q8,
+  q9,
+  q10,
+  q11,
+  circuitQuestions,
+  expressions,
+  wellFormed,
+}
 use Rattle.multilinear.specs.EqXY.{eqAt}
-use Rattle.preprocessor.specs.Compose.{numZ, constraintCut, zCut, identityFactor, permutationFactor, nextZ, partConstraint, startConstraint, permutationConstraints, composedConstraints, zeroCheck, compose, composedWords, composedNodes}
+use Rattle.preprocessor.specs.Compose.{
+  numZ,
+  constraintCut,
+  zCut,
+  identityFactor,
+  permutationFactor,
+  nextZ,
+  partConstraint,
+  startConstraint,
+  permutationConstraints,
+  composedConstraints,
+  zeroCheck,
+  compose,
+  composedWords,
+  composedNodes,
+}
 use Rattle.preprocessor.specs.Permutation.{lastCell, beforeFrom, before, source, firstLabel, label}
 use Rattle.prover.specs.Lookup.{lastEqual, multiplicity, covered, hAt, Turns}
-use Rattle.prover.specs.Columns.{pow, powerSum, instanceAt, instancePolys, preprocessPolys, witnessPolys, givenPolys, userEnvironment, compressedAt, inputAt, tableAt, countAt, mAt, lookupHAt, allCovered, permutationAt, copiedAt, identityFactorAt, permutationFactorAt, ratioAt, partAt, stepAt, runningAt, zAtPlace, zAt, permutationPolys, mPolys, hPolys, zPolys, compressedPolys, allPolys, writtenPolys, composedEnvironment}
-use Rattle.calls.specs.Build.{logOf, wordsOf, columnWords, q12, q13, q14, buildQuestions, checkBuild, zeroed, made, buildLog, buildOf}
+use Rattle.prover.specs.Columns.{
+  pow,
+  powerSum,
+  instanceAt,
+  instancePolys,
+  preprocessPolys,
+  witnessPolys,
+  givenPolys,
+  userEnvironment,
+  compressedAt,
+  inputAt,
+  tableAt,
+  countAt,
+  mAt,
+  lookupHAt,
+  allCovered,
+  permutationAt,
+  copiedAt,
+  identityFactorAt,
+  permutationFactorAt,
+  ratioAt,
+  partAt,
+  stepAt,
+  runningAt,
+  zAtPlace,
+  zAt,
+  permutationPolys,
+  mPolys,
+  hPolys,
+  zPolys,
+  compressedPolys,
+  allPolys,
+  writtenPolys,
+  composedEnvironment,
+}
+use Rattle.calls.specs.Build.{
+  logOf,
+  wordsOf,
+  columnWords,
+  q12,
+  q13,
+  q14,
+  buildQuestions,
+  checkBuild,
+  zeroed,
+  made,
+  buildLog,
+  buildOf,
+}
 use Rattle.calls.specs.Stages.{checkStage, mOf, hOf, eqOf}
 use Rattle.calls.specs.RowSum.{q16, lentPolys, lentEnvironment, sumOf, sumQuestions, checkSum, rowSumOf}
 

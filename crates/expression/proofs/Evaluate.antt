@@ -5,7 +5,9 @@ use mathlib.Core.Path.{_≡_, refl, sym, ap, ap₂, _∙_}
 use mathlib.Core.List.{List, [], _∷_}
 use Prim.Native.Nat.{ℕ}
 use lib.IntN.{ℤ}
-use Rattle.expression.specs.Expr.{Expr, Exprs, Ops, running, evaluate, spread, values}
+use Rattle.util.specs.Lists.{All}
+use Rattle.util.proofs.All.{all-join}
+use Rattle.expression.specs.Expr.{Expr, Exprs, Ops, running, evaluate, spread, values, collectOps}
 use Rattle.expression.proofs.Within.{Scope, anything, Within, WithinAll, within-anything}
 
 module _ {A B : Type 0} (S : Scope) (o : Ops A) (q : Ops B) (R : A → B → Type 0) where
@@ -115,6 +117,29 @@ module _ {A : Type 0} (S : Scope) (o : Ops A) (Q : A → Type 0) where
       })
       e
       h
+
+-- what is collected has a property, where all that queries and challenges bring has it
+pub collected : {A : Type 0} (S : Scope) (Q : A → Type 0) (query : ℕ → ℤ → List A) (challenged : ℕ → List A)
+    → ((p : ℕ) (r : ℤ) → S .poly p r → All Q (query p r))
+    → ((i : ℕ) → S .challenge i → All Q (challenged i))
+    → (e : Expr) → Within S e
+    → All Q (evaluate (collectOps query challenged) e)
+collected S Q query challenged p c e h =
+    evaluate-keeps S (collectOps query challenged) (λ xs. All Q xs)
+    (record {
+      constants = λ v. tt;
+      identities = tt;
+      lagranges = λ i w. tt;
+      eqXYs = λ i w. tt;
+      polys = p;
+      challenges = c;
+      negations = λ a r. r;
+      sums = λ a b r s. all-join Q a b r s;
+      products = λ a b r s. all-join Q a b r s;
+      scalings = λ a v r. r;
+    })
+    e
+    h
 
 -- ---- a map that respects the functions
 module _ {A B : Type 0} (o : Ops A) (q : Ops B) (f : A → B) where

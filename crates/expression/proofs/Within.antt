@@ -8,7 +8,20 @@ use lib.Dec.{T, ltb, eqb, ltb→lt}
 use lib.IntN.{ℤ}
 use Rattle.util.specs.Lists.{All}
 use Rattle.expression.specs.Expr.{Expr, Exprs, exprsOf, distributePowers, productFrom, productOf}
-use Rattle.expression.specs.Nodes.{wordOf, signed, Kind, kindOf, noExpr, noExprs, nodeOf, itemOf, guard, exprAt, itemsAt, exprOf}
+use Rattle.expression.specs.Nodes.{
+  wordOf,
+  signed,
+  Kind,
+  kindOf,
+  noExpr,
+  noExprs,
+  nodeOf,
+  itemOf,
+  guard,
+  exprAt,
+  itemsAt,
+  exprOf,
+}
 
 -- what an expression may name
 pub record Scope : Type 1 where

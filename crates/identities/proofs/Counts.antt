@@ -9,9 +9,34 @@ use native.Mathlib.Decide.{ℕ-discrete}
 use native.Mathlib.Omega.{arith}
 use Rattle.bh.specs.Sums.{upTo}
 use Rattle.util.proofs.Tests.{false-true}
-use Rattle.identities.specs.Counts.{lastRow, hit, both, given, counts, allFound, counted, Stands, howMany, countsOf, Turns, AllStand, IsLast}
+use Rattle.identities.specs.Counts.{
+  lastRow,
+  hit,
+  both,
+  given,
+  counts,
+  allFound,
+  counted,
+  Stands,
+  howMany,
+  countsOf,
+  Turns,
+  AllStand,
+  IsLast,
+}
 use Rattle.identities.specs.Totals.{Monoid, times}
-use Rattle.identities.proofs.Totals.{upTo-cong, upTo-swap, upTo-only, upTo-units, nats, times-one, times-total, times-single, times-none, le-total}
+use Rattle.identities.proofs.Totals.{
+  upTo-cong,
+  upTo-swap,
+  upTo-only,
+  upTo-units,
+  nats,
+  times-one,
+  times-total,
+  times-single,
+  times-none,
+  le-total,
+}
 
 -- ---- what the search finds
 module _ {A : Type 0} (dec : Discrete A) (t : ℕ → A) (v : A) where

@@ -10,7 +10,20 @@ use native.Mathlib.Omega.{arith}
 use Rattle.bh.specs.Sums.{Sums, upTo}
 use Rattle.bh.proofs.Perm.{Keeps, sum-through, Out, Nodup}
 use Rattle.util.specs.Lists.{All}
-use Rattle.identities.specs.Cycles.{lastCell, beforeIn, before, moved, labels, Equal, Cell, Cycle, Cycles, Copied, Good, overCells}
+use Rattle.identities.specs.Cycles.{
+  lastCell,
+  beforeIn,
+  before,
+  moved,
+  labels,
+  Equal,
+  Cell,
+  Cycle,
+  Cycles,
+  Copied,
+  Good,
+  overCells,
+}
 use Rattle.identities.specs.Totals.{Monoid}
 use Rattle.identities.proofs.Totals.{sums, upTo-cong, upTo-flat, upTo-but-0}
 

@@ -1,5 +1,6 @@
 pub mod Totals
 pub mod Fields
+pub mod Products
 pub mod Counts
 pub mod Lookup
 pub mod Cycles

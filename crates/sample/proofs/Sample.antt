@@ -14,12 +14,10 @@ use Rattle.calls.specs.Demand.{Succeeds}
 use Rattle.examples.specs.Open.{everything}
 use Rattle.examples.specs.Small.{words-5}
 use Rattle.completeness.proofs.DemandThree.{demand-three}
+use Rattle.calls.proofs.Embeds.{val-zero}
 
 same-val : (x y : 𝔾 .F) → val x ≡ val y → x ≡ y
 same-val x y e = sym (el-val x) ∙ ap el e ∙ el-val y
-
-val-zero : val (𝔾 .zero) ≡ 0
-val-zero = ap val (sym el-zero) ∙ val-el 0 P-pos
 
 is-zero : (x : 𝔾 .F) → val x ≡ 0 → x ≡ 𝔾 .zero
 is-zero x e = same-val x (𝔾 .zero) (e ∙ sym val-zero)

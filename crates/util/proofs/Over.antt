@@ -6,7 +6,19 @@ use native.Mathlib.Nat.{add-zero, zero-add}
 use native.Mathlib.Numerals.{add-one}
 use native.Mathlib.Decide.{decLt}
 use native.Mathlib.Omega.{arith}
-use lib.ListN.{length, getD, take, drop, set, replicate, length-append, length-drop, length-set, length-replicate, take-append-drop}
+use lib.ListN.{
+  length,
+  getD,
+  take,
+  drop,
+  set,
+  replicate,
+  length-append,
+  length-drop,
+  length-set,
+  length-replicate,
+  take-append-drop,
+}
 use lib.Seq.{
   length-take-le,
   take-at,
