@@ -10,6 +10,7 @@ use Rattle.util.specs.Lists.{column, All}
 use Rattle.util.proofs.All.{all-get, all-from, all-column}
 use Rattle.identities.proofs.Totals.{upTo-cong}
 use Rattle.identities.specs.Lookup as Lookup
+use Rattle.identities.proofs.Lookup.{h-fits}
 use Rattle.expression.specs.Expr.{Expr}
 use Rattle.expression.specs.Value.{Environment, valueAt}
 use Rattle.backend.specs.Circuit.{Circuit, rowsOf, numUser, numPoly, numLookups, hNumber}
@@ -25,7 +26,6 @@ use Rattle.calls.proofs.Powers.{compose-value, sum-composed, power-zeros}
 use Rattle.completeness.specs.Scope.{Scoped}
 use Rattle.completeness.proofs.ReadColumns.{reads, user-value, constraints-in, gamma-value}
 use Rattle.completeness.proofs.Counts.{h-sums}
-use Rattle.identities.proofs.Lookup.{h-fits}
 
 module _ (𝓕 : Field) where
   open Field 𝓕 using (F, zero as nil, one, add, mul, neg, inv)

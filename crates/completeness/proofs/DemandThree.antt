@@ -1,5 +1,5 @@
 -- Demand 3: DemandThree of Demand. Assumes nothing.
-use mathlib.Core.Path.{_≡_, refl, sym, ap, ap₂, _∙_}
+use mathlib.Core.Path.{_≡_, refl, ap, ap₂, _∙_}
 use mathlib.Core.Logic.{_≢_, _↔_}
 use mathlib.Core.Bool.{Bool, true, false}
 use mathlib.Core.List.{List, [], _∷_, _++_}
@@ -7,7 +7,7 @@ use Prim.Native.Nat.{ℕ, zero, _-_, _<_}
 use native.Mathlib.Omega.{arith}
 use lib.ListN.{length, getD, take, length-map, length-take}
 use Rattle.field.specs.Prime.{P}
-use Rattle.field.specs.Field.{𝔾, el, val, val-el, el-zero, P-pos}
+use Rattle.field.specs.Field.{𝔾, el}
 use Rattle.util.proofs.All.{all-from}
 use Rattle.identities.proofs.Totals.{upTo-cong}
 use Rattle.expression.specs.Expr.{Expr}

@@ -12,14 +12,14 @@ use Rattle.util.proofs.Tests.{false-true, by-test}
 use Rattle.identities.proofs.Totals.{upTo-cong, upTo-units, nats, le-total, count-upTo}
 use Rattle.identities.proofs.Fields.{sum-mul}
 use Rattle.identities.specs.Lookup as Lookup
+use Rattle.identities.specs.Counts.{counts}
+use Rattle.identities.proofs.Counts.{count-turns, turns-stand}
+use Rattle.identities.proofs.Lookup.{h-fits}
 use Rattle.prover.specs.Lookup.{sumCounts, same, covered, multiplicity, Turns, hAt}
 use Rattle.calls.specs.Meaning.{Embeds}
 use Rattle.calls.specs.Papers.{often, sharedM, totalOf, SameTotals, CountsTurn, IsHabockH, HabockSum}
 use Rattle.calls.proofs.Embeds.{embeds-one, embeds-sum}
 use Rattle.completeness.proofs.Counts.{counts-agree, turns-agree, covered-stand, stand-covered, h-sum-of}
-use Rattle.identities.specs.Counts.{counts}
-use Rattle.identities.proofs.Counts.{count-turns, turns-stand}
-use Rattle.identities.proofs.Lookup.{h-fits}
 
 few : (t : ℕ → Bool) (n : ℕ) → upTo _+_ 0 (λ r. cond (t r) 1 0) n ≤ n
 unfolding upTo

@@ -23,6 +23,7 @@ use Rattle.identities.proofs.Copies.{copies-meet}
 use Rattle.identities.specs.Running.{ratio, zCol, scan, Met}
 use Rattle.identities.proofs.Running.{z-scan, z-nought}
 use Rattle.identities.specs.Running as Running
+use Rattle.identities.proofs.Products.{product-part}
 use Rattle.expression.specs.Expr.{Expr}
 use Rattle.expression.specs.Value.{Environment, valueAt}
 use Rattle.backend.specs.Circuit.{rowsOf, numCopied, zNumber}
@@ -59,7 +60,6 @@ use Rattle.completeness.proofs.CycleNumbers.{cycles-placed, cycles-good
 use Rattle.completeness.proofs.Cuts.{z-pos, partSize, covers, z-part, parts-alike}
 use Rattle.completeness.proofs.ReadColumns.{reads}
 use Rattle.completeness.proofs.ComposedZero.{embeds-in}
-use Rattle.identities.proofs.Products.{product-part}
 
 module _ (𝓕 : Field) (g : Log 𝓕) where
   open Field 𝓕 using (F, zero as nil, one, add, mul, neg, inv)

@@ -2,8 +2,8 @@
 -- product closes at one: Permutes, Keeps, IsPlonkZ and Closes of Papers. Assumes nothing.
 use mathlib.Core.Path.{_≡_, refl, sym, ap, ap₂, _∙_, subst}
 use mathlib.Core.Bool.{Bool, true, cond}
-use mathlib.Core.List.{List, [], _∷_, map, _++_, map-append}
-use Prim.Native.Nat.{ℕ, _<_, zero, suc, _+_, _*_, _≤_, _-_}
+use mathlib.Core.List.{List, [], _∷_, map, _++_}
+use Prim.Native.Nat.{ℕ, _<_, suc, _+_, _*_, _≤_, _-_}
 use native.Mathlib.Decide.{decLt, ℕ-discrete}
 use native.Mathlib.Nat.{mod-eq-of-lt, mul-add-mod-self-right, mul-add-div-right, div-eq-of-lt, add-zero, mul-zero}
 use native.Mathlib.Omega.{arith}
@@ -11,7 +11,7 @@ use lib.ListN.{length, getD, take}
 use lib.Dec.{eqb}
 use lib.Seq.{take-all}
 use borrow.Author.Tests.{eqb-true}
-use Rattle.field.specs.Algebra.{Field, product-append}
+use Rattle.field.specs.Algebra.{Field}
 use Rattle.field.specs.Algebra as Algebra
 use Rattle.bh.specs.Sums.{upTo}
 use Rattle.bh.specs.Rows.{rowAt}
@@ -21,9 +21,12 @@ use Rattle.util.proofs.Totals.{concat-cut}
 use Rattle.identities.proofs.Cycles.{good-labels}
 use Rattle.identities.proofs.Walk.{unit-copied}
 use Rattle.identities.specs.Copies.{atCell}
-use Rattle.identities.proofs.Totals.{upTo-cong, upTo-add, upTo-flat, upTo-first, upTo-zero, upTo-units}
+use Rattle.identities.proofs.Totals.{upTo-cong, upTo-add, upTo-flat, upTo-zero}
 use Rattle.identities.proofs.Fields.{muls}
 use Rattle.identities.proofs.Copies.{safe-parts, balanced}
+use Rattle.identities.specs.Running.{scan}
+use Rattle.identities.proofs.Running.{z-scan, closes as running-closes}
+use Rattle.identities.proofs.Products.{parts-product}
 use Rattle.backend.specs.Circuit.{Circuit, Cell, sameCell, rowsOf, copied, numCopied}
 use Rattle.backend.specs.Questions.{q11}
 use Rattle.preprocessor.specs.Permutation.{lastCell, beforeFrom, before, source, firstLabel}
@@ -37,9 +40,6 @@ use Rattle.completeness.proofs.CycleNumbers.{cycles-placed, cycles-good
 use Rattle.completeness.proofs.DemandThreeOf.{eleven, kp, ks}
 use Rattle.completeness.proofs.Cuts.{partSize, size-pos, z-pos, covers, parts-of-z, none-z}
 use Rattle.completeness.proofs.PermutationZero.{φ, Cs, A, B, factor-agree, running-agree}
-use Rattle.identities.specs.Running.{scan}
-use Rattle.identities.proofs.Running.{z-scan, closes as running-closes}
-use Rattle.identities.proofs.Products.{parts-product}
 
 same-cell : (x y : Cell) → x .polynomial ≡ y .polynomial → x .row ≡ y .row → x ≡ y
 same-cell x y p r = ap₂ (λ (q b : ℕ). record { polynomial = q; row = b }) p r

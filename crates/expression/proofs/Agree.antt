@@ -1,11 +1,11 @@
 -- Environments that agree on what an expression reads at a row give it one value there. Assumes nothing.
-use mathlib.Core.Path.{_≡_, refl, ap, ap₂}
+use mathlib.Core.Path.{_≡_, ap, ap₂}
 use Prim.Native.Nat.{ℕ}
 use lib.IntN.{ℤ}
 use lib.ListN.{getD}
 use Rattle.field.specs.Algebra.{Field}
 use Rattle.bh.specs.Rows.{rotated, lagrangeRow}
-use Rattle.expression.specs.Expr.{Expr, evaluate}
+use Rattle.expression.specs.Expr.{Expr}
 use Rattle.expression.specs.Value.{Environment, polyOf, valueOps, valueAt}
 use Rattle.expression.proofs.Within.{Scope, Within}
 use Rattle.expression.proofs.Evaluate.{evaluate-related}

@@ -1,22 +1,21 @@
 -- With true copies and no zero denominator, the copied columns' z meets every permutation constraint. Assumes nothing.
-use mathlib.Core.Path.{_≡_, refl, sym, ap, ap₂, _∙_, subst, subst⁻¹}
+use mathlib.Core.Path.{_≡_, sym, ap, ap₂, _∙_}
 use mathlib.Core.Logic.{_≢_}
 use mathlib.Core.List.{List, [], _∷_}
 use Prim.Native.Nat.{ℕ, zero, suc, _+_, _-_, _*_, _/_, _%_, _^_, _≤_, _<_, min}
 use native.Mathlib.Nat.{mod-eq-of-lt, mul-add-mod-self-right, mul-add-div-right, div-eq-of-lt, add-zero}
 use native.Mathlib.Omega.{arith}
 use lib.Pow.{pow-pos}
-use Rattle.bh.specs.Sums.{upTo}
 use Rattle.field.specs.Algebra.{Field}
+use Rattle.bh.specs.Sums.{upTo}
 use Rattle.identities.specs.Copies as R
 use Rattle.identities.specs.Copies.{atCell}
-use Rattle.identities.specs.Totals.{Monoid}
 use Rattle.identities.proofs.Totals.{upTo-cong, upTo-swap, upTo-cut}
 use Rattle.identities.specs.Cycles.{labels, Cycles, Copied, overCells}
 use Rattle.identities.proofs.Cycles.{permuted}
 use Rattle.identities.proofs.Fields.{muls, prod-nonzero}
 use Rattle.identities.specs.Running.{zCol, Met, NoZero, Balanced}
-use Rattle.identities.proofs.Running.{z-meets, z-only, z-unique}
+use Rattle.identities.proofs.Running.{z-meets, z-unique}
 
 pub at-cell : {W : Type 0} (M : ℕ) (val : ℕ → ℕ → W) (i b : ℕ) → b < M → atCell M val (i * M + b) ≡ val i b
 at-cell M val i b h =

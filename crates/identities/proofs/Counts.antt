@@ -1,8 +1,8 @@
 -- The counts turn the table into the inputs, and exist exactly if each input stands in the table. Assumes nothing.
-use mathlib.Core.Path.{_≡_, refl, sym, ap, ap₂, _∙_, subst, subst⁻¹}
+use mathlib.Core.Path.{_≡_, refl, sym, ap, _∙_}
 use mathlib.Core.Logic.{_≢_, _↔_, ite, if-pos, if-neg}
 use mathlib.Core.Bool.{Bool, true, false}
-use mathlib.Core.Option.{Option, some, none, Option·none-ne-some, Option·some-ne-none, Option·some-injective}
+use mathlib.Core.Option.{Option, some, none, Option·none-ne-some, Option·some-injective}
 use Prim.Native.Nat.{ℕ, zero, suc, _+_, _≤_, _<_}
 use native.Mathlib.Nat.{not-suc-le-zero}
 use native.Mathlib.Decide.{ℕ-discrete}

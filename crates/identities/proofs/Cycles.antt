@@ -1,13 +1,12 @@
 -- The labels are a permutation of the cells between equal values, and leave row 0: so a product of factors of value and label is the
 -- same over the cells' own labels and over the moved ones. Assumes nothing.
-use mathlib.Core.Path.{_≡_, refl, sym, ap, ap₂, _∙_, subst, subst⁻¹}
+use mathlib.Core.Path.{_≡_, refl, sym, ap, _∙_, subst, subst⁻¹}
 use mathlib.Core.Logic.{_≢_, ite, if-pos, if-neg}
 use mathlib.Core.List.{List, [], _∷_}
-use Prim.Native.Nat.{ℕ, zero, suc, _+_, _-_, _*_, _/_, _%_, _≤_, _<_}
-use native.Mathlib.Nat.{mod-eq-of-lt, mul-add-mod-self-right, mul-add-div-right, div-eq-of-lt, add-zero, lt-irrefl}
+use Prim.Native.Nat.{ℕ, suc, _+_, _-_, _*_, _/_, _%_, _≤_, _<_}
+use native.Mathlib.Nat.{mod-eq-of-lt, mul-add-mod-self-right, lt-irrefl}
 use native.Mathlib.Decide.{ℕ-discrete}
-use native.Mathlib.Omega.{arith}
-use Rattle.bh.specs.Sums.{Sums, upTo}
+use Rattle.bh.specs.Sums.{upTo}
 use Rattle.bh.proofs.Perm.{Keeps, sum-through, Out, Nodup}
 use Rattle.util.specs.Lists.{All}
 use Rattle.identities.specs.Cycles.{

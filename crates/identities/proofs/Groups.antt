@@ -1,18 +1,17 @@
 -- A group's h sums to zero, and meets its constraint alone (Item 3). Assumes nothing.
 use mathlib.Core.Path.{_≡_, refl, sym, ap, ap₂, _∙_}
-use Prim.Native.Nat.{ℕ, zero, suc, _+_, _*_, _/_, _%_, _≤_, _<_}
-use Rattle.bh.specs.Sums.{upTo}
 use mathlib.Core.Logic.{_≢_}
-use mathlib.Core.List.{List, [], _∷_}
-use Rattle.field.specs.Algebra.{Field, zero-mul}
-use Rattle.field.specs.Solve.{Expr, var, nought, unit, _:+_, _:*_, minus, solve}
+use mathlib.Core.List.{[], _∷_}
+use Prim.Native.Nat.{ℕ, zero, suc, _+_, _*_, _/_, _%_, _≤_, _<_}
 use native.Mathlib.Omega.{arith}
+use Rattle.field.specs.Algebra.{Field, zero-mul}
+use Rattle.field.specs.Solve.{var, _:+_, _:*_, minus, solve}
+use Rattle.bh.specs.Sums.{upTo}
 use Rattle.identities.specs.Groups as R
 use Rattle.identities.proofs.Totals.{upTo-cong, upTo-op, upTo-swap, upTo-flat}
 use Rattle.identities.proofs.Fields.{adds, inv-mul-self, mul-cancel, prod-nonzero}
-use Rattle.identities.specs.Counts.{counts, AllStand}
+use Rattle.identities.specs.Counts.{AllStand}
 use Rattle.identities.proofs.Counts.{count-all}
-use Rattle.identities.specs.Copies.{atCell}
 use Rattle.identities.proofs.Copies.{at-cell}
 use Rattle.identities.specs.Lookup.{num}
 use Rattle.identities.proofs.Lookup.{haboeck, sum-neg}

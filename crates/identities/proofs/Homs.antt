@@ -1,11 +1,11 @@
 -- A field inside a field: m, h and z of embedded columns are the embedded m, h and z. Assumes nothing.
-use mathlib.Core.Path.{_≡_, refl, sym, ap, ap₂, _∙_}
+use mathlib.Core.Path.{_≡_, sym, ap, ap₂, _∙_}
 use mathlib.Core.Logic.{_≢_, ite, apply-ite}
 use Prim.Native.Nat.{ℕ, zero, suc, _+_, _-_, _*_, _^_, _≤_, _<_}
 use native.Mathlib.Decide.{ℕ-discrete}
+use Rattle.field.specs.Algebra.{Field, add-left-cancel, neg-unique, zero-mul}
 use Rattle.bh.specs.Sums.{upTo}
 use Rattle.bh.specs.Rows.{rowAt, placeOf}
-use Rattle.field.specs.Algebra.{Field, add-left-cancel, neg-unique, zero-mul, mul-zero, add-neg-cancel}
 use Rattle.identities.proofs.Totals.{upTo-cong}
 use Rattle.identities.proofs.Fields.{sub-zero, mul-cancel, inv-mul-self}
 use Rattle.identities.specs.Homs.{Hom}

@@ -1,15 +1,15 @@
 -- h: Haböck's identity, and the lookup constraint, in any field. Assumes nothing.
-use mathlib.Core.Path.{_≡_, refl, sym, ap, ap₂, _∙_, subst}
+use mathlib.Core.Path.{_≡_, refl, sym, ap, ap₂, _∙_}
 use mathlib.Core.Logic.{_≢_}
-use mathlib.Core.List.{List, [], _∷_}
-use Prim.Native.Nat.{ℕ, zero, suc, _+_, _≤_, _<_}
+use mathlib.Core.List.{[], _∷_}
+use Prim.Native.Nat.{ℕ, zero, _+_, _≤_, _<_}
+use Rattle.field.specs.Algebra.{Field, one-mul, neg-unique}
+use Rattle.field.specs.Solve.{var, _:+_, _:*_, minus, solve}
 use Rattle.bh.specs.Sums.{upTo}
-use Rattle.field.specs.Algebra.{Field, one-mul, neg-mul, neg-unique, add-mul}
-use Rattle.field.specs.Solve.{Expr, var, nought, unit, _:+_, _:*_, minus, solve}
 use Rattle.identities.specs.Lookup as R
-use Rattle.identities.specs.Totals.{Monoid, times}
-use Rattle.identities.proofs.Totals.{upTo-cong, upTo-op, upTo-suc, upTo-zero, upTo-unit}
-use Rattle.identities.proofs.Fields.{adds, muls, mul-cancel, mul-nonzero, sum-mul, inv-mul-self}
+use Rattle.identities.specs.Totals.{times}
+use Rattle.identities.proofs.Totals.{upTo-cong, upTo-op, upTo-unit}
+use Rattle.identities.proofs.Fields.{adds, mul-cancel, sum-mul, inv-mul-self}
 use Rattle.identities.specs.Counts.{counts, counted, AllStand}
 use Rattle.identities.proofs.Counts.{counted-stand, counted-is, count-total}
 

@@ -1,19 +1,18 @@
 -- z meets every permutation constraint on every row, and nothing else does; its running product closes at one. Assumes nothing.
 use mathlib.Core.Path.{_≡_, refl, sym, ap, ap₂, _∙_, subst, subst⁻¹}
-use mathlib.Core.Logic.{_≢_, ite, if-pos, if-neg}
+use mathlib.Core.Logic.{_≢_, if-pos, if-neg}
 use Prim.Native.Nat.{ℕ, zero, suc, _+_, _-_, _*_, _/_, _%_, _^_, _≤_, _<_}
 use native.Mathlib.Nat.{suc-ne-zero, mul-add-mod-self-right, mul-add-div-right, mod-eq-of-lt, div-eq-of-lt, add-zero}
 use native.Mathlib.Decide.{ℕ-discrete}
 use native.Mathlib.Omega.{arith}
 use lib.Pow.{pow-pos, pow-lt}
-use Rattle.bh.specs.Sums.{Sums, upTo}
+use Rattle.field.specs.Algebra.{Field, zero-mul, one-mul}
+use Rattle.bh.specs.Sums.{upTo}
 use Rattle.bh.specs.Rows.{nextRow, rowAt, placeOf}
 use Rattle.bh.proofs.Iter.{iter-zero}
 use Rattle.bh.proofs.Order.{row-suc, row-nought, row-next, row-last, row-lt, row-once, row-sum-but-0, next-nought}
 use Rattle.bh.proofs.Place.{row-place, place-row, place-lt}
-use Rattle.field.specs.Algebra.{Field, zero-mul, one-mul}
 use Rattle.identities.specs.Running as R
-use Rattle.identities.specs.Totals.{Monoid}
 use Rattle.identities.proofs.Totals.{sums, upTo-cong, upTo-suc, upTo-zero, upTo-op, upTo-add, upTo-flat}
 use Rattle.identities.proofs.Fields.{muls, ratio-back, ratio-only, prod-inv, prod-nonzero}
 

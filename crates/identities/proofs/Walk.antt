@@ -1,8 +1,8 @@
 -- Cycles as the code walks them, premises by index, and what else holds of the labels. Assumes nothing.
-use mathlib.Core.Path.{_≡_, refl, sym, ap, ap₂, _∙_, subst, subst⁻¹}
+use mathlib.Core.Path.{_≡_, refl, sym, ap, _∙_}
 use mathlib.Core.Logic.{_≢_, ite, if-pos, if-neg, apply-ite}
 use mathlib.Core.List.{List, [], _∷_, _++_}
-use Prim.Native.Nat.{ℕ, zero, suc, _+_, _-_, _*_, _/_, _%_, _≤_, _<_}
+use Prim.Native.Nat.{ℕ, suc, _+_, _-_, _*_, _/_, _%_, _≤_, _<_}
 use native.Mathlib.Nat.{mod-eq-of-lt, mul-add-mod-self-right, mul-le-mul-right, suc-mul}
 use native.Mathlib.Decide.{ℕ-discrete}
 use native.Mathlib.Omega.{arith}
@@ -11,7 +11,7 @@ use Rattle.bh.proofs.Perm.{Out, Nodup}
 use Rattle.util.specs.Lists.{All}
 use Rattle.util.proofs.All.{all-from, all-any}
 use Rattle.identities.specs.Walk.{OutAll, put, walk}
-use Rattle.identities.specs.Cycles.{lastCell, beforeIn, before, moved, labels, Equal, Cell, Cycle, Cycles, Copied, Good}
+use Rattle.identities.specs.Cycles.{lastCell, beforeIn, before, moved, labels, Equal, Cell, Cycles, Copied, Good}
 use Rattle.identities.proofs.Cycles.{good-labels}
 
 -- ---- cycles one after another: a last one

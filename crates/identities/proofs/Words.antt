@@ -1,17 +1,14 @@
 -- The same on words: counts of words, and the Goldilocks field's h. Assumes nothing.
-use mathlib.Core.Path.{_≡_, refl, sym, ap, ap₂, _∙_, subst, fun-ext}
-use mathlib.Core.Logic.{_≢_, ite, if-pos, if-neg}
-use mathlib.Core.Option.{Option, some, none}
+use mathlib.Core.Path.{_≡_, refl, sym, ap, ap₂, _∙_}
+use mathlib.Core.Logic.{_≢_, ite}
+use mathlib.Core.Option.{Option, some}
 use Prim.Native.Nat.{ℕ, zero, suc, _+_, _%_, _≤_, _<_}
 use native.Mathlib.Nat.{zero-add}
 use native.Mathlib.Numerals.{add-one}
 use native.Mathlib.Decide.{ℕ-discrete}
 use native.Mathlib.Omega.{arith}
-use lib.Dec.{lit<}
-use Rattle.bh.specs.Sums.{upTo}
 use Rattle.field.specs.Prime.{P}
-use Rattle.field.specs.Algebra.{Field}
-use Rattle.field.specs.Field.{𝔾, el, val, val-el, el-val, el-zero, el-one, el-add, el-mul, el-sub, el-inv, addP, mulP, subP, invP}
+use Rattle.field.specs.Field.{𝔾, el, val, val-el, el-zero, el-one, el-add, el-mul, el-sub, el-inv, addP, mulP, invP}
 use Rattle.identities.proofs.Totals.{upTo-cong, upTo-suc, upTo-zero}
 use Rattle.identities.specs.Words.{hWord}
 use Rattle.identities.specs.Counts.{lastRow, hit, counts}

@@ -6,15 +6,15 @@ use Prim.Native.Nat.{ℕ, zero, suc, _<_}
 use native.Mathlib.Nat.{suc-ne-zero}
 use native.Mathlib.Omega.{arith}
 use lib.ListN.{replicate}
-use Rattle.field.specs.Field.{𝔾, el, val, el-val, el-zero, val-el, P-pos}
+use Rattle.field.specs.Field.{𝔾, el, val, el-val}
 use Rattle.prover.specs.Log.{Log}
 use Rattle.calls.specs.Build.{logOf, checkBuild, buildOf}
 use Rattle.calls.specs.Meaning.{Premises, cellValue}
 use Rattle.calls.specs.Demand.{Succeeds}
+use Rattle.calls.proofs.Embeds.{val-zero}
+use Rattle.completeness.proofs.DemandThree.{demand-three}
 use Rattle.examples.specs.Open.{everything}
 use Rattle.examples.specs.Small.{words-5}
-use Rattle.completeness.proofs.DemandThree.{demand-three}
-use Rattle.calls.proofs.Embeds.{val-zero}
 
 same-val : (x y : 𝔾 .F) → val x ≡ val y → x ≡ y
 same-val x y e = sym (el-val x) ∙ ap el e ∙ el-val y

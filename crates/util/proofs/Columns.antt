@@ -1,18 +1,17 @@
 -- Columns: f 0, f 1, …, f (n - 1). Assumes nothing.
 use mathlib.Core.Path.{_≡_, refl, sym, ap, ap₂, _∙_}
-use mathlib.Core.Bool.{Bool, true, false, cond}
+use mathlib.Core.Bool.{Bool, cond}
 use mathlib.Core.List.{List, [], _∷_, _++_, map, append-assoc, append-nil, map-append}
 use Prim.Native.Nat.{ℕ, zero, suc, _+_, _*_, _≤_, _<_}
-use native.Mathlib.Nat.{not-suc-le-zero, add-zero, add-suc, suc-mul, zero-mul, zero-add}
-use native.Mathlib.Numerals.{add-one}
+use native.Mathlib.Nat.{not-suc-le-zero, add-zero, add-suc, suc-mul, zero-mul}
 use native.Mathlib.Decide.{decLt, ℕ-discrete}
 use native.Mathlib.Omega.{arith}
 use lib.Dec.{eqb}
-use lib.ListN.{length, getD, take, drop, set, replicate, length-append, length-map, length-set}
-use lib.Seq.{ext-getD, take-at, take-suc, getD-take, getD-set-same, getD-set-other, take-add}
+use lib.ListN.{length, getD, take, drop, set, replicate, length-append, length-set}
+use lib.Seq.{ext-getD, take-suc, getD-set-same, getD-set-other, take-add}
 use borrow.Author.Tests.{eq-eqb, ne-eqb}
 use Rattle.util.specs.Lists.{column, below, concat}
-use Rattle.util.proofs.Lists.{get-left, get-past, concat-end, concat-append}
+use Rattle.util.proofs.Lists.{get-left, get-past, concat-end}
 
 module _ {A : Type 0} where
   pub column-length : (f : ℕ → A) (n : ℕ) → length (column f n) ≡ n

@@ -1,10 +1,10 @@
 -- Entries of lists, and of lists of lists. (Further facts: lib.ListN, lib.Seq.) Assumes nothing.
-use mathlib.Core.Path.{_≡_, refl, sym, ap, ap₂, _∙_}
-use mathlib.Core.List.{List, [], _∷_, _++_, map, append-assoc, append-nil, map-append}
+use mathlib.Core.Path.{_≡_, refl, sym, ap, _∙_}
+use mathlib.Core.List.{List, [], _∷_, _++_, map, append-assoc, append-nil}
 use Prim.Native.Nat.{ℕ, zero, suc, _+_, _*_, _≤_, _<_}
 use native.Mathlib.Nat.{not-suc-le-zero}
 use native.Mathlib.Omega.{arith}
-use lib.ListN.{length, getD, take, drop, length-append, List·getD-append, List·getD-eq-default}
+use lib.ListN.{length, getD, drop, length-append, List·getD-append, List·getD-eq-default}
 use lib.Seq.{getD-append-add}
 use Rattle.util.specs.Lists.{concat, split, total}
 

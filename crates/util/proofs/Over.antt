@@ -6,19 +6,7 @@ use native.Mathlib.Nat.{add-zero, zero-add}
 use native.Mathlib.Numerals.{add-one}
 use native.Mathlib.Decide.{decLt}
 use native.Mathlib.Omega.{arith}
-use lib.ListN.{
-  length,
-  getD,
-  take,
-  drop,
-  set,
-  replicate,
-  length-append,
-  length-drop,
-  length-set,
-  length-replicate,
-  take-append-drop,
-}
+use lib.ListN.{length, getD, take, drop, set, replicate, length-append, length-drop, length-replicate, take-append-drop}
 use lib.Seq.{
   length-take-le,
   take-at,
@@ -26,11 +14,8 @@ use lib.Seq.{
   take-append-seam,
   drop-append-add,
   drop-drop,
-  drop-cons,
   drop-length,
-  set-at,
   set-split,
-  append-snoc,
   sets,
   sets-eq,
   getD-take,
@@ -38,7 +23,7 @@ use lib.Seq.{
   ext-getD,
 }
 use Rattle.util.specs.Lists.{column, written, over}
-use Rattle.util.proofs.Lists.{get-left, get-past}
+use Rattle.util.proofs.Lists.{get-left}
 use Rattle.util.proofs.Columns.{column-length, column-suc}
 
 module _ {A : Type 0} (d : List A) (at : ℕ) (s : List A) where

@@ -1,9 +1,8 @@
 -- Totals, the largest of numbers, n / s rounded up, and the parts of a cut. Assumes nothing.
 use mathlib.Core.Path.{_≡_, refl, sym, ap, _∙_, subst}
-use mathlib.Core.List.{List, [], _∷_, _++_, map}
+use mathlib.Core.List.{List, [], _∷_, _++_}
 use Prim.Native.Nat.{ℕ, zero, suc, _+_, _-_, _*_, _/_, _≤_, _<_, max}
 use native.Mathlib.Nat.{
-  not-suc-le-zero,
   lt-div-mul-add,
   le-div-iff-mul-le,
   mul-le-mul-left,
