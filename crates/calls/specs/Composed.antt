@@ -139,6 +139,7 @@ module _ (𝓕 : Field) where
     abbrev pub valueIn : ℕ → ℕ → F
     valueIn q b = column-at scene (g .circuit) q b
 
+    -- compressed input and table, m, h, z, and the factors of z
     pub record ReadAs : Type 0 where
       pub input : (j : ℕ) → j < length (g .circuit .lookups) → EachRow 𝓕 g (λ b. inputIn scene (g .circuit) j b ≡ inputAt 𝓕 g (lookupOf j) b)
       pub table : (j : ℕ) → j < length (g .circuit .lookups) → EachRow 𝓕 g (λ b. tableIn scene (g .circuit) j b ≡ tableAt 𝓕 g (lookupOf j) b)

@@ -51,7 +51,7 @@ module _ (𝓕 : Field) where
     abbrev pub CountsTurn : Type 0
     CountsTurn = (covered 𝓕 rows input table ≡ true) ↔ Turns 𝓕 rows input table (multiplicity 𝓕 rows input table)
 
-    -- the paper's h: the one column with h × (γ + input) × (γ + table) = (γ + table) − m × (γ + input)
+    -- the paper's h: h × (γ + input) × (γ + table) = (γ + table) − m × (γ + input) on every row
     abbrev pub HabockH : F → (ℕ → F) → (ℕ → F) → Type 0
     HabockH γ m h =
         (b : ℕ) → b < rows

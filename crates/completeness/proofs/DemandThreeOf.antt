@@ -30,14 +30,14 @@ module _ (𝓕 : Field) (g : Log 𝓕) (ad : Admitted 𝓕 g) where
   yes-words : Yes (ad .words)
   yes-words = yes-all (ad .words) (ad .passed)
 
-  pub kp : 0 < g .circuit .k
-  kp = subst (λ (c : Circuit). 0 < c .k) (sym (ad .read)) (k-pos (ad .words) yes-words)
+  pub k-positive : 0 < g .circuit .k
+  k-positive = subst (λ (c : Circuit). 0 < c .k) (sym (ad .read)) (k-pos (ad .words) yes-words)
 
-  pub ks : g .circuit .k < 21
-  ks = subst (λ (c : Circuit). c .k < 21) (sym (ad .read)) (k-small (ad .words) yes-words)
+  pub k-below-21 : g .circuit .k < 21
+  k-below-21 = subst (λ (c : Circuit). c .k < 21) (sym (ad .read)) (k-small (ad .words) yes-words)
 
-  pub eleven : q11 (g .circuit) ≡ true
-  eleven = ap q11 (ad .read) ∙ yes-words .eleven
+  pub eleven-yes : q11 (g .circuit) ≡ true
+  eleven-yes = ap q11 (ad .read) ∙ yes-words .eleven
 
   module _ (p : Premises 𝓕 g) (α : F) (y : ℕ → F) where
     abbrev Zero : Expr → Type 0
@@ -51,8 +51,8 @@ module _ (𝓕 : Field) (g : Log 𝓕) (ad : Admitted 𝓕 g) where
             → All Zero (cond t [] (startConstraint (g .circuit) ∷ column (partConstraint (g .circuit)) (numZ (g .circuit))))
         go true e = tt
         go false e = (
-          start-zeros 𝓕 g pos kp ks eleven ad p α y,
-          all-column Zero (partConstraint (g .circuit)) (numZ (g .circuit)) (part-zeros 𝓕 g pos kp ks eleven ad p α y),
+          start-zeros 𝓕 g pos k-positive k-below-21 eleven-yes ad p α y,
+          all-column Zero (partConstraint (g .circuit)) (numZ (g .circuit)) (part-zeros 𝓕 g pos k-positive k-below-21 eleven-yes ad p α y),
         )
           where
             pos : 0 < numCopied (g .circuit)

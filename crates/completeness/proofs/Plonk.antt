@@ -37,7 +37,7 @@ use Rattle.calls.specs.Meaning.{cellValue}
 use Rattle.calls.specs.Papers.{Permutes, Keeps, plonkZ, IsPlonkZ, Closes}
 use Rattle.completeness.proofs.CellNumbers.{Placed, same-polynomial, same-row, source-placed, source-agree}
 use Rattle.completeness.proofs.CycleNumbers.{cycles-placed, cycles-good, copied-good, value-at}
-use Rattle.completeness.proofs.DemandThreeOf.{eleven, kp, ks}
+use Rattle.completeness.proofs.DemandThreeOf.{eleven-yes, k-positive, k-below-21}
 use Rattle.completeness.proofs.Cuts.{partSize, size-pos, z-pos, covers, parts-of-z, none-z}
 use Rattle.completeness.proofs.PermutationZero.{φ, Cs, A, B, factor-agree, running-agree}
 
@@ -96,13 +96,13 @@ module _ (c : Circuit) where
 
 module _ (𝓕 : Field) (g : Log 𝓕) where
   pub permutes : Permutes 𝓕 g
-  permutes ad x y h = source-apart (g .circuit) (eleven 𝓕 g ad) x y h
+  permutes ad x y h = source-apart (g .circuit) (eleven-yes 𝓕 g ad) x y h
 
   pub keeps : Keeps 𝓕 g
   keeps ad p x = go (placed? (g .circuit) x)
     where
       a : All (All (Placed (g .circuit))) (g .circuit .cycles)
-      a = cycles-placed (g .circuit) (eleven 𝓕 g ad)
+      a = cycles-placed (g .circuit) (eleven-yes 𝓕 g ad)
 
       Cs : List (List ℕ)
       Cs = map (map (firstLabel (g .circuit))) (g .circuit .cycles)
@@ -114,7 +114,7 @@ module _ (𝓕 : Field) (g : Log 𝓕) where
       go (yes h) =
           sym (value-at 𝓕 g (source (g .circuit .cycles) x) (source-placed (g .circuit) (g .circuit .cycles) x a h))
           ∙ ap v (source-agree (g .circuit) (g .circuit .cycles) x a h)
-          ∙ good-labels (numCopied (g .circuit)) (rowsOf (g .circuit)) v Cs (cycles-good (g .circuit) (eleven 𝓕 g ad)) (copied-good 𝓕 g (eleven 𝓕 g ad) p) .same (firstLabel (g .circuit) x)
+          ∙ good-labels (numCopied (g .circuit)) (rowsOf (g .circuit)) v Cs (cycles-good (g .circuit) (eleven-yes 𝓕 g ad)) (copied-good 𝓕 g (eleven-yes 𝓕 g ad) p) .same (firstLabel (g .circuit) x)
           ∙ value-at 𝓕 g x h
       go (no h) = ap (cellValue 𝓕 g) (source-out (g .circuit) (g .circuit .cycles) x a h)
 
@@ -180,15 +180,15 @@ module _ (𝓕 : Field) where
         go (no n) =
             let pos : 0 < numCopied (g .circuit) = omega arith in
             let N : ℕ = numZ (g .circuit) in
-            let a : ℕ → ℕ → F = A 𝓕 g pos (kp 𝓕 g ad) (ks 𝓕 g ad) (eleven 𝓕 g ad) in
-            let b : ℕ → ℕ → F = B 𝓕 g pos (kp 𝓕 g ad) (ks 𝓕 g ad) (eleven 𝓕 g ad) in
-            running-agree 𝓕 g pos (kp 𝓕 g ad) (ks 𝓕 g ad) (eleven 𝓕 g ad) ((M - 1) * N)
+            let a : ℕ → ℕ → F = A 𝓕 g pos (k-positive 𝓕 g ad) (k-below-21 𝓕 g ad) (eleven-yes 𝓕 g ad) in
+            let b : ℕ → ℕ → F = B 𝓕 g pos (k-positive 𝓕 g ad) (k-below-21 𝓕 g ad) (eleven-yes 𝓕 g ad) in
+            running-agree 𝓕 g pos (k-positive 𝓕 g ad) (k-below-21 𝓕 g ad) (eleven-yes 𝓕 g ad) ((M - 1) * N)
             ∙ ap (scan 𝓕 (g .circuit .k) N a b) (sym (add-zero ((M - 1) * N)))
             ∙ sym (z-scan 𝓕 (g .circuit .k) N a b 0 (M - 1) (z-pos (g .circuit) pos) (omega arith))
-            ∙ running-closes 𝓕 (g .circuit .k) N a b (kp 𝓕 g ad) (ks 𝓕 g ad)
+            ∙ running-closes 𝓕 (g .circuit .k) N a b (k-positive 𝓕 g ad) (k-below-21 𝓕 g ad)
             (safe-parts 𝓕 (g .circuit .k) (numCopied (g .circuit)) (partSize (g .circuit) pos) (copiedAt 𝓕 g) (φ 𝓕 g) (Cs 𝓕 g) N
-            (λ i r l q m e. p .factor-denominators i l r m q (factor-agree 𝓕 g pos (kp 𝓕 g ad) (ks 𝓕 g ad) (eleven 𝓕 g ad) i r l m ∙ e)))
+            (λ i r l q m e. p .factor-denominators i l r m q (factor-agree 𝓕 g pos (k-positive 𝓕 g ad) (k-below-21 𝓕 g ad) (eleven-yes 𝓕 g ad) i r l m ∙ e)))
             (balanced 𝓕 (g .circuit .k) (numCopied (g .circuit)) (partSize (g .circuit) pos) (copiedAt 𝓕 g) (φ 𝓕 g) (Cs 𝓕 g) N (covers (g .circuit) pos)
-            (cycles-good (g .circuit) (eleven 𝓕 g ad))
-            (copied-good 𝓕 g (eleven 𝓕 g ad) p))
+            (cycles-good (g .circuit) (eleven-yes 𝓕 g ad))
+            (copied-good 𝓕 g (eleven-yes 𝓕 g ad) p))
         go (yes e) = ap (runningAt 𝓕 g) (ap (λ (n : ℕ). (M - 1) * n) (none-z (g .circuit) e) ∙ mul-zero (M - 1)) ∙ upTo-zero mul one (stepAt 𝓕 g)

@@ -1,7 +1,7 @@
 -- All that is claimed of the definitions, in one place. Each is proved in proofs/, under the name it has here. Assumes nothing.
 use mathlib.Core.Path.{_≡_}
 use mathlib.Core.Logic.{_↔_}
-use mathlib.Core.Bool.{false}
+use mathlib.Core.Bool.{Bool, true, false}
 use mathlib.Core.List.{List, [], _∷_, _++_}
 use Prim.Native.Nat.{ℕ, _*_, _<_}
 use lib.ListN.{length, getD, take, drop}
