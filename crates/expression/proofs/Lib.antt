@@ -3,3 +3,9 @@ pub mod Evaluate
 pub mod Agree
 pub mod FlatLength
 pub mod ReadBack
+pub mod Fuel
+pub mod Step
+pub mod Ways
+pub mod Hom
+pub mod Folds
+pub mod Elements

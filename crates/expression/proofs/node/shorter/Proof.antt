@@ -1,0 +1,20 @@
+use borrow.Author.Needs.{needs}
+use Rattle.expression.proofs.node.shorter.Statement.{statement}
+use Rattle.expression.proofs.node.shorter.Tie as tie
+use Rattle.expression.proofs.node.shorter.Reads as reads
+use Rattle.expression.proofs.node.shorter.Lts as lts
+
+-- src/node.rt:70:9
+returns : tie.Need-returns
+returns c = ?
+
+-- src/node.rt:72:5
+rem-result : tie.Need-rem-result
+rem-result c = search needs
+
+-- src/node.rt:65:1
+returns-2 : tie.Need-returns-2
+returns-2 c = ?
+
+pub shorter-spec : {M : Type 1} → statement M
+shorter-spec = tie.close (tie.spec returns rem-result returns-2)

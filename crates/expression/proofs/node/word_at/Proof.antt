@@ -1,0 +1,24 @@
+use borrow.Author.Needs.{needs}
+use Rattle.expression.proofs.node.word_at.Statement.{statement}
+use Rattle.expression.proofs.node.word_at.Tie as tie
+use Rattle.expression.proofs.node.word_at.Reads as reads
+use Rattle.expression.proofs.node.word_at.Lts as lts
+
+-- src/node.rt:37:16
+mul-result : tie.Need-mul-result
+mul-result c = search needs
+
+-- src/node.rt:37:16
+shared-slice-read-result : tie.Need-shared-slice-read-result
+shared-slice-read-result c = search needs
+
+-- src/node.rt:37:9
+returns : tie.Need-returns
+returns c = search needs
+
+-- src/node.rt:33:1
+returns-2 : tie.Need-returns-2
+returns-2 c = ?
+
+pub word-at-spec : {M : Type 1} → statement M
+word-at-spec = tie.close (tie.spec mul-result shared-slice-read-result returns returns-2)

@@ -1,0 +1,23 @@
+use Rattle.expression.proofs.query.kept_word.Statement.{statement}
+use Rattle.expression.proofs.query.kept_word.Tie as tie
+use Rattle.expression.proofs.query.kept_word.Reads as reads
+use Rattle.expression.proofs.query.kept_word.Lts as lts
+
+-- src/query.rt:21:7
+cast-result : tie.Need-cast-result
+cast-result c = ?
+
+-- src/query.rt:21:6
+add-result : tie.Need-add-result
+add-result c = ?
+
+-- src/query.rt:21:5
+cast-result-2 : tie.Need-cast-result-2
+cast-result-2 c = ?
+
+-- src/query.rt:17:1
+returns : tie.Need-returns
+returns c = ?
+
+pub kept-word-spec : {M : Type 1} → statement M
+kept-word-spec = tie.close (tie.spec cast-result add-result cast-result-2 returns)

@@ -1,0 +1,166 @@
+// The value of an expression at a row (Rust `evaluate`), from its node words.
+use super::node::{read_node, word_at, index, rotation_of};
+use super::words::{add, mul, neg};
+use super::poly::{Layout, poly_at};
+use bh::rotate;
+
+ghost use mathlib.Core.Path.{_≡_};
+ghost use mathlib.Core.Bool.{cond};
+ghost use Prim.Native.Nat.{_+_, _*_, _^_, _≤_, _<_};
+ghost use lib.Dec.{eqb};
+ghost use lib.ListN.{length};
+ghost use Rattle.bh.specs.Rows.{placeOf, lagrangeRow};
+ghost use Rattle.field.specs.Field.{𝔾, el};
+ghost use Rattle.expression.specs.Expr.{evaluate, spread, rest};
+ghost use Rattle.expression.specs.Nodes.{signed, exprOf, itemsOf, under, noExpr};
+ghost use Rattle.expression.specs.Value.{valueAt};
+ghost use Rattle.expression.specs.Reader.{Small};
+ghost use Rattle.expression.specs.Point.{Placed, Ready, environmentOf, polyValue, opsOf};
+
+// Where an expression is evaluated: a row, its place in the order, and EqXY's value there.
+pub struct Point {
+    pub k: usize,
+    pub row: usize,
+    pub place: usize,
+    pub eq: u64,
+}
+
+// The value of node n at a point.
+pub fn value(nodes: &[u64], circuit: &[u64], witness: &[u64], columns: &[u64], challenges: &[u64], layout: Layout, point: Point, n: usize) -> u64
+    requires { ⌜ (n * 4 + 4 ≤ length (now nodes)) × (Small layout × Placed point) ⌝ }
+    ensures { λ r. ⌜ el r ≡ valueAt 𝔾 (environmentOf (now (circuit .entry)) (now (witness .entry)) (now (columns .entry)) (now (challenges .entry)) layout point) (exprOf (now (nodes .entry)) n) (point .row) ⌝ }
+{
+    let c: [u64; 12] = [
+        point.k as u64,
+        point.row as u64,
+        point.place as u64,
+        point.eq,
+        layout.rows as u64,
+        layout.instances as u64,
+        layout.preprocess as u64,
+        layout.start as u64,
+        layout.witness as u64,
+        layout.permutations as u64,
+        layout.skipped as u64,
+        layout.rest as u64,
+    ];
+    node_value(nodes, circuit, witness, columns, challenges, &c, n)
+}
+
+// Lagrange at a row, by the row's place: 2^k divides 2^31, so the number kept in a word has the word's remainder.
+fn lagrange(word: u64, k: usize, row: usize, place: usize) -> u64
+    requires { ⌜ ((0 < k) × (k < 21)) × ((row < 2 ^ k) × (place ≡ placeOf k row)) ⌝ }
+    ensures { λ r. ⌜ el r ≡ cond (eqb row (lagrangeRow k (signed word))) (𝔾 .one) (𝔾 .zero) ⌝ }
+{
+    if index(word & ((1 << k) - 1)) == place {
+        return 1;
+    }
+    0
+}
+
+// A query at a point: polynomial q at the row that the rotation kept in a word leads to.
+fn query(circuit: &[u64], witness: &[u64], columns: &[u64], c: &[u64; 12], q: u64, word: u64) -> u64
+    requires { ⌜ Ready (now c) ⌝ }
+    ensures { λ r. ⌜ el r ≡ polyValue (now (circuit .entry)) (now (witness .entry)) (now (columns .entry)) (now (c .entry)) q (signed word) ⌝ }
+{
+    let k = index(c[0]);
+    let row = rotate(index(c[1]), rotation_of(word, k), k);
+    let rows = index(c[4]);
+    let instances = index(c[5]);
+    let preprocess = index(c[6]);
+    let start = index(c[7]);
+    let w = index(c[8]);
+    let permutations = index(c[9]);
+    let skipped = index(c[10]);
+    let rest = index(c[11]);
+    let layout = Layout { rows, instances, preprocess, start, witness: w, permutations, skipped, rest };
+    poly_at(circuit, witness, columns, layout, q, row)
+}
+
+fn node_value(nodes: &[u64], circuit: &[u64], witness: &[u64], columns: &[u64], challenges: &[u64], c: &[u64; 12], n: usize) -> u64
+    requires { ⌜ (n * 4 + 4 ≤ length (now nodes)) × Ready (now c) ⌝ }
+    ensures { λ r. ⌜ el r ≡ evaluate (opsOf (now (circuit .entry)) (now (witness .entry)) (now (columns .entry)) (now (challenges .entry)) (now (c .entry))) (exprOf (now (nodes .entry)) n) ⌝ }
+{
+    let d = read_node(nodes, n);
+    let kind = d.kind;
+    match kind {
+        1 => d.value,
+        2 => c[1],
+        3 => lagrange(d.value, index(c[0]), index(c[1]), index(c[2])),
+        4 => c[3],
+        5 => query(circuit, witness, columns, c, d.first, d.value),
+        6 => word_at(challenges, index(d.first)),
+        7 => neg(lower(nodes, circuit, witness, columns, challenges, c, n, d.first)),
+        8 => {
+            let x = lower(nodes, circuit, witness, columns, challenges, c, n, d.first);
+            let y = lower(nodes, circuit, witness, columns, challenges, c, n, d.second);
+            add(x, y)
+        }
+        9 => {
+            let x = lower(nodes, circuit, witness, columns, challenges, c, n, d.first);
+            let y = lower(nodes, circuit, witness, columns, challenges, c, n, d.second);
+            mul(x, y)
+        }
+        10 => {
+            let x = lower(nodes, circuit, witness, columns, challenges, c, n, d.first);
+            mul(x, d.value)
+        }
+        11 => {
+            let base = lower(nodes, circuit, witness, columns, challenges, c, n, d.first);
+            let item = index(d.second);
+            if item < n {
+                return chain(nodes, circuit, witness, columns, challenges, c, item, base);
+            }
+            0
+        }
+        _ => 0,
+    }
+}
+
+// The value of node a where it is below n, else 0.
+fn lower(nodes: &[u64], circuit: &[u64], witness: &[u64], columns: &[u64], challenges: &[u64], c: &[u64; 12], n: usize, a: u64) -> u64
+    requires { ⌜ (n * 4 + 4 ≤ length (now nodes)) × Ready (now c) ⌝ }
+    ensures { λ r. ⌜ el r ≡ evaluate (opsOf (now (circuit .entry)) (now (witness .entry)) (now (columns .entry)) (now (challenges .entry)) (now (c .entry))) (under n noExpr (exprOf (now (nodes .entry))) a) ⌝ }
+{
+    let b = index(a);
+    if b < n {
+        return node_value(nodes, circuit, witness, columns, challenges, c, b);
+    }
+    0
+}
+
+// The sum of the chain that begins at Item n, by powers of base.
+fn chain(nodes: &[u64], circuit: &[u64], witness: &[u64], columns: &[u64], challenges: &[u64], c: &[u64; 12], n: usize, base: u64) -> u64
+    requires { ⌜ (n * 4 + 4 ≤ length (now nodes)) × Ready (now c) ⌝ }
+    ensures { λ r. ⌜ el r ≡ spread (opsOf (now (circuit .entry)) (now (witness .entry)) (now (columns .entry)) (now (challenges .entry)) (now (c .entry))) (el base) (itemsOf (now (nodes .entry)) n) ⌝ }
+{
+    let d = read_node(nodes, n);
+    let x = lower(nodes, circuit, witness, columns, challenges, c, n, d.first);
+    if d.value == 0 {
+        return x;
+    }
+    let item = index(d.second);
+    if item < n {
+        return items(nodes, circuit, witness, columns, challenges, c, item, base, base, x);
+    }
+    add(x, mul(base, 0))
+}
+
+// The rest of a chain, from Item n on.
+fn items(nodes: &[u64], circuit: &[u64], witness: &[u64], columns: &[u64], challenges: &[u64], c: &[u64; 12], n: usize, base: u64, power: u64, acc: u64) -> u64
+    requires { ⌜ (n * 4 + 4 ≤ length (now nodes)) × Ready (now c) ⌝ }
+    ensures { λ r. ⌜ el r ≡ rest (opsOf (now (circuit .entry)) (now (witness .entry)) (now (columns .entry)) (now (challenges .entry)) (now (c .entry))) (el base) (el power) (el acc) (itemsOf (now (nodes .entry)) n) ⌝ }
+{
+    let d = read_node(nodes, n);
+    let x = lower(nodes, circuit, witness, columns, challenges, c, n, d.first);
+    let s = add(acc, mul(power, x));
+    if d.value == 0 {
+        return s;
+    }
+    let p = mul(power, base);
+    let item = index(d.second);
+    if item < n {
+        return items(nodes, circuit, witness, columns, challenges, c, item, base, p, s);
+    }
+    add(s, mul(p, 0))
+}
