@@ -1,15 +1,10 @@
 -- The polynomials as they stand in the circuit words, the witness words and the column words. Assumes nothing.
-use mathlib.Core.List.{List, _++_, map}
+use mathlib.Core.List.{List, _++_}
 use Prim.Native.Nat.{ℕ, _+_, _*_, _≤_}
 use lib.ListN.{getD}
 use Rattle.field.specs.Field.{𝔾, el}
 use Rattle.util.specs.Lists.{column}
-use Rattle.expression.specs.Value.{Environment}
 use Rattle.expression.specs.declared.poly.Layout.{Layout}
-
--- column i, of `rows` words, from word `start` on
-abbrev pub columnAt : List ℕ → ℕ → ℕ → ℕ → ℕ → 𝔾 .F
-columnAt ws rows start i b = el (getD ws (start + i * rows + b) 0)
 
 -- "Polynomial numbers run instance, preprocess, witness, permutation, m, h, z"; "The column buffer holds instance, permutation,
 -- compressed input and table per lookup, m, h, z, each 2^k words": the compressed ones are passed over

@@ -2,7 +2,8 @@
 use super::node::{word_at, index};
 
 ghost use mathlib.Core.Path.{_≡_};
-ghost use Prim.Native.Nat.{_≤_, _<_};
+ghost use Prim.Native.Nat.{_+_, _*_, _≤_, _<_};
+ghost use lib.ListN.{getD};
 ghost use Rattle.field.specs.Field.{𝔾, el};
 ghost use Rattle.expression.specs.Value.{polyOf};
 ghost use Rattle.expression.specs.Reader.{polysOf, Small};
@@ -20,31 +21,46 @@ pub struct Layout {
     pub rest: usize,
 }
 
+// Column i of columns that begin at a word, at a row; 0 where there is none.
+pub fn cell(ws: &[u64], start: usize, i: usize, rows: usize, row: usize) -> u64
+    requires { ⌜ ((start ≤ 1152921504606846976) × (i ≤ 4194304)) × ((rows ≤ 1048576) × (row < 1048576)) ⌝ }
+    ensures { λ r. ⌜ r ≡ getD (now (ws .entry)) (start + i * rows + row) 0 ⌝ }
+{
+    word_at(ws, start + i * rows + row)
+}
+
 // Polynomial q at a row, 0 where there is none.
 pub fn poly_at(circuit: &[u64], witness: &[u64], columns: &[u64], layout: Layout, q: u64, row: usize) -> u64
     requires { ⌜ Small layout × (row < 1048576) ⌝ }
     ensures { λ r. ⌜ el r ≡ polyOf 𝔾 (polysOf layout (now (circuit .entry)) (now (witness .entry)) (now (columns .entry))) q row ⌝ }
 {
     let rows = layout.rows;
-    let q0 = index(q);
-    if q0 < layout.instances {
-        return word_at(columns, q0 * rows + row);
+    let instances = layout.instances;
+    let preprocess = layout.preprocess;
+    let start = layout.start;
+    let witnesses = layout.witness;
+    let permutations = layout.permutations;
+    let skipped = layout.skipped;
+    let rest = layout.rest;
+    let at = index(q);
+    if at < instances {
+        return cell(columns, 0, at, rows, row);
     }
-    let q1 = q0 - layout.instances;
-    if q1 < layout.preprocess {
-        return word_at(circuit, layout.start + q1 * rows + row);
+    let at1 = at - instances;
+    if at1 < preprocess {
+        return cell(circuit, start, at1, rows, row);
     }
-    let q2 = q1 - layout.preprocess;
-    if q2 < layout.witness {
-        return word_at(witness, q2 * rows + row);
+    let at2 = at1 - preprocess;
+    if at2 < witnesses {
+        return cell(witness, 0, at2, rows, row);
     }
-    let q3 = q2 - layout.witness;
-    if q3 < layout.permutations {
-        return word_at(columns, (layout.instances + q3) * rows + row);
+    let at3 = at2 - witnesses;
+    if at3 < permutations {
+        return cell(columns, 0, instances + at3, rows, row);
     }
-    let q4 = q3 - layout.permutations;
-    if q4 < layout.rest {
-        return word_at(columns, (layout.instances + layout.permutations + layout.skipped + q4) * rows + row);
+    let at4 = at3 - permutations;
+    if at4 < rest {
+        return cell(columns, 0, instances + permutations + skipped + at4, rows, row);
     }
     0
 }

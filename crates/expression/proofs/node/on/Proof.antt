@@ -1,3 +1,4 @@
+use Rattle.expression.proofs.Signed.{on-is}
 use borrow.Author.Needs.{needs}
 use Rattle.expression.proofs.node.on.Statement.{statement}
 use Rattle.expression.proofs.node.on.Tie as tie
@@ -10,7 +11,7 @@ cast-t2 c = search needs
 
 -- src/node.rt:49:1
 returns : tie.Need-returns
-returns c = ?
+returns c = on-is (c .args .d) (c .pre)
 
 pub on-spec : {M : Type 1} → statement M
 on-spec = tie.close (tie.spec cast-t2 returns)

@@ -1,3 +1,5 @@
+use Prim.Native.Nat.{_*_}
+use native.Mathlib.Nat.{add-zero}
 use borrow.Author.Needs.{needs}
 use Rattle.expression.proofs.node.read_node.Statement.{statement}
 use Rattle.expression.proofs.node.read_node.Tie as tie
@@ -54,7 +56,7 @@ shared-slice-read-value c = search needs
 
 -- src/node.rt:20:1
 returns : tie.Need-returns
-returns c = cc
+returns c = cc (add-zero (c .before .before .before .before .args .n * 4))
 
 pub read-node-spec : {M : Type 1} → statement M
 read-node-spec =

@@ -1,3 +1,6 @@
+use mathlib.Core.Path.{refl, sym}
+use native.Mathlib.Nat.{mod-eq-of-lt, mod-lt}
+use native.Mathlib.Omega.{arith}
 use borrow.Author.Needs.{needs}
 use Rattle.expression.proofs.node.shorter.Statement.{statement}
 use Rattle.expression.proofs.node.shorter.Tie as tie
@@ -6,7 +9,7 @@ use Rattle.expression.proofs.node.shorter.Lts as lts
 
 -- src/node.rt:70:9
 returns : tie.Need-returns
-returns c = ?
+returns c = (sym (mod-eq-of-lt (c .if1 .taken)), omega arith)
 
 -- src/node.rt:72:5
 rem-result : tie.Need-rem-result
@@ -14,7 +17,7 @@ rem-result c = search needs
 
 -- src/node.rt:65:1
 returns-2 : tie.Need-returns-2
-returns-2 c = ?
+returns-2 c = (refl, omega (arith, mod-lt (c .before .args .d) (c .before .pre .0)))
 
 pub shorter-spec : {M : Type 1} → statement M
 shorter-spec = tie.close (tie.spec returns rem-result returns-2)

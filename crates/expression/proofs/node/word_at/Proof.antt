@@ -1,3 +1,5 @@
+use mathlib.Core.Path.{sym}
+use lib.ListN.{List·getD-eq-default}
 use borrow.Author.Needs.{needs}
 use Rattle.expression.proofs.node.word_at.Statement.{statement}
 use Rattle.expression.proofs.node.word_at.Tie as tie
@@ -18,7 +20,7 @@ returns c = search needs
 
 -- src/node.rt:33:1
 returns-2 : tie.Need-returns-2
-returns-2 c = ?
+returns-2 c = sym (List·getD-eq-default (c .before .args .ws .now) 0 {n = c .before .args .i} (c .if1 .left))
 
 pub word-at-spec : {M : Type 1} → statement M
 word-at-spec = tie.close (tie.spec mul-result shared-slice-read-result returns returns-2)

@@ -4,113 +4,69 @@ use Rattle.expression.proofs.poly.poly_at.Tie as tie
 use Rattle.expression.proofs.poly.poly_at.Reads as reads
 use Rattle.expression.proofs.poly.poly_at.Lts as lts
 use Rattle.expression.proofs.node.index.Reads as index-reads
-use Rattle.expression.proofs.node.word_at.Reads as word-at-reads
+use Rattle.expression.proofs.poly.cell.Reads as cell-reads
 
--- src/poly.rt:29:9
+-- src/poly.rt:45:9
 index-requires : tie.Need-index-requires
 index-requires c κs = search needs
 
--- src/poly.rt:31:33
-mul-word-at : tie.Need-mul-word-at
-mul-word-at c = ?
+-- src/poly.rt:47:9
+cell-requires : tie.Need-cell-requires
+cell-requires c κs = search needs
 
--- src/poly.rt:31:33
-add-word-at : tie.Need-add-word-at
-add-word-at c = ?
-
--- src/poly.rt:31:9
-word-at-requires : tie.Need-word-at-requires
-word-at-requires c κs = search needs
-
--- src/poly.rt:31:9
+-- src/poly.rt:47:9
 returns : tie.Need-returns
 returns c = ?
 
--- src/poly.rt:35:48
-mul-word-at-2 : tie.Need-mul-word-at-2
-mul-word-at-2 c = ?
+-- src/poly.rt:51:9
+cell-requires-2 : tie.Need-cell-requires-2
+cell-requires-2 c κs = search needs
 
--- src/poly.rt:35:33
-add-word-at-2 : tie.Need-add-word-at-2
-add-word-at-2 c = ?
-
--- src/poly.rt:35:33
-add-word-at-3 : tie.Need-add-word-at-3
-add-word-at-3 c = ?
-
--- src/poly.rt:35:9
-word-at-requires-2 : tie.Need-word-at-requires-2
-word-at-requires-2 c κs = search needs
-
--- src/poly.rt:35:9
+-- src/poly.rt:51:9
 returns-2 : tie.Need-returns-2
 returns-2 c = ?
 
--- src/poly.rt:39:33
-mul-word-at-3 : tie.Need-mul-word-at-3
-mul-word-at-3 c = ?
+-- src/poly.rt:55:9
+cell-requires-3 : tie.Need-cell-requires-3
+cell-requires-3 c κs = search needs
 
--- src/poly.rt:39:33
-add-word-at-4 : tie.Need-add-word-at-4
-add-word-at-4 c = ?
-
--- src/poly.rt:39:9
-word-at-requires-3 : tie.Need-word-at-requires-3
-word-at-requires-3 c κs = search needs
-
--- src/poly.rt:39:9
+-- src/poly.rt:55:9
 returns-3 : tie.Need-returns-3
 returns-3 c = ?
 
--- src/poly.rt:43:34
-add-word-at-5 : tie.Need-add-word-at-5
-add-word-at-5 c = search needs
+-- src/poly.rt:59:33
+add-cell : tie.Need-add-cell
+add-cell c = search needs
 
--- src/poly.rt:43:33
-mul-word-at-4 : tie.Need-mul-word-at-4
-mul-word-at-4 c = ?
+-- src/poly.rt:59:9
+cell-requires-4 : tie.Need-cell-requires-4
+cell-requires-4 c κs = search needs
 
--- src/poly.rt:43:33
-add-word-at-6 : tie.Need-add-word-at-6
-add-word-at-6 c = ?
-
--- src/poly.rt:43:9
-word-at-requires-4 : tie.Need-word-at-requires-4
-word-at-requires-4 c κs = search needs
-
--- src/poly.rt:43:9
+-- src/poly.rt:59:9
 returns-4 : tie.Need-returns-4
 returns-4 c = ?
 
--- src/poly.rt:47:34
-add-word-at-7 : tie.Need-add-word-at-7
-add-word-at-7 c = ?
+-- src/poly.rt:63:33
+add-cell-2 : tie.Need-add-cell-2
+add-cell-2 c = search needs
 
--- src/poly.rt:47:34
-add-word-at-8 : tie.Need-add-word-at-8
-add-word-at-8 c = ?
+-- src/poly.rt:63:33
+add-cell-3 : tie.Need-add-cell-3
+add-cell-3 c = search needs
 
--- src/poly.rt:47:34
-add-word-at-9 : tie.Need-add-word-at-9
-add-word-at-9 c = ?
+-- src/poly.rt:63:33
+add-cell-4 : tie.Need-add-cell-4
+add-cell-4 c = search needs
 
--- src/poly.rt:47:33
-mul-word-at-5 : tie.Need-mul-word-at-5
-mul-word-at-5 c = ?
+-- src/poly.rt:63:9
+cell-requires-5 : tie.Need-cell-requires-5
+cell-requires-5 c κs = search needs
 
--- src/poly.rt:47:33
-add-word-at-10 : tie.Need-add-word-at-10
-add-word-at-10 c = ?
-
--- src/poly.rt:47:9
-word-at-requires-5 : tie.Need-word-at-requires-5
-word-at-requires-5 c κs = search needs
-
--- src/poly.rt:47:9
+-- src/poly.rt:63:9
 returns-5 : tie.Need-returns-5
 returns-5 c = ?
 
--- src/poly.rt:24:1
+-- src/poly.rt:33:1
 returns-6 : tie.Need-returns-6
 returns-6 c = ?
 
@@ -119,29 +75,18 @@ poly-at-spec =
     tie.close
     (tie.spec
     index-requires
-    mul-word-at
-    add-word-at
-    word-at-requires
+    cell-requires
     returns
-    mul-word-at-2
-    add-word-at-2
-    add-word-at-3
-    word-at-requires-2
+    cell-requires-2
     returns-2
-    mul-word-at-3
-    add-word-at-4
-    word-at-requires-3
+    cell-requires-3
     returns-3
-    add-word-at-5
-    mul-word-at-4
-    add-word-at-6
-    word-at-requires-4
+    add-cell
+    cell-requires-4
     returns-4
-    add-word-at-7
-    add-word-at-8
-    add-word-at-9
-    mul-word-at-5
-    add-word-at-10
-    word-at-requires-5
+    add-cell-2
+    add-cell-3
+    add-cell-4
+    cell-requires-5
     returns-5
     returns-6)

@@ -1,0 +1,29 @@
+use borrow.Author.Needs.{needs}
+use Rattle.expression.proofs.poly.cell.Statement.{statement}
+use Rattle.expression.proofs.poly.cell.Tie as tie
+use Rattle.expression.proofs.poly.cell.Reads as reads
+use Rattle.expression.proofs.poly.cell.Lts as lts
+use Rattle.expression.proofs.node.word_at.Reads as word-at-reads
+
+-- src/poly.rt:29:25
+mul-word-at : tie.Need-mul-word-at
+mul-word-at c = ?
+
+-- src/poly.rt:29:17
+add-word-at : tie.Need-add-word-at
+add-word-at c = ?
+
+-- src/poly.rt:29:17
+add-word-at-2 : tie.Need-add-word-at-2
+add-word-at-2 c = ?
+
+-- src/poly.rt:29:5
+word-at-requires : tie.Need-word-at-requires
+word-at-requires c κs = search needs
+
+-- src/poly.rt:25:1
+returns : tie.Need-returns
+returns c = search needs
+
+pub cell-spec : {M : Type 1} → statement M
+cell-spec = tie.close (tie.spec mul-word-at add-word-at add-word-at-2 word-at-requires returns)
