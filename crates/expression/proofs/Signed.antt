@@ -12,12 +12,15 @@ use lib.Signed.{nonNeg}
 use mir.Syntax.{w32, w64}
 use mir.Val.{Fits, SFits, toZ, ofZ}
 use mir.Facts.{sfits-widen, fits-natAbs, toZ-ofZ, toZ-pos}
-use borrow.Author.Tests.{lt-ltb, le-ltb, eq-eqb, ne-eqb, eqb-true}
+use borrow.Author.Tests.{lt-ltb, le-ltb, eq-eqb, ne-eqb, eqb-true, eqb-false}
+use mathlib.Core.Logic.{_≢_}
+use Rattle.util.proofs.Tests.{by-test}
 use Rattle.bh.specs.Rows.{iter, nextRow, prevRow, rowAt, placeOf, rotated, modZ, lagrangeRow}
 use Rattle.bh.proofs.Iter.{iter-add, iter-zero, iter-comm}
 use Rattle.bh.proofs.Order.{walk-undo, back-walk-lt, row-nought, row-suc, row-lt, row-once, next-nought, next-returns}
 use Rattle.bh.proofs.Words.{shifted}
 use Rattle.bh.proofs.Place.{row-place, place-lt, place-row}
+use Rattle.expression.specs.Expr.{sameℤ}
 use Rattle.expression.specs.Nodes.{signed, kept}
 
 -- ---- a distance as a signed number
@@ -58,6 +61,83 @@ signed-back w h =
 pub signed-on : (w : ℕ) → 2147483648 ≤ w → signed w ≡ pos (w - 2147483648)
 signed-on w h =
     ap (λ (t : Bool). cond t (negsuc (2147483648 - suc w)) (pos (w - 2147483648))) (le-ltb w 2147483648 h)
+
+-- ---- a rotation as the word that keeps it
+
+module _ (z : ℤ) (fits : SFits w32 z) where
+  abbrev wider : ℤ
+  wider = toZ w64 (ofZ w64 (toZ w32 (ofZ w32 z)))
+
+  pub widens : SFits w64 (toZ w32 (ofZ w32 z))
+  widens = subst⁻¹ (SFits w64) (toZ-ofZ {w = w32} fits) (sfits-widen tt fits)
+
+  wide : wider ≡ z
+  wide = toZ-ofZ {w = w64} widens ∙ toZ-ofZ {w = w32} fits
+
+  plus-is : (y : ℤ) → SFits w32 y → y +ℤ pos 2147483648 ≡ pos (kept y)
+  plus-is (pos n) f = refl
+  plus-is (negsuc n) f =
+      ap (λ (t : Bool). cond t (negsuc (suc n - suc 2147483648)) (pos (2147483648 - suc n)))
+      (le-ltb 2147483648 (suc n) (let g = f .sfits in omega arith))
+
+  sum-is : wider +ℤ pos 2147483648 ≡ pos (kept z)
+  sum-is = ap (λ (y : ℤ). y +ℤ pos 2147483648) wide ∙ plus-is z fits
+
+  kept-small : (y : ℤ) → SFits w32 y → kept y < 2 ^ 32
+  kept-small (pos n) f = let g = f .sfits in omega arith
+  kept-small (negsuc n) f = omega arith
+
+  kept-fits : SFits w64 (pos (kept z))
+  kept-fits = record { sfits = let g = kept-small z fits in omega arith }
+
+  pub sum-fits : SFits w64 (wider +ℤ pos 2147483648)
+  sum-fits = subst⁻¹ (SFits w64) sum-is kept-fits
+
+  sum-read : toZ w64 (ofZ w64 (wider +ℤ pos 2147483648)) ≡ pos (kept z)
+  sum-read = toZ-ofZ {w = w64} sum-fits ∙ sum-is
+
+  Casts : ℤ → Type 0
+  Casts y = T (nonNeg y) × Fits w64 (natAbs y)
+
+  pub sum-casts : T (nonNeg (toZ w64 (ofZ w64 (wider +ℤ pos 2147483648)))) × Fits w64 (natAbs (toZ w64 (ofZ w64 (wider +ℤ pos 2147483648))))
+  unfolding Casts
+  sum-casts = subst⁻¹ Casts sum-read (tt, record { fits = let g = kept-small z fits in omega arith })
+
+  pub kept-is : natAbs (toZ w64 (ofZ w64 (wider +ℤ pos 2147483648))) ≡ kept z
+  kept-is = ap natAbs sum-read
+
+  signed-of : (y : ℤ) → SFits w32 y → signed (kept y) ≡ y
+  signed-of (pos n) f = signed-on (n + 2147483648) (omega arith) ∙ ap pos (let e : n + 2147483648 - 2147483648 ≡ n = omega arith in e)
+  signed-of (negsuc n) f =
+      let g = f .sfits in
+      signed-back (2147483648 - suc n) (omega arith)
+      ∙ ap (λ (x : ℕ). negℤ (pos x)) (let e : 2147483648 - (2147483648 - suc n) ≡ suc n = omega arith in e)
+
+  pub signed-kept : signed (kept z) ≡ z
+  signed-kept = signed-of z fits
+
+-- two words keep one number only if they are one word
+pub signed-same : (v w : ℕ) → sameℤ (signed v) (signed w) ≡ eqb v w
+signed-same v w = go (decLt v 2147483648) (decLt w 2147483648)
+  where
+    equal : (a b c d : ℕ) → (a ≡ b → c ≡ d) → (c ≡ d → a ≡ b) → eqb a b ≡ eqb c d
+    equal a b c d f g = by-test (eqb c d) (λ t. eq-eqb a b (g (eqb-true c d t)) ∙ sym t) (λ t. ne-eqb a b (λ e. eqb-false c d t (f e)) ∙ sym t)
+
+    back : (u : ℕ) → u < 2147483648 → signed u ≡ negsuc (2147483648 - suc u)
+    back u h = ap (λ (t : Bool). cond t (negsuc (2147483648 - suc u)) (pos (u - 2147483648))) (lt-ltb u 2147483648 h)
+
+    apart : v ≢ w → false ≡ eqb v w
+    apart n = sym (ne-eqb v w n)
+
+    go : Dec (v < 2147483648) → Dec (w < 2147483648) → sameℤ (signed v) (signed w) ≡ eqb v w
+    go (yes h) (yes g) =
+        ap₂ sameℤ (back v h) (back w g)
+        ∙ equal (2147483648 - suc v) (2147483648 - suc w) v w (λ e. omega arith) (λ e. ap (λ (x : ℕ). 2147483648 - suc x) e)
+    go (yes h) (no g) = ap₂ sameℤ (back v h) (signed-on w (omega arith)) ∙ apart (λ e. omega arith)
+    go (no h) (yes g) = ap₂ sameℤ (signed-on v (omega arith)) (back w g) ∙ apart (λ e. omega arith)
+    go (no h) (no g) =
+        ap₂ sameℤ (signed-on v (omega arith)) (signed-on w (omega arith))
+        ∙ equal (v - 2147483648) (w - 2147483648) v w (λ e. omega arith) (λ e. ap (λ (x : ℕ). x - 2147483648) e)
 
 -- ---- round the order
 

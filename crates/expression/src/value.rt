@@ -9,13 +9,13 @@ ghost use mathlib.Core.Bool.{cond};
 ghost use Prim.Native.Nat.{_+_, _*_, _^_, _≤_, _<_};
 ghost use lib.Dec.{eqb};
 ghost use lib.ListN.{length};
-ghost use Rattle.bh.specs.Rows.{placeOf, lagrangeRow};
+ghost use Rattle.bh.specs.Rows.{placeOf, rotated, lagrangeRow};
 ghost use Rattle.field.specs.Field.{𝔾, el};
 ghost use Rattle.expression.specs.Expr.{evaluate, spread, rest};
 ghost use Rattle.expression.specs.Nodes.{signed, exprOf, itemsOf, under, noExpr};
 ghost use Rattle.expression.specs.Value.{valueAt};
 ghost use Rattle.expression.specs.Reader.{Small};
-ghost use Rattle.expression.specs.Point.{Placed, Ready, environmentOf, polyValue, opsOf};
+ghost use Rattle.expression.specs.Point.{Placed, Ready, pointOf, layoutOf, environmentOf, polyValue, opsOf};
 
 // Where an expression is evaluated: a row, its place in the order, and EqXY's value there.
 pub struct Point {
@@ -30,19 +30,19 @@ pub fn value(nodes: &[u64], circuit: &[u64], witness: &[u64], columns: &[u64], c
     requires { ⌜ (n * 4 + 4 ≤ length (now nodes)) × (Small layout × Placed point) ⌝ }
     ensures { λ r. ⌜ el r ≡ valueAt 𝔾 (environmentOf (now (circuit .entry)) (now (witness .entry)) (now (columns .entry)) (now (challenges .entry)) layout point) (exprOf (now (nodes .entry)) n) (point .row) ⌝ }
 {
-    let c: [u64; 12] = [
-        point.k as u64,
-        point.row as u64,
-        point.place as u64,
-        point.eq,
-        layout.rows as u64,
-        layout.instances as u64,
-        layout.preprocess as u64,
-        layout.start as u64,
-        layout.witness as u64,
-        layout.permutations as u64,
-        layout.skipped as u64,
-        layout.rest as u64,
+    let c: [usize; 12] = [
+        point.k,
+        point.row,
+        point.place,
+        index(point.eq),
+        layout.rows,
+        layout.instances,
+        layout.preprocess,
+        layout.start,
+        layout.witness,
+        layout.permutations,
+        layout.skipped,
+        layout.rest,
     ];
     node_value(nodes, circuit, witness, columns, challenges, &c, n)
 }
@@ -58,26 +58,46 @@ fn lagrange(word: u64, k: usize, row: usize, place: usize) -> u64
     0
 }
 
-// A query at a point: polynomial q at the row that the rotation kept in a word leads to.
-fn query(circuit: &[u64], witness: &[u64], columns: &[u64], c: &[u64; 12], q: u64, word: u64) -> u64
-    requires { ⌜ Ready (now c) ⌝ }
-    ensures { λ r. ⌜ el r ≡ polyValue (now (circuit .entry)) (now (witness .entry)) (now (columns .entry)) (now (c .entry)) q (signed word) ⌝ }
+// A number as a word.
+fn word(x: usize) -> u64
+    ensures { λ r. ⌜ r ≡ x ⌝ }
 {
-    let k = index(c[0]);
-    let row = rotate(index(c[1]), rotation_of(word, k), k);
-    let rows = index(c[4]);
-    let instances = index(c[5]);
-    let preprocess = index(c[6]);
-    let start = index(c[7]);
-    let w = index(c[8]);
-    let permutations = index(c[9]);
-    let skipped = index(c[10]);
-    let rest = index(c[11]);
-    let layout = Layout { rows, instances, preprocess, start, witness: w, permutations, skipped, rest };
-    poly_at(circuit, witness, columns, layout, q, row)
+    x as u64
 }
 
-fn node_value(nodes: &[u64], circuit: &[u64], witness: &[u64], columns: &[u64], challenges: &[u64], c: &[u64; 12], n: usize) -> u64
+fn layout_of(c: &[usize; 12]) -> Layout
+    ensures { λ r. ⌜ r ≡ layoutOf (now (c .entry)) ⌝ }
+{
+    let rows = c[4];
+    let instances = c[5];
+    let preprocess = c[6];
+    let start = c[7];
+    let witness = c[8];
+    let permutations = c[9];
+    let skipped = c[10];
+    let rest = c[11];
+    Layout { rows, instances, preprocess, start, witness, permutations, skipped, rest }
+}
+
+// The row that the rotation kept in a word leads to.
+fn turned(c: &[usize; 12], rotation: u64) -> usize
+    requires { ⌜ Ready (now c) ⌝ }
+    ensures { λ r. ⌜ (r ≡ rotated (pointOf (now (c .entry)) .k) (pointOf (now (c .entry)) .row) (signed rotation)) × (r < 1048576) ⌝ }
+{
+    let k = c[0];
+    let row = c[1];
+    rotate(row, rotation_of(rotation, k), k)
+}
+
+// A query at a point: a polynomial at the row that its rotation leads to.
+fn query(circuit: &[u64], witness: &[u64], columns: &[u64], c: &[usize; 12], polynomial: u64, rotation: u64) -> u64
+    requires { ⌜ Ready (now c) ⌝ }
+    ensures { λ r. ⌜ el r ≡ polyValue (now (circuit .entry)) (now (witness .entry)) (now (columns .entry)) (now (c .entry)) polynomial (signed rotation) ⌝ }
+{
+    poly_at(circuit, witness, columns, layout_of(c), polynomial, turned(c, rotation))
+}
+
+fn node_value(nodes: &[u64], circuit: &[u64], witness: &[u64], columns: &[u64], challenges: &[u64], c: &[usize; 12], n: usize) -> u64
     requires { ⌜ (n * 4 + 4 ≤ length (now nodes)) × Ready (now c) ⌝ }
     ensures { λ r. ⌜ el r ≡ evaluate (opsOf (now (circuit .entry)) (now (witness .entry)) (now (columns .entry)) (now (challenges .entry)) (now (c .entry))) (exprOf (now (nodes .entry)) n) ⌝ }
 {
@@ -85,9 +105,9 @@ fn node_value(nodes: &[u64], circuit: &[u64], witness: &[u64], columns: &[u64], 
     let kind = d.kind;
     match kind {
         1 => d.value,
-        2 => c[1],
-        3 => lagrange(d.value, index(c[0]), index(c[1]), index(c[2])),
-        4 => c[3],
+        2 => word(c[1]),
+        3 => lagrange(d.value, c[0], c[1], c[2]),
+        4 => word(c[3]),
         5 => query(circuit, witness, columns, c, d.first, d.value),
         6 => word_at(challenges, index(d.first)),
         7 => neg(lower(nodes, circuit, witness, columns, challenges, c, n, d.first)),
@@ -118,7 +138,7 @@ fn node_value(nodes: &[u64], circuit: &[u64], witness: &[u64], columns: &[u64], 
 }
 
 // The value of node a where it is below n, else 0.
-fn lower(nodes: &[u64], circuit: &[u64], witness: &[u64], columns: &[u64], challenges: &[u64], c: &[u64; 12], n: usize, a: u64) -> u64
+fn lower(nodes: &[u64], circuit: &[u64], witness: &[u64], columns: &[u64], challenges: &[u64], c: &[usize; 12], n: usize, a: u64) -> u64
     requires { ⌜ (n * 4 + 4 ≤ length (now nodes)) × Ready (now c) ⌝ }
     ensures { λ r. ⌜ el r ≡ evaluate (opsOf (now (circuit .entry)) (now (witness .entry)) (now (columns .entry)) (now (challenges .entry)) (now (c .entry))) (under n noExpr (exprOf (now (nodes .entry))) a) ⌝ }
 {
@@ -130,7 +150,7 @@ fn lower(nodes: &[u64], circuit: &[u64], witness: &[u64], columns: &[u64], chall
 }
 
 // The sum of the chain that begins at Item n, by powers of base.
-fn chain(nodes: &[u64], circuit: &[u64], witness: &[u64], columns: &[u64], challenges: &[u64], c: &[u64; 12], n: usize, base: u64) -> u64
+fn chain(nodes: &[u64], circuit: &[u64], witness: &[u64], columns: &[u64], challenges: &[u64], c: &[usize; 12], n: usize, base: u64) -> u64
     requires { ⌜ (n * 4 + 4 ≤ length (now nodes)) × Ready (now c) ⌝ }
     ensures { λ r. ⌜ el r ≡ spread (opsOf (now (circuit .entry)) (now (witness .entry)) (now (columns .entry)) (now (challenges .entry)) (now (c .entry))) (el base) (itemsOf (now (nodes .entry)) n) ⌝ }
 {
@@ -147,7 +167,7 @@ fn chain(nodes: &[u64], circuit: &[u64], witness: &[u64], columns: &[u64], chall
 }
 
 // The rest of a chain, from Item n on.
-fn items(nodes: &[u64], circuit: &[u64], witness: &[u64], columns: &[u64], challenges: &[u64], c: &[u64; 12], n: usize, base: u64, power: u64, acc: u64) -> u64
+fn items(nodes: &[u64], circuit: &[u64], witness: &[u64], columns: &[u64], challenges: &[u64], c: &[usize; 12], n: usize, base: u64, power: u64, acc: u64) -> u64
     requires { ⌜ (n * 4 + 4 ≤ length (now nodes)) × Ready (now c) ⌝ }
     ensures { λ r. ⌜ el r ≡ rest (opsOf (now (circuit .entry)) (now (witness .entry)) (now (columns .entry)) (now (challenges .entry)) (now (c .entry))) (el base) (el power) (el acc) (itemsOf (now (nodes .entry)) n) ⌝ }
 {
