@@ -1,10 +1,11 @@
 -- The leaves of an expression, as the code reads them. Assumes nothing.
 use mathlib.Core.Path.{_≡_, refl, sym, ap, _∙_}
 use mathlib.Core.Bool.{Bool, cond}
-use mathlib.Core.List.{List, map}
-use Prim.Native.Nat.{ℕ, _-_, _*_, _%_, _^_, _<_}
+use mathlib.Core.List.{List, [], _∷_, map}
+use Prim.Native.Nat.{ℕ, zero, suc, _-_, _*_, _%_, _^_, _<_}
 use lib.Bits.{bitAnd, and-mask}
 use lib.Dec.{eqb}
+use lib.ListN.{getD}
 use Rattle.bh.specs.Rows.{placeOf, lagrangeRow}
 use Rattle.field.specs.Field.{𝔾, el, el-zero, el-one}
 use Rattle.expression.specs.Nodes.{signed}
@@ -23,3 +24,12 @@ module _ (k : ℕ) (h : 0 < k) (l : k < 21) (row place w : ℕ) (m : row < 2 ^ k
   lagrange-zero p =
       el-zero
       ∙ sym (ap (λ (t : Bool). cond t (𝔾 .one) (𝔾 .zero)) (lagrange-away k h l row place w m e (λ q. p (masked ∙ q))))
+
+-- a challenge, 0 where there is none
+pub challenge-is : (cs : List ℕ) (i j : ℕ) → j ≡ i → (r : ℕ) → r ≡ getD cs j 0 → el r ≡ getD (map el cs) i (𝔾 .zero)
+challenge-is cs i j e r h = ap el (h ∙ ap (λ (n : ℕ). getD cs n 0) e) ∙ go cs i
+  where
+    go : (xs : List ℕ) (n : ℕ) → el (getD xs n 0) ≡ getD (map el xs) n (𝔾 .zero)
+    go [] n = el-zero
+    go (x ∷ xs) zero = refl
+    go (x ∷ xs) (suc n) = go xs n

@@ -12,3 +12,4 @@ pub mod Elements
 pub mod Reader
 pub mod Signed
 pub mod Leaves
+pub mod Sizes

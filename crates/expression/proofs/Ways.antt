@@ -44,64 +44,65 @@ module _ {T : Type 0} (o : Ops T) (ws : List ℕ) (n : ℕ) (d : Node) (read : d
   unfolding nodeOf kindOf evaluate
   met-challenge k = sym (ap (evaluate o) (of-kind ws n d read 6 k))
 
-  module _ (x y : T) where
-    pub met-negated : d .kind ≡ 7 → x ≡ evaluate o (low ws n (d .first)) → o .negatedOp x ≡ evaluate o (exprOf ws n)
+  module _ (x : T) (hx : x ≡ evaluate o (low ws n (d .first))) where
+    pub met-negated : d .kind ≡ 7 → o .negatedOp x ≡ evaluate o (exprOf ws n)
     unfolding nodeOf kindOf evaluate
-    met-negated k hx = ap (o .negatedOp) hx ∙ sym (ap (evaluate o) (of-kind ws n d read 7 k))
+    met-negated k = ap (o .negatedOp) hx ∙ sym (ap (evaluate o) (of-kind ws n d read 7 k))
 
-    pub met-sum : d .kind ≡ 8 → x ≡ evaluate o (low ws n (d .first)) → y ≡ evaluate o (low ws n (d .second))
-        → o .sumOp x y ≡ evaluate o (exprOf ws n)
+    pub met-sum : (y : T) → y ≡ evaluate o (low ws n (d .second)) → d .kind ≡ 8 → o .sumOp x y ≡ evaluate o (exprOf ws n)
     unfolding nodeOf kindOf evaluate
-    met-sum k hx hy = ap₂ (o .sumOp) hx hy ∙ sym (ap (evaluate o) (of-kind ws n d read 8 k))
+    met-sum y hy k = ap₂ (o .sumOp) hx hy ∙ sym (ap (evaluate o) (of-kind ws n d read 8 k))
 
-    pub met-product : d .kind ≡ 9 → x ≡ evaluate o (low ws n (d .first)) → y ≡ evaluate o (low ws n (d .second))
+    pub met-product : (y : T) → y ≡ evaluate o (low ws n (d .second)) → d .kind ≡ 9
         → o .productOp x y ≡ evaluate o (exprOf ws n)
     unfolding nodeOf kindOf evaluate
-    met-product k hx hy = ap₂ (o .productOp) hx hy ∙ sym (ap (evaluate o) (of-kind ws n d read 9 k))
+    met-product y hy k = ap₂ (o .productOp) hx hy ∙ sym (ap (evaluate o) (of-kind ws n d read 9 k))
 
-    pub met-scaled : d .kind ≡ 10 → x ≡ evaluate o (low ws n (d .first)) → o .scaledOp x (d .value) ≡ evaluate o (exprOf ws n)
+    pub met-scaled : d .kind ≡ 10 → o .scaledOp x (d .value) ≡ evaluate o (exprOf ws n)
     unfolding nodeOf kindOf evaluate
-    met-scaled k hx = ap (λ (z : T). o .scaledOp z (d .value)) hx ∙ sym (ap (evaluate o) (of-kind ws n d read 10 k))
+    met-scaled k = ap (λ (z : T). o .scaledOp z (d .value)) hx ∙ sym (ap (evaluate o) (of-kind ws n d read 10 k))
 
-    powers-is : d .kind ≡ 11 → evaluate o (exprOf ws n) ≡ spread o (evaluate o (low ws n (d .first))) (lowItems ws n (d .second))
-    unfolding nodeOf kindOf evaluate
-    powers-is k = ap (evaluate o) (of-kind ws n d read 11 k)
+  powers-is : d .kind ≡ 11 → evaluate o (exprOf ws n) ≡ spread o (evaluate o (low ws n (d .first))) (lowItems ws n (d .second))
+  unfolding nodeOf kindOf evaluate
+  powers-is k = ap (evaluate o) (of-kind ws n d read 11 k)
 
-    pub met-powers : (b : ℕ) → b ≡ d .second → d .kind ≡ 11 → x ≡ evaluate o (low ws n (d .first)) → b < n
-        → y ≡ spread o x (itemsOf ws b) → y ≡ evaluate o (exprOf ws n)
-    met-powers b q k hx lt hy =
+  -- the Item that the node names is b
+  module _ (b : ℕ) (q : b ≡ d .second) where
+    pub met-powers : (x : T) → x ≡ evaluate o (low ws n (d .first)) → (y : T) → d .kind ≡ 11 → b < n
+        → y ≡ spread o x (itemsOf ws b)
+        → y ≡ evaluate o (exprOf ws n)
+    met-powers x hx y k lt hy =
         hy ∙ ap₂ (spread o) hx (sym (under-yes n noExprs (itemsOf ws) b lt) ∙ ap (lowItems ws n) q) ∙ sym (powers-is k)
 
-    pub met-no-powers : (b : ℕ) → b ≡ d .second → d .kind ≡ 11 → n ≤ b → o .constantOp 0 ≡ evaluate o (exprOf ws n)
+    pub met-no-powers : d .kind ≡ 11 → n ≤ b → o .constantOp 0 ≡ evaluate o (exprOf ws n)
     unfolding evaluate
-    met-no-powers b q k le =
+    met-no-powers k le =
         sym (ap (spread o (evaluate o (low ws n (d .first)))) (under-no n noExprs (itemsOf ws) b le))
         ∙ ap (λ (c : ℕ). spread o (evaluate o (low ws n (d .first))) (lowItems ws n c)) q
         ∙ sym (powers-is k)
 
-  module _ (base x y : T) (hx : x ≡ evaluate o (low ws n (d .first))) where
+  module _ (base x : T) (hx : x ≡ evaluate o (low ws n (d .first))) where
     pub met-last : d .value ≡ 0 → x ≡ spread o base (itemsOf ws n)
     unfolding spread
     met-last z = hx ∙ sym (ap (spread o base) (items-last ws n d read z))
 
-    more-is : (d .value ≡ 0 → ⊥) → spread o base (itemsOf ws n) ≡ rest o base base x (lowItems ws n (d .second))
-    unfolding spread
-    more-is z =
-        ap (spread o base) (items-more ws n d read z)
-        ∙ ap (λ (a : T). rest o base base a (lowItems ws n (d .second))) (sym hx)
+    module _ (z : d .value ≡ 0 → ⊥) (b : ℕ) (q : b ≡ d .second) where
+      more-is : spread o base (itemsOf ws n) ≡ rest o base base x (lowItems ws n (d .second))
+      unfolding spread
+      more-is =
+          ap (spread o base) (items-more ws n d read z)
+          ∙ ap (λ (a : T). rest o base base a (lowItems ws n (d .second))) (sym hx)
 
-    pub met-more : (b : ℕ) → b ≡ d .second → (d .value ≡ 0 → ⊥) → b < n → y ≡ rest o base base x (itemsOf ws b)
-        → y ≡ spread o base (itemsOf ws n)
-    met-more b q z lt hy =
-        hy ∙ ap (rest o base base x) (sym (under-yes n noExprs (itemsOf ws) b lt) ∙ ap (lowItems ws n) q) ∙ sym (more-is z)
+      pub met-more : (y : T) → b < n → y ≡ rest o base base x (itemsOf ws b) → y ≡ spread o base (itemsOf ws n)
+      met-more y lt hy =
+          hy ∙ ap (rest o base base x) (sym (under-yes n noExprs (itemsOf ws) b lt) ∙ ap (lowItems ws n) q) ∙ sym more-is
 
-    pub met-no-more : (b : ℕ) → b ≡ d .second → (d .value ≡ 0 → ⊥) → n ≤ b
-        → o .sumOp x (o .productOp base (o .constantOp 0)) ≡ spread o base (itemsOf ws n)
-    unfolding values running evaluate
-    met-no-more b q z le =
-        sym (ap (rest o base base x) (under-no n noExprs (itemsOf ws) b le))
-        ∙ ap (λ (c : ℕ). rest o base base x (lowItems ws n c)) q
-        ∙ sym (more-is z)
+      pub met-no-more : n ≤ b → o .sumOp x (o .productOp base (o .constantOp 0)) ≡ spread o base (itemsOf ws n)
+      unfolding values running evaluate
+      met-no-more le =
+          sym (ap (rest o base base x) (under-no n noExprs (itemsOf ws) b le))
+          ∙ ap (λ (c : ℕ). rest o base base x (lowItems ws n c)) q
+          ∙ sym more-is
 
   module _ (base power acc x u : T) (hx : x ≡ evaluate o (low ws n (d .first))) (hu : u ≡ o .sumOp acc (o .productOp power x)) where
     so-far : o .sumOp acc (o .productOp power (evaluate o (low ws n (d .first)))) ≡ u
@@ -111,24 +112,21 @@ module _ {T : Type 0} (o : Ops T) (ws : List ℕ) (n : ℕ) (d : Node) (read : d
     unfolding values running
     met-rest-last z = sym (ap (rest o base power acc) (items-last ws n d read z) ∙ so-far)
 
-    module _ (p : T) (z : d .value ≡ 0 → ⊥) (hp : p ≡ o .productOp power base) where
+    module _ (z : d .value ≡ 0 → ⊥) (b : ℕ) (q : b ≡ d .second) (p : T) (hp : p ≡ o .productOp power base) where
       rest-is : rest o base power acc (itemsOf ws n) ≡ rest o base p u (lowItems ws n (d .second))
       unfolding values running
       rest-is =
           ap (rest o base power acc) (items-more ws n d read z)
           ∙ ap₂ (λ (a e : T). running o base a e (values o (lowItems ws n (d .second)))) (sym hp) so-far
 
-      pub met-rest-more : (b : ℕ) (y : T) → b ≡ d .second → b < n → y ≡ rest o base p u (itemsOf ws b)
-          → y ≡ rest o base power acc (itemsOf ws n)
-      met-rest-more b y q lt hy =
+      pub met-rest-more : (y : T) → b < n → y ≡ rest o base p u (itemsOf ws b) → y ≡ rest o base power acc (itemsOf ws n)
+      met-rest-more y lt hy =
           hy ∙ ap (rest o base p u) (sym (under-yes n noExprs (itemsOf ws) b lt) ∙ ap (lowItems ws n) q) ∙ sym rest-is
 
-      pub met-rest-none : (b : ℕ) (y : T) → b ≡ d .second → n ≤ b → y ≡ o .sumOp u (o .productOp p (o .constantOp 0))
-          → y ≡ rest o base power acc (itemsOf ws n)
+      pub met-rest-none : n ≤ b → o .sumOp u (o .productOp p (o .constantOp 0)) ≡ rest o base power acc (itemsOf ws n)
       unfolding values running evaluate
-      met-rest-none b y q le hy =
-          hy
-          ∙ sym (ap (rest o base p u) (under-no n noExprs (itemsOf ws) b le))
+      met-rest-none le =
+          sym (ap (rest o base p u) (under-no n noExprs (itemsOf ws) b le))
           ∙ ap (λ (c : ℕ). rest o base p u (lowItems ws n c)) q
           ∙ sym rest-is
 

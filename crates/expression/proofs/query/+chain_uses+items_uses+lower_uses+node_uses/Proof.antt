@@ -1,4 +1,14 @@
-use Prim.Native.Nat.{ℕ, _<_}
+-- The walk for a query: each way through the code is the fold by `usedOps`. Assumes nothing.
+use borrow.Author.Needs.{needs}
+use mathlib.Core.Path.{_∙_, ap, refl}
+use Rattle.expression.proofs.Ways as ways
+use mathlib.Core.Path.{sym}
+use mathlib.Core.Bool.{Bool, false, _&&_, _||_}
+use lib.Dec.{eqb}
+use Rattle.expression.specs.Queries.{queryOf}
+use Rattle.expression.specs.Walks.{usedOps}
+use Rattle.expression.proofs.Signed.{signed-same}
+use Prim.Native.Nat.{ℕ, _+_, _<_}
 use borrow.Fn.Kinds.{In}
 use borrow.Fn.PlainCycle.{Measures, is, falls, and}
 use Rattle.expression.proofs.query.chain_uses.Reads as chain-uses
@@ -21,16 +31,16 @@ use Rattle.expression.proofs.query.+chain_uses+items_uses+lower_uses+no
 use Rattle.expression.proofs.query.+chain_uses+items_uses+lower_uses+node_uses.Tie.{close}
 
 abbrev μ-chain-uses : Measures 1 chain-uses-kinds.ps ℕ
-μ-chain-uses κs a = ?
+μ-chain-uses κs a = a .1 .0 + a .1 .0 + 1
 
 abbrev μ-items-uses : Measures 1 items-uses-kinds.ps ℕ
-μ-items-uses κs a = ?
+μ-items-uses κs a = a .1 .0 + a .1 .0 + 1
 
 abbrev μ-lower-uses : Measures 1 lower-uses-kinds.ps ℕ
-μ-lower-uses κs a = ?
+μ-lower-uses κs a = a .1 .0 + a .1 .0
 
 abbrev μ-node-uses : Measures 1 node-uses-kinds.ps ℕ
-μ-node-uses κs a = ?
+μ-node-uses κs a = a .1 .0 + a .1 .0 + 1
 
 abbrev chain-uses-at : ℕ → In 1 chain-uses-kinds.ps
 chain-uses-at t =
@@ -63,728 +73,259 @@ abbrev node-uses-below : ℕ → In 1 node-uses-kinds.ps
 node-uses-below t =
     and 1 node-uses-kinds.ps (falls 1 node-uses-kinds.ps _<_ μ-node-uses t) node-uses.Pre
 
--- src/query.rt:93:9
-chain-uses-read-node-requires : (t : ℕ) → chain-uses-lts.Need-read-node-requires (
-  read-node-reads.Asked,
-  read-node-reads.Learnt,
-  lower-uses-below t,
-  lower-uses.Post,
-  index-reads.Asked,
-  index-reads.Learnt,
-  items-uses-below t,
-  items-uses.Post,
-  either-reads.Asked,
-  either-reads.Learnt,
-) (chain-uses-at t) chain-uses.Post
-chain-uses-read-node-requires t c κs = ?
+abbrev chain-uses-claims : ℕ → chain-uses-lts.Claims
+chain-uses-claims t = (read-node-reads.Asked, read-node-reads.Learnt, lower-uses-below t, lower-uses.Post, index-reads.Asked, index-reads.Learnt, items-uses-below t, items-uses.Post, either-reads.Asked, either-reads.Learnt)
 
--- src/query.rt:94:9
-chain-uses-lower-uses-requires : (t : ℕ) → chain-uses-lts.Need-lower-uses-requires (
-  read-node-reads.Asked,
-  read-node-reads.Learnt,
-  lower-uses-below t,
-  lower-uses.Post,
-  index-reads.Asked,
-  index-reads.Learnt,
-  items-uses-below t,
-  items-uses.Post,
-  either-reads.Asked,
-  either-reads.Learnt,
-) (chain-uses-at t) chain-uses.Post
-chain-uses-lower-uses-requires t c κs = ?
+abbrev items-uses-claims : ℕ → items-uses-lts.Claims
+items-uses-claims t = (read-node-reads.Asked, read-node-reads.Learnt, lower-uses-below t, lower-uses.Post, either-reads.Asked, either-reads.Learnt, index-reads.Asked, index-reads.Learnt, items-uses-below t, items-uses.Post)
 
--- src/query.rt:96:9
-chain-uses-returns : (t : ℕ) → chain-uses-lts.Need-returns (
-  read-node-reads.Asked,
-  read-node-reads.Learnt,
-  lower-uses-below t,
-  lower-uses.Post,
-  index-reads.Asked,
-  index-reads.Learnt,
-  items-uses-below t,
-  items-uses.Post,
-  either-reads.Asked,
-  either-reads.Learnt,
-) (chain-uses-at t) chain-uses.Post
-chain-uses-returns t c = ?
+abbrev lower-uses-claims : ℕ → lower-uses-lts.Claims
+lower-uses-claims t = (index-reads.Asked, index-reads.Learnt, node-uses-below t, node-uses.Post)
 
--- src/query.rt:98:9
-chain-uses-index-requires : (t : ℕ) → chain-uses-lts.Need-index-requires (
-  read-node-reads.Asked,
-  read-node-reads.Learnt,
-  lower-uses-below t,
-  lower-uses.Post,
-  index-reads.Asked,
-  index-reads.Learnt,
-  items-uses-below t,
-  items-uses.Post,
-  either-reads.Asked,
-  either-reads.Learnt,
-) (chain-uses-at t) chain-uses.Post
-chain-uses-index-requires t c κs = ?
+abbrev node-uses-claims : ℕ → node-uses-lts.Claims
+node-uses-claims t = (read-node-reads.Asked, read-node-reads.Learnt, same-reads.Asked, same-reads.Learnt, lower-uses-below t, lower-uses.Post, either-reads.Asked, either-reads.Learnt, index-reads.Asked, index-reads.Learnt, chain-uses-below t, chain-uses.Post)
 
--- src/query.rt:100:9
-chain-uses-items-uses-requires : (t : ℕ) → chain-uses-lts.Need-items-uses-requires (
-  read-node-reads.Asked,
-  read-node-reads.Learnt,
-  lower-uses-below t,
-  lower-uses.Post,
-  index-reads.Asked,
-  index-reads.Learnt,
-  items-uses-below t,
-  items-uses.Post,
-  either-reads.Asked,
-  either-reads.Learnt,
-) (chain-uses-at t) chain-uses.Post
-chain-uses-items-uses-requires t c κs = ?
+chain-uses-read-node-requires : (t : ℕ) → chain-uses-lts.Need-read-node-requires (chain-uses-claims t) (chain-uses-at t) chain-uses.Post
+chain-uses-read-node-requires t c κs = search needs
 
--- src/query.rt:100:9
-chain-uses-returns-2 : (t : ℕ) → chain-uses-lts.Need-returns-2 (
-  read-node-reads.Asked,
-  read-node-reads.Learnt,
-  lower-uses-below t,
-  lower-uses.Post,
-  index-reads.Asked,
-  index-reads.Learnt,
-  items-uses-below t,
-  items-uses.Post,
-  either-reads.Asked,
-  either-reads.Learnt,
-) (chain-uses-at t) chain-uses.Post
-chain-uses-returns-2 t c = ?
+chain-uses-lower-uses-requires : (t : ℕ) → chain-uses-lts.Need-lower-uses-requires (chain-uses-claims t) (chain-uses-at t) chain-uses.Post
+chain-uses-lower-uses-requires t c κs = search needs
 
--- src/query.rt:102:15
-chain-uses-either-requires : (t : ℕ) → chain-uses-lts.Need-either-requires (
-  read-node-reads.Asked,
-  read-node-reads.Learnt,
-  lower-uses-below t,
-  lower-uses.Post,
-  index-reads.Asked,
-  index-reads.Learnt,
-  items-uses-below t,
-  items-uses.Post,
-  either-reads.Asked,
-  either-reads.Learnt,
-) (chain-uses-at t) chain-uses.Post
-chain-uses-either-requires t c κs = ?
+chain-uses-returns : (t : ℕ) → chain-uses-lts.Need-returns (chain-uses-claims t) (chain-uses-at t) chain-uses.Post
+unfolding usedOps
+chain-uses-returns t c =
+    let a = c .before .before .before .before .before .args in
+    let o = usedOps (queryOf (a .polynomial) (a .word)) in
+    let d = c .before .before .before .read-node in
+    ways.met-last o (a .ws .now) (a .n) (d .result) (d .ensures) (a .base) (c .before .before .lower-uses .result) (c .before .before .lower-uses .ensures) (c .if1 .taken)
 
--- src/query.rt:102:5
-chain-uses-either-requires-2 : (t : ℕ) → chain-uses-lts.Need-either-requires-2 (
-  read-node-reads.Asked,
-  read-node-reads.Learnt,
-  lower-uses-below t,
-  lower-uses.Post,
-  index-reads.Asked,
-  index-reads.Learnt,
-  items-uses-below t,
-  items-uses.Post,
-  either-reads.Asked,
-  either-reads.Learnt,
-) (chain-uses-at t) chain-uses.Post
-chain-uses-either-requires-2 t c κs = ?
+chain-uses-index-requires : (t : ℕ) → chain-uses-lts.Need-index-requires (chain-uses-claims t) (chain-uses-at t) chain-uses.Post
+chain-uses-index-requires t c κs = search needs
 
--- src/query.rt:89:1
-chain-uses-returns-3 : (t : ℕ) → chain-uses-lts.Need-returns-3 (
-  read-node-reads.Asked,
-  read-node-reads.Learnt,
-  lower-uses-below t,
-  lower-uses.Post,
-  index-reads.Asked,
-  index-reads.Learnt,
-  items-uses-below t,
-  items-uses.Post,
-  either-reads.Asked,
-  either-reads.Learnt,
-) (chain-uses-at t) chain-uses.Post
-chain-uses-returns-3 t c = ?
+chain-uses-items-uses-requires : (t : ℕ) → chain-uses-lts.Need-items-uses-requires (chain-uses-claims t) (chain-uses-at t) chain-uses.Post
+chain-uses-items-uses-requires t c κs = search needs
 
--- src/query.rt:109:9
-items-uses-read-node-requires : (t : ℕ) → items-uses-lts.Need-read-node-requires (
-  read-node-reads.Asked,
-  read-node-reads.Learnt,
-  lower-uses-below t,
-  lower-uses.Post,
-  either-reads.Asked,
-  either-reads.Learnt,
-  index-reads.Asked,
-  index-reads.Learnt,
-  items-uses-below t,
-  items-uses.Post,
-) (items-uses-at t) items-uses.Post
-items-uses-read-node-requires t c κs = ?
+chain-uses-returns-2 : (t : ℕ) → chain-uses-lts.Need-returns-2 (chain-uses-claims t) (chain-uses-at t) chain-uses.Post
+unfolding usedOps
+chain-uses-returns-2 t c =
+    let a = c .before .before .before .before .before .before .before .before .args in
+    let o = usedOps (queryOf (a .polynomial) (a .word)) in
+    let d = c .before .before .before .before .before .before .read-node in
+    ways.met-more o (a .ws .now) (a .n) (d .result) (d .ensures) (a .base) (c .before .before .before .before .before .lower-uses .result) (c .before .before .before .before .before .lower-uses .ensures) (c .before .before .before .if1 .left) (c .before .before .index .result) (c .before .before .index .ensures) (c .items-uses .result) (c .before .if2 .taken) (c .items-uses .ensures)
 
--- src/query.rt:110:9
-items-uses-lower-uses-requires : (t : ℕ) → items-uses-lts.Need-lower-uses-requires (
-  read-node-reads.Asked,
-  read-node-reads.Learnt,
-  lower-uses-below t,
-  lower-uses.Post,
-  either-reads.Asked,
-  either-reads.Learnt,
-  index-reads.Asked,
-  index-reads.Learnt,
-  items-uses-below t,
-  items-uses.Post,
-) (items-uses-at t) items-uses.Post
-items-uses-lower-uses-requires t c κs = ?
+chain-uses-either-requires : (t : ℕ) → chain-uses-lts.Need-either-requires (chain-uses-claims t) (chain-uses-at t) chain-uses.Post
+chain-uses-either-requires t c κs = search needs
 
--- src/query.rt:111:25
-items-uses-either-requires : (t : ℕ) → items-uses-lts.Need-either-requires (
-  read-node-reads.Asked,
-  read-node-reads.Learnt,
-  lower-uses-below t,
-  lower-uses.Post,
-  either-reads.Asked,
-  either-reads.Learnt,
-  index-reads.Asked,
-  index-reads.Learnt,
-  items-uses-below t,
-  items-uses.Post,
-) (items-uses-at t) items-uses.Post
-items-uses-either-requires t c κs = ?
+chain-uses-either-requires-2 : (t : ℕ) → chain-uses-lts.Need-either-requires-2 (chain-uses-claims t) (chain-uses-at t) chain-uses.Post
+chain-uses-either-requires-2 t c κs = search needs
 
--- src/query.rt:111:9
-items-uses-either-requires-2 : (t : ℕ) → items-uses-lts.Need-either-requires-2 (
-  read-node-reads.Asked,
-  read-node-reads.Learnt,
-  lower-uses-below t,
-  lower-uses.Post,
-  either-reads.Asked,
-  either-reads.Learnt,
-  index-reads.Asked,
-  index-reads.Learnt,
-  items-uses-below t,
-  items-uses.Post,
-) (items-uses-at t) items-uses.Post
-items-uses-either-requires-2 t c κs = ?
+chain-uses-returns-3 : (t : ℕ) → chain-uses-lts.Need-returns-3 (chain-uses-claims t) (chain-uses-at t) chain-uses.Post
+unfolding usedOps
+chain-uses-returns-3 t c =
+    let a = c .before .before .before .before .before .before .before .before .before .args in
+    let o = usedOps (queryOf (a .polynomial) (a .word)) in
+    let d = c .before .before .before .before .before .before .before .read-node in
+    (c .either2 .ensures) ∙ ap (_||_ (c .before .before .before .before .before .before .lower-uses .result)) (c .before .either .ensures)
+    ∙ ways.met-no-more o (a .ws .now) (a .n) (d .result) (d .ensures) (a .base) (c .before .before .before .before .before .before .lower-uses .result) (c .before .before .before .before .before .before .lower-uses .ensures) (c .before .before .before .before .if1 .left) (c .before .before .before .index .result) (c .before .before .before .index .ensures) (c .before .before .if2 .left)
 
--- src/query.rt:113:9
-items-uses-returns : (t : ℕ) → items-uses-lts.Need-returns (
-  read-node-reads.Asked,
-  read-node-reads.Learnt,
-  lower-uses-below t,
-  lower-uses.Post,
-  either-reads.Asked,
-  either-reads.Learnt,
-  index-reads.Asked,
-  index-reads.Learnt,
-  items-uses-below t,
-  items-uses.Post,
-) (items-uses-at t) items-uses.Post
-items-uses-returns t c = ?
+items-uses-read-node-requires : (t : ℕ) → items-uses-lts.Need-read-node-requires (items-uses-claims t) (items-uses-at t) items-uses.Post
+items-uses-read-node-requires t c κs = search needs
 
--- src/query.rt:115:9
-items-uses-either-requires-3 : (t : ℕ) → items-uses-lts.Need-either-requires-3 (
-  read-node-reads.Asked,
-  read-node-reads.Learnt,
-  lower-uses-below t,
-  lower-uses.Post,
-  either-reads.Asked,
-  either-reads.Learnt,
-  index-reads.Asked,
-  index-reads.Learnt,
-  items-uses-below t,
-  items-uses.Post,
-) (items-uses-at t) items-uses.Post
-items-uses-either-requires-3 t c κs = ?
+items-uses-lower-uses-requires : (t : ℕ) → items-uses-lts.Need-lower-uses-requires (items-uses-claims t) (items-uses-at t) items-uses.Post
+items-uses-lower-uses-requires t c κs = search needs
 
--- src/query.rt:116:9
-items-uses-index-requires : (t : ℕ) → items-uses-lts.Need-index-requires (
-  read-node-reads.Asked,
-  read-node-reads.Learnt,
-  lower-uses-below t,
-  lower-uses.Post,
-  either-reads.Asked,
-  either-reads.Learnt,
-  index-reads.Asked,
-  index-reads.Learnt,
-  items-uses-below t,
-  items-uses.Post,
-) (items-uses-at t) items-uses.Post
-items-uses-index-requires t c κs = ?
+items-uses-either-requires : (t : ℕ) → items-uses-lts.Need-either-requires (items-uses-claims t) (items-uses-at t) items-uses.Post
+items-uses-either-requires t c κs = search needs
 
--- src/query.rt:118:9
-items-uses-items-uses-requires : (t : ℕ) → items-uses-lts.Need-items-uses-requires (
-  read-node-reads.Asked,
-  read-node-reads.Learnt,
-  lower-uses-below t,
-  lower-uses.Post,
-  either-reads.Asked,
-  either-reads.Learnt,
-  index-reads.Asked,
-  index-reads.Learnt,
-  items-uses-below t,
-  items-uses.Post,
-) (items-uses-at t) items-uses.Post
-items-uses-items-uses-requires t c κs = ?
+items-uses-either-requires-2 : (t : ℕ) → items-uses-lts.Need-either-requires-2 (items-uses-claims t) (items-uses-at t) items-uses.Post
+items-uses-either-requires-2 t c κs = search needs
 
--- src/query.rt:118:9
-items-uses-returns-2 : (t : ℕ) → items-uses-lts.Need-returns-2 (
-  read-node-reads.Asked,
-  read-node-reads.Learnt,
-  lower-uses-below t,
-  lower-uses.Post,
-  either-reads.Asked,
-  either-reads.Learnt,
-  index-reads.Asked,
-  index-reads.Learnt,
-  items-uses-below t,
-  items-uses.Post,
-) (items-uses-at t) items-uses.Post
-items-uses-returns-2 t c = ?
+items-uses-returns : (t : ℕ) → items-uses-lts.Need-returns (items-uses-claims t) (items-uses-at t) items-uses.Post
+unfolding usedOps
+items-uses-returns t c =
+    let a = c .before .before .before .before .before .before .before .args in
+    let o = usedOps (queryOf (a .polynomial) (a .word)) in
+    let d = c .before .before .before .before .before .read-node in
+    ways.met-rest-last o (a .ws .now) (a .n) (d .result) (d .ensures) (a .base) (a .power) (a .acc) (c .before .before .before .before .lower-uses .result) (c .before .before .either2 .result) (c .before .before .before .before .lower-uses .ensures)
+    ((c .before .before .either2 .ensures) ∙ ap (_||_ (a .acc)) (c .before .before .before .either .ensures))
+    (c .if1 .taken)
 
--- src/query.rt:120:15
-items-uses-either-requires-4 : (t : ℕ) → items-uses-lts.Need-either-requires-4 (
-  read-node-reads.Asked,
-  read-node-reads.Learnt,
-  lower-uses-below t,
-  lower-uses.Post,
-  either-reads.Asked,
-  either-reads.Learnt,
-  index-reads.Asked,
-  index-reads.Learnt,
-  items-uses-below t,
-  items-uses.Post,
-) (items-uses-at t) items-uses.Post
-items-uses-either-requires-4 t c κs = ?
+items-uses-either-requires-3 : (t : ℕ) → items-uses-lts.Need-either-requires-3 (items-uses-claims t) (items-uses-at t) items-uses.Post
+items-uses-either-requires-3 t c κs = search needs
 
--- src/query.rt:120:5
-items-uses-either-requires-5 : (t : ℕ) → items-uses-lts.Need-either-requires-5 (
-  read-node-reads.Asked,
-  read-node-reads.Learnt,
-  lower-uses-below t,
-  lower-uses.Post,
-  either-reads.Asked,
-  either-reads.Learnt,
-  index-reads.Asked,
-  index-reads.Learnt,
-  items-uses-below t,
-  items-uses.Post,
-) (items-uses-at t) items-uses.Post
-items-uses-either-requires-5 t c κs = ?
+items-uses-index-requires : (t : ℕ) → items-uses-lts.Need-index-requires (items-uses-claims t) (items-uses-at t) items-uses.Post
+items-uses-index-requires t c κs = search needs
 
--- src/query.rt:105:1
-items-uses-returns-3 : (t : ℕ) → items-uses-lts.Need-returns-3 (
-  read-node-reads.Asked,
-  read-node-reads.Learnt,
-  lower-uses-below t,
-  lower-uses.Post,
-  either-reads.Asked,
-  either-reads.Learnt,
-  index-reads.Asked,
-  index-reads.Learnt,
-  items-uses-below t,
-  items-uses.Post,
-) (items-uses-at t) items-uses.Post
-items-uses-returns-3 t c = ?
+items-uses-items-uses-requires : (t : ℕ) → items-uses-lts.Need-items-uses-requires (items-uses-claims t) (items-uses-at t) items-uses.Post
+items-uses-items-uses-requires t c κs = search needs
 
--- src/query.rt:81:9
-lower-uses-index-requires : (t : ℕ) → lower-uses-lts.Need-index-requires (
-  index-reads.Asked,
-  index-reads.Learnt,
-  node-uses-below t,
-  node-uses.Post,
-) (lower-uses-at t) lower-uses.Post
-lower-uses-index-requires t c κs = ?
+items-uses-returns-2 : (t : ℕ) → items-uses-lts.Need-returns-2 (items-uses-claims t) (items-uses-at t) items-uses.Post
+unfolding usedOps
+items-uses-returns-2 t c =
+    let a = c .before .before .before .before .before .before .before .before .before .before .before .args in
+    let o = usedOps (queryOf (a .polynomial) (a .word)) in
+    let d = c .before .before .before .before .before .before .before .before .before .read-node in
+    ways.met-rest-more o (a .ws .now) (a .n) (d .result) (d .ensures) (a .base) (a .power) (a .acc) (c .before .before .before .before .before .before .before .before .lower-uses .result) (c .before .before .before .before .before .before .either2 .result) (c .before .before .before .before .before .before .before .before .lower-uses .ensures)
+    ((c .before .before .before .before .before .before .either2 .ensures) ∙ ap (_||_ (a .acc)) (c .before .before .before .before .before .before .before .either .ensures))
+    (c .before .before .before .before .if1 .left) (c .before .before .index .result) (c .before .before .index .ensures) (c .before .before .before .either3 .result) (c .before .before .before .either3 .ensures) (c .items-uses .result) (c .before .if2 .taken) (c .items-uses .ensures)
 
--- src/query.rt:83:9
-lower-uses-node-uses-requires : (t : ℕ) → lower-uses-lts.Need-node-uses-requires (
-  index-reads.Asked,
-  index-reads.Learnt,
-  node-uses-below t,
-  node-uses.Post,
-) (lower-uses-at t) lower-uses.Post
-lower-uses-node-uses-requires t c κs = ?
+items-uses-either-requires-4 : (t : ℕ) → items-uses-lts.Need-either-requires-4 (items-uses-claims t) (items-uses-at t) items-uses.Post
+items-uses-either-requires-4 t c κs = search needs
 
--- src/query.rt:83:9
-lower-uses-returns : (t : ℕ) → lower-uses-lts.Need-returns (
-  index-reads.Asked,
-  index-reads.Learnt,
-  node-uses-below t,
-  node-uses.Post,
-) (lower-uses-at t) lower-uses.Post
-lower-uses-returns t c = ?
+items-uses-either-requires-5 : (t : ℕ) → items-uses-lts.Need-either-requires-5 (items-uses-claims t) (items-uses-at t) items-uses.Post
+items-uses-either-requires-5 t c κs = search needs
 
--- src/query.rt:77:1
-lower-uses-returns-2 : (t : ℕ) → lower-uses-lts.Need-returns-2 (
-  index-reads.Asked,
-  index-reads.Learnt,
-  node-uses-below t,
-  node-uses.Post,
-) (lower-uses-at t) lower-uses.Post
-lower-uses-returns-2 t c = ?
+items-uses-returns-3 : (t : ℕ) → items-uses-lts.Need-returns-3 (items-uses-claims t) (items-uses-at t) items-uses.Post
+unfolding usedOps
+items-uses-returns-3 t c =
+    let a = c .before .before .before .before .before .before .before .before .before .before .before .before .args in
+    let o = usedOps (queryOf (a .polynomial) (a .word)) in
+    let d = c .before .before .before .before .before .before .before .before .before .before .read-node in
+    (c .either5 .ensures) ∙ ap (_||_ (c .before .before .before .before .before .before .before .either2 .result)) (c .before .either4 .ensures)
+    ∙ ways.met-rest-none o (a .ws .now) (a .n) (d .result) (d .ensures) (a .base) (a .power) (a .acc) (c .before .before .before .before .before .before .before .before .before .lower-uses .result) (c .before .before .before .before .before .before .before .either2 .result) (c .before .before .before .before .before .before .before .before .before .lower-uses .ensures)
+    ((c .before .before .before .before .before .before .before .either2 .ensures) ∙ ap (_||_ (a .acc)) (c .before .before .before .before .before .before .before .before .either .ensures))
+    (c .before .before .before .before .before .if1 .left) (c .before .before .before .index .result) (c .before .before .before .index .ensures) (c .before .before .before .before .either3 .result) (c .before .before .before .before .either3 .ensures) (c .before .before .if2 .left)
 
--- src/query.rt:49:9
-node-uses-read-node-requires : (t : ℕ) → node-uses-lts.Need-read-node-requires (
-  read-node-reads.Asked,
-  read-node-reads.Learnt,
-  same-reads.Asked,
-  same-reads.Learnt,
-  lower-uses-below t,
-  lower-uses.Post,
-  either-reads.Asked,
-  either-reads.Learnt,
-  index-reads.Asked,
-  index-reads.Learnt,
-  chain-uses-below t,
-  chain-uses.Post,
-) (node-uses-at t) node-uses.Post
-node-uses-read-node-requires t c κs = ?
+lower-uses-index-requires : (t : ℕ) → lower-uses-lts.Need-index-requires (lower-uses-claims t) (lower-uses-at t) lower-uses.Post
+lower-uses-index-requires t c κs = search needs
 
--- src/query.rt:52:14
-node-uses-same-requires : (t : ℕ) → node-uses-lts.Need-same-requires (
-  read-node-reads.Asked,
-  read-node-reads.Learnt,
-  same-reads.Asked,
-  same-reads.Learnt,
-  lower-uses-below t,
-  lower-uses.Post,
-  either-reads.Asked,
-  either-reads.Learnt,
-  index-reads.Asked,
-  index-reads.Learnt,
-  chain-uses-below t,
-  chain-uses.Post,
-) (node-uses-at t) node-uses.Post
-node-uses-same-requires t c κs = ?
+lower-uses-node-uses-requires : (t : ℕ) → lower-uses-lts.Need-node-uses-requires (lower-uses-claims t) (lower-uses-at t) lower-uses.Post
+lower-uses-node-uses-requires t c κs = search needs
 
--- src/query.rt:53:14
-node-uses-lower-uses-requires : (t : ℕ) → node-uses-lts.Need-lower-uses-requires (
-  read-node-reads.Asked,
-  read-node-reads.Learnt,
-  same-reads.Asked,
-  same-reads.Learnt,
-  lower-uses-below t,
-  lower-uses.Post,
-  either-reads.Asked,
-  either-reads.Learnt,
-  index-reads.Asked,
-  index-reads.Learnt,
-  chain-uses-below t,
-  chain-uses.Post,
-) (node-uses-at t) node-uses.Post
-node-uses-lower-uses-requires t c κs = ?
+lower-uses-returns : (t : ℕ) → lower-uses-lts.Need-returns (lower-uses-claims t) (lower-uses-at t) lower-uses.Post
+unfolding usedOps
+lower-uses-returns t c =
+    let a = c .before .before .before .before .args in
+    let o = usedOps (queryOf (a .polynomial) (a .word)) in
+    ways.met-lower o (a .ws .now) (a .n) (a .a) (c .before .before .index .result) (c .node-uses .result) (c .before .before .index .ensures) (c .before .if1 .taken) (c .node-uses .ensures)
 
--- src/query.rt:55:17
-node-uses-lower-uses-requires-2 : (t : ℕ) → node-uses-lts.Need-lower-uses-requires-2 (
-  read-node-reads.Asked,
-  read-node-reads.Learnt,
-  same-reads.Asked,
-  same-reads.Learnt,
-  lower-uses-below t,
-  lower-uses.Post,
-  either-reads.Asked,
-  either-reads.Learnt,
-  index-reads.Asked,
-  index-reads.Learnt,
-  chain-uses-below t,
-  chain-uses.Post,
-) (node-uses-at t) node-uses.Post
-node-uses-lower-uses-requires-2 t c κs = ?
+lower-uses-returns-2 : (t : ℕ) → lower-uses-lts.Need-returns-2 (lower-uses-claims t) (lower-uses-at t) lower-uses.Post
+unfolding usedOps
+lower-uses-returns-2 t c =
+    let a = c .before .before .before .args in
+    let o = usedOps (queryOf (a .polynomial) (a .word)) in
+    ways.met-not-lower o (a .ws .now) (a .n) (a .a) (c .before .index .result) (c .before .index .ensures) (c .if1 .left)
 
--- src/query.rt:56:17
-node-uses-lower-uses-requires-3 : (t : ℕ) → node-uses-lts.Need-lower-uses-requires-3 (
-  read-node-reads.Asked,
-  read-node-reads.Learnt,
-  same-reads.Asked,
-  same-reads.Learnt,
-  lower-uses-below t,
-  lower-uses.Post,
-  either-reads.Asked,
-  either-reads.Learnt,
-  index-reads.Asked,
-  index-reads.Learnt,
-  chain-uses-below t,
-  chain-uses.Post,
-) (node-uses-at t) node-uses.Post
-node-uses-lower-uses-requires-3 t c κs = ?
+node-uses-read-node-requires : (t : ℕ) → node-uses-lts.Need-read-node-requires (node-uses-claims t) (node-uses-at t) node-uses.Post
+node-uses-read-node-requires t c κs = search needs
 
--- src/query.rt:57:13
-node-uses-either-requires : (t : ℕ) → node-uses-lts.Need-either-requires (
-  read-node-reads.Asked,
-  read-node-reads.Learnt,
-  same-reads.Asked,
-  same-reads.Learnt,
-  lower-uses-below t,
-  lower-uses.Post,
-  either-reads.Asked,
-  either-reads.Learnt,
-  index-reads.Asked,
-  index-reads.Learnt,
-  chain-uses-below t,
-  chain-uses.Post,
-) (node-uses-at t) node-uses.Post
-node-uses-either-requires t c κs = ?
+node-uses-same-requires : (t : ℕ) → node-uses-lts.Need-same-requires (node-uses-claims t) (node-uses-at t) node-uses.Post
+node-uses-same-requires t c κs = search needs
 
--- src/query.rt:60:17
-node-uses-lower-uses-requires-4 : (t : ℕ) → node-uses-lts.Need-lower-uses-requires-4 (
-  read-node-reads.Asked,
-  read-node-reads.Learnt,
-  same-reads.Asked,
-  same-reads.Learnt,
-  lower-uses-below t,
-  lower-uses.Post,
-  either-reads.Asked,
-  either-reads.Learnt,
-  index-reads.Asked,
-  index-reads.Learnt,
-  chain-uses-below t,
-  chain-uses.Post,
-) (node-uses-at t) node-uses.Post
-node-uses-lower-uses-requires-4 t c κs = ?
+node-uses-lower-uses-requires : (t : ℕ) → node-uses-lts.Need-lower-uses-requires (node-uses-claims t) (node-uses-at t) node-uses.Post
+node-uses-lower-uses-requires t c κs = search needs
 
--- src/query.rt:61:17
-node-uses-lower-uses-requires-5 : (t : ℕ) → node-uses-lts.Need-lower-uses-requires-5 (
-  read-node-reads.Asked,
-  read-node-reads.Learnt,
-  same-reads.Asked,
-  same-reads.Learnt,
-  lower-uses-below t,
-  lower-uses.Post,
-  either-reads.Asked,
-  either-reads.Learnt,
-  index-reads.Asked,
-  index-reads.Learnt,
-  chain-uses-below t,
-  chain-uses.Post,
-) (node-uses-at t) node-uses.Post
-node-uses-lower-uses-requires-5 t c κs = ?
+node-uses-lower-uses-requires-2 : (t : ℕ) → node-uses-lts.Need-lower-uses-requires-2 (node-uses-claims t) (node-uses-at t) node-uses.Post
+node-uses-lower-uses-requires-2 t c κs = search needs
 
--- src/query.rt:62:13
-node-uses-either-requires-2 : (t : ℕ) → node-uses-lts.Need-either-requires-2 (
-  read-node-reads.Asked,
-  read-node-reads.Learnt,
-  same-reads.Asked,
-  same-reads.Learnt,
-  lower-uses-below t,
-  lower-uses.Post,
-  either-reads.Asked,
-  either-reads.Learnt,
-  index-reads.Asked,
-  index-reads.Learnt,
-  chain-uses-below t,
-  chain-uses.Post,
-) (node-uses-at t) node-uses.Post
-node-uses-either-requires-2 t c κs = ?
+node-uses-lower-uses-requires-3 : (t : ℕ) → node-uses-lts.Need-lower-uses-requires-3 (node-uses-claims t) (node-uses-at t) node-uses.Post
+node-uses-lower-uses-requires-3 t c κs = search needs
 
--- src/query.rt:64:15
-node-uses-lower-uses-requires-6 : (t : ℕ) → node-uses-lts.Need-lower-uses-requires-6 (
-  read-node-reads.Asked,
-  read-node-reads.Learnt,
-  same-reads.Asked,
-  same-reads.Learnt,
-  lower-uses-below t,
-  lower-uses.Post,
-  either-reads.Asked,
-  either-reads.Learnt,
-  index-reads.Asked,
-  index-reads.Learnt,
-  chain-uses-below t,
-  chain-uses.Post,
-) (node-uses-at t) node-uses.Post
-node-uses-lower-uses-requires-6 t c κs = ?
+node-uses-either-requires : (t : ℕ) → node-uses-lts.Need-either-requires (node-uses-claims t) (node-uses-at t) node-uses.Post
+node-uses-either-requires t c κs = search needs
 
--- src/query.rt:66:17
-node-uses-lower-uses-requires-7 : (t : ℕ) → node-uses-lts.Need-lower-uses-requires-7 (
-  read-node-reads.Asked,
-  read-node-reads.Learnt,
-  same-reads.Asked,
-  same-reads.Learnt,
-  lower-uses-below t,
-  lower-uses.Post,
-  either-reads.Asked,
-  either-reads.Learnt,
-  index-reads.Asked,
-  index-reads.Learnt,
-  chain-uses-below t,
-  chain-uses.Post,
-) (node-uses-at t) node-uses.Post
-node-uses-lower-uses-requires-7 t c κs = ?
+node-uses-lower-uses-requires-4 : (t : ℕ) → node-uses-lts.Need-lower-uses-requires-4 (node-uses-claims t) (node-uses-at t) node-uses.Post
+node-uses-lower-uses-requires-4 t c κs = search needs
 
--- src/query.rt:67:17
-node-uses-index-requires : (t : ℕ) → node-uses-lts.Need-index-requires (
-  read-node-reads.Asked,
-  read-node-reads.Learnt,
-  same-reads.Asked,
-  same-reads.Learnt,
-  lower-uses-below t,
-  lower-uses.Post,
-  either-reads.Asked,
-  either-reads.Learnt,
-  index-reads.Asked,
-  index-reads.Learnt,
-  chain-uses-below t,
-  chain-uses.Post,
-) (node-uses-at t) node-uses.Post
-node-uses-index-requires t c κs = ?
+node-uses-lower-uses-requires-5 : (t : ℕ) → node-uses-lts.Need-lower-uses-requires-5 (node-uses-claims t) (node-uses-at t) node-uses.Post
+node-uses-lower-uses-requires-5 t c κs = search needs
 
--- src/query.rt:69:17
-node-uses-chain-uses-requires : (t : ℕ) → node-uses-lts.Need-chain-uses-requires (
-  read-node-reads.Asked,
-  read-node-reads.Learnt,
-  same-reads.Asked,
-  same-reads.Learnt,
-  lower-uses-below t,
-  lower-uses.Post,
-  either-reads.Asked,
-  either-reads.Learnt,
-  index-reads.Asked,
-  index-reads.Learnt,
-  chain-uses-below t,
-  chain-uses.Post,
-) (node-uses-at t) node-uses.Post
-node-uses-chain-uses-requires t c κs = ?
+node-uses-either-requires-2 : (t : ℕ) → node-uses-lts.Need-either-requires-2 (node-uses-claims t) (node-uses-at t) node-uses.Post
+node-uses-either-requires-2 t c κs = search needs
 
--- src/query.rt:69:17
-node-uses-returns : (t : ℕ) → node-uses-lts.Need-returns (
-  read-node-reads.Asked,
-  read-node-reads.Learnt,
-  same-reads.Asked,
-  same-reads.Learnt,
-  lower-uses-below t,
-  lower-uses.Post,
-  either-reads.Asked,
-  either-reads.Learnt,
-  index-reads.Asked,
-  index-reads.Learnt,
-  chain-uses-below t,
-  chain-uses.Post,
-) (node-uses-at t) node-uses.Post
-node-uses-returns t c = ?
+node-uses-lower-uses-requires-6 : (t : ℕ) → node-uses-lts.Need-lower-uses-requires-6 (node-uses-claims t) (node-uses-at t) node-uses.Post
+node-uses-lower-uses-requires-6 t c κs = search needs
 
--- src/query.rt:45:1
-node-uses-returns-2 : (t : ℕ) → node-uses-lts.Need-returns-2 (
-  read-node-reads.Asked,
-  read-node-reads.Learnt,
-  same-reads.Asked,
-  same-reads.Learnt,
-  lower-uses-below t,
-  lower-uses.Post,
-  either-reads.Asked,
-  either-reads.Learnt,
-  index-reads.Asked,
-  index-reads.Learnt,
-  chain-uses-below t,
-  chain-uses.Post,
-) (node-uses-at t) node-uses.Post
-node-uses-returns-2 t c = ?
+node-uses-lower-uses-requires-7 : (t : ℕ) → node-uses-lts.Need-lower-uses-requires-7 (node-uses-claims t) (node-uses-at t) node-uses.Post
+node-uses-lower-uses-requires-7 t c κs = search needs
 
--- src/query.rt:45:1
-node-uses-returns-3 : (t : ℕ) → node-uses-lts.Need-returns-3 (
-  read-node-reads.Asked,
-  read-node-reads.Learnt,
-  same-reads.Asked,
-  same-reads.Learnt,
-  lower-uses-below t,
-  lower-uses.Post,
-  either-reads.Asked,
-  either-reads.Learnt,
-  index-reads.Asked,
-  index-reads.Learnt,
-  chain-uses-below t,
-  chain-uses.Post,
-) (node-uses-at t) node-uses.Post
-node-uses-returns-3 t c = ?
+node-uses-index-requires : (t : ℕ) → node-uses-lts.Need-index-requires (node-uses-claims t) (node-uses-at t) node-uses.Post
+node-uses-index-requires t c κs = search needs
 
--- src/query.rt:45:1
-node-uses-returns-4 : (t : ℕ) → node-uses-lts.Need-returns-4 (
-  read-node-reads.Asked,
-  read-node-reads.Learnt,
-  same-reads.Asked,
-  same-reads.Learnt,
-  lower-uses-below t,
-  lower-uses.Post,
-  either-reads.Asked,
-  either-reads.Learnt,
-  index-reads.Asked,
-  index-reads.Learnt,
-  chain-uses-below t,
-  chain-uses.Post,
-) (node-uses-at t) node-uses.Post
-node-uses-returns-4 t c = ?
+node-uses-chain-uses-requires : (t : ℕ) → node-uses-lts.Need-chain-uses-requires (node-uses-claims t) (node-uses-at t) node-uses.Post
+node-uses-chain-uses-requires t c κs = search needs
 
--- src/query.rt:45:1
-node-uses-returns-5 : (t : ℕ) → node-uses-lts.Need-returns-5 (
-  read-node-reads.Asked,
-  read-node-reads.Learnt,
-  same-reads.Asked,
-  same-reads.Learnt,
-  lower-uses-below t,
-  lower-uses.Post,
-  either-reads.Asked,
-  either-reads.Learnt,
-  index-reads.Asked,
-  index-reads.Learnt,
-  chain-uses-below t,
-  chain-uses.Post,
-) (node-uses-at t) node-uses.Post
-node-uses-returns-5 t c = ?
+node-uses-returns : (t : ℕ) → node-uses-lts.Need-returns (node-uses-claims t) (node-uses-at t) node-uses.Post
+unfolding usedOps
+node-uses-returns t c =
+    let a = c .before .before .before .before .before .before .before .args in
+    let o = usedOps (queryOf (a .polynomial) (a .word)) in
+    let d = c .before .before .before .before .before .read-node in
+    ways.met-powers o (a .ws .now) (a .n) (d .result) (d .ensures) (c .before .before .index .result) (c .before .before .index .ensures) (c .before .before .before .lower-uses7 .result) (c .before .before .before .lower-uses7 .ensures) (c .chain-uses .result) (c .before .before .before .before .match .keys6) (c .before .if1 .taken) (c .chain-uses .ensures)
 
--- src/query.rt:45:1
-node-uses-returns-6 : (t : ℕ) → node-uses-lts.Need-returns-6 (
-  read-node-reads.Asked,
-  read-node-reads.Learnt,
-  same-reads.Asked,
-  same-reads.Learnt,
-  lower-uses-below t,
-  lower-uses.Post,
-  either-reads.Asked,
-  either-reads.Learnt,
-  index-reads.Asked,
-  index-reads.Learnt,
-  chain-uses-below t,
-  chain-uses.Post,
-) (node-uses-at t) node-uses.Post
-node-uses-returns-6 t c = ?
+node-uses-returns-2 : (t : ℕ) → node-uses-lts.Need-returns-2 (node-uses-claims t) (node-uses-at t) node-uses.Post
+unfolding usedOps
+node-uses-returns-2 t c =
+    let a = c .before .before .before .before .args in
+    let o = usedOps (queryOf (a .polynomial) (a .word)) in
+    let d = c .before .before .read-node in
+    (c .same .ensures) ∙ ap (λ (t : Bool). eqb (a .polynomial) (d .result .first) && t) (sym (signed-same (a .word) (d .result .value)))
+    ∙ ways.met-poly o (a .ws .now) (a .n) (d .result) (d .ensures) (c .before .match .keys1)
 
--- src/query.rt:45:1
-node-uses-returns-7 : (t : ℕ) → node-uses-lts.Need-returns-7 (
-  read-node-reads.Asked,
-  read-node-reads.Learnt,
-  same-reads.Asked,
-  same-reads.Learnt,
-  lower-uses-below t,
-  lower-uses.Post,
-  either-reads.Asked,
-  either-reads.Learnt,
-  index-reads.Asked,
-  index-reads.Learnt,
-  chain-uses-below t,
-  chain-uses.Post,
-) (node-uses-at t) node-uses.Post
-node-uses-returns-7 t c = ?
+node-uses-returns-3 : (t : ℕ) → node-uses-lts.Need-returns-3 (node-uses-claims t) (node-uses-at t) node-uses.Post
+unfolding usedOps
+node-uses-returns-3 t c =
+    let a = c .before .before .before .before .args in
+    let o = usedOps (queryOf (a .polynomial) (a .word)) in
+    let d = c .before .before .read-node in
+    ways.met-negated o (a .ws .now) (a .n) (d .result) (d .ensures) (c .lower-uses .result) (c .lower-uses .ensures) (c .before .match .keys2)
 
--- src/query.rt:45:1
-node-uses-returns-8 : (t : ℕ) → node-uses-lts.Need-returns-8 (
-  read-node-reads.Asked,
-  read-node-reads.Learnt,
-  same-reads.Asked,
-  same-reads.Learnt,
-  lower-uses-below t,
-  lower-uses.Post,
-  either-reads.Asked,
-  either-reads.Learnt,
-  index-reads.Asked,
-  index-reads.Learnt,
-  chain-uses-below t,
-  chain-uses.Post,
-) (node-uses-at t) node-uses.Post
-node-uses-returns-8 t c = ?
+node-uses-returns-4 : (t : ℕ) → node-uses-lts.Need-returns-4 (node-uses-claims t) (node-uses-at t) node-uses.Post
+unfolding usedOps
+node-uses-returns-4 t c =
+    let a = c .before .before .before .before .before .before .args in
+    let o = usedOps (queryOf (a .polynomial) (a .word)) in
+    let d = c .before .before .before .before .read-node in
+    (c .either .ensures) ∙ ways.met-sum o (a .ws .now) (a .n) (d .result) (d .ensures) (c .before .before .lower-uses2 .result) (c .before .before .lower-uses2 .ensures) (c .before .lower-uses3 .result) (c .before .lower-uses3 .ensures) (c .before .before .before .match .keys3)
+
+node-uses-returns-5 : (t : ℕ) → node-uses-lts.Need-returns-5 (node-uses-claims t) (node-uses-at t) node-uses.Post
+unfolding usedOps
+node-uses-returns-5 t c =
+    let a = c .before .before .before .before .before .before .args in
+    let o = usedOps (queryOf (a .polynomial) (a .word)) in
+    let d = c .before .before .before .before .read-node in
+    (c .either2 .ensures) ∙ ways.met-product o (a .ws .now) (a .n) (d .result) (d .ensures) (c .before .before .lower-uses4 .result) (c .before .before .lower-uses4 .ensures) (c .before .lower-uses5 .result) (c .before .lower-uses5 .ensures) (c .before .before .before .match .keys4)
+
+node-uses-returns-6 : (t : ℕ) → node-uses-lts.Need-returns-6 (node-uses-claims t) (node-uses-at t) node-uses.Post
+unfolding usedOps
+node-uses-returns-6 t c =
+    let a = c .before .before .before .before .args in
+    let o = usedOps (queryOf (a .polynomial) (a .word)) in
+    let d = c .before .before .read-node in
+    ways.met-scaled o (a .ws .now) (a .n) (d .result) (d .ensures) (c .lower-uses6 .result) (c .lower-uses6 .ensures) (c .before .match .keys5)
+
+node-uses-returns-7 : (t : ℕ) → node-uses-lts.Need-returns-7 (node-uses-claims t) (node-uses-at t) node-uses.Post
+unfolding usedOps
+node-uses-returns-7 t c =
+    let a = c .before .before .before .before .before .before .args in
+    let o = usedOps (queryOf (a .polynomial) (a .word)) in
+    let d = c .before .before .before .before .read-node in
+    ways.met-no-powers o (a .ws .now) (a .n) (d .result) (d .ensures) (c .before .index .result) (c .before .index .ensures) (c .before .before .before .match .keys6) (c .if1 .left)
+
+node-uses-returns-8 : (t : ℕ) → node-uses-lts.Need-returns-8 (node-uses-claims t) (node-uses-at t) node-uses.Post
+unfolding usedOps
+node-uses-returns-8 t c =
+    let a = c .before .before .before .args in
+    let o = usedOps (queryOf (a .polynomial) (a .word)) in
+    let d = c .before .read-node in
+    let r = (c .match .rest) in
+    ways.met-other o (a .ws .now) (a .n) (d .result) (d .ensures) false
+    (λ z. refl)
+    (λ z. refl)
+    (λ z. refl)
+    (λ z. refl)
+    (r .0 .0 .0 .0 .0 .1)
+    (λ z. refl)
+    (r .0 .0 .0 .0 .1)
+    (r .0 .0 .0 .1)
+    (r .0 .0 .1)
+    (r .0 .1)
+    (r .1)
+    refl
 
 pub +chain-uses+items-uses+lower-uses+node-uses-spec : {M : Type 1} → statement M
 +chain-uses+items-uses+lower-uses+node-uses-spec =
-    close μ-chain-uses μ-items-uses μ-lower-uses μ-node-uses (λ t. chain-uses-lts.spec (
-      read-node-reads.Asked,
-      read-node-reads.Learnt,
-      lower-uses-below t,
-      lower-uses.Post,
-      index-reads.Asked,
-      index-reads.Learnt,
-      items-uses-below t,
-      items-uses.Post,
-      either-reads.Asked,
-      either-reads.Learnt,
-    )
+    close μ-chain-uses μ-items-uses μ-lower-uses μ-node-uses (λ t. chain-uses-lts.spec (chain-uses-claims t)
     (chain-uses-at t)
     chain-uses.Post
     (chain-uses-read-node-requires t)
@@ -796,18 +337,7 @@ pub +chain-uses+items-uses+lower-uses+node-uses-spec : {M : Type 1} → statemen
     (chain-uses-either-requires t)
     (chain-uses-either-requires-2 t)
     (chain-uses-returns-3 t))
-    (λ t. items-uses-lts.spec (
-      read-node-reads.Asked,
-      read-node-reads.Learnt,
-      lower-uses-below t,
-      lower-uses.Post,
-      either-reads.Asked,
-      either-reads.Learnt,
-      index-reads.Asked,
-      index-reads.Learnt,
-      items-uses-below t,
-      items-uses.Post,
-    )
+    (λ t. items-uses-lts.spec (items-uses-claims t)
     (items-uses-at t)
     items-uses.Post
     (items-uses-read-node-requires t)
@@ -822,32 +352,14 @@ pub +chain-uses+items-uses+lower-uses+node-uses-spec : {M : Type 1} → statemen
     (items-uses-either-requires-4 t)
     (items-uses-either-requires-5 t)
     (items-uses-returns-3 t))
-    (λ t. lower-uses-lts.spec (
-      index-reads.Asked,
-      index-reads.Learnt,
-      node-uses-below t,
-      node-uses.Post,
-    )
+    (λ t. lower-uses-lts.spec (lower-uses-claims t)
     (lower-uses-at t)
     lower-uses.Post
     (lower-uses-index-requires t)
     (lower-uses-node-uses-requires t)
     (lower-uses-returns t)
     (lower-uses-returns-2 t))
-    λ t. node-uses-lts.spec (
-      read-node-reads.Asked,
-      read-node-reads.Learnt,
-      same-reads.Asked,
-      same-reads.Learnt,
-      lower-uses-below t,
-      lower-uses.Post,
-      either-reads.Asked,
-      either-reads.Learnt,
-      index-reads.Asked,
-      index-reads.Learnt,
-      chain-uses-below t,
-      chain-uses.Post,
-    )
+    λ t. node-uses-lts.spec (node-uses-claims t)
     (node-uses-at t)
     node-uses.Post
     (node-uses-read-node-requires t)

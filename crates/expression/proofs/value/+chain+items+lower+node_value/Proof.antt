@@ -1,4 +1,12 @@
-use Prim.Native.Nat.{ℕ, _<_}
+-- The walk for the value: each way through the code is the fold by `opsOf`. Assumes nothing.
+use borrow.Author.Needs.{needs}
+use mathlib.Core.Path.{_∙_, ap, refl}
+use Rattle.expression.proofs.Ways as ways
+use Rattle.field.specs.Field.{𝔾, el}
+use Rattle.expression.specs.Value.{valueOps}
+use Rattle.expression.specs.Point.{environmentOf, polyValue, opsOf}
+use Rattle.expression.proofs.Leaves.{challenge-is}
+use Prim.Native.Nat.{ℕ, _+_, _<_}
 use borrow.Fn.Kinds.{In}
 use borrow.Fn.PlainCycle.{Measures, is, falls, and}
 use Rattle.expression.proofs.value.chain.Reads as chain
@@ -26,16 +34,16 @@ use Rattle.expression.proofs.value.+chain+items+lower+node_value.{state
 use Rattle.expression.proofs.value.+chain+items+lower+node_value.Tie.{close}
 
 abbrev μ-chain : Measures 6 chain-kinds.ps ℕ
-μ-chain κs a = ?
+μ-chain κs a = a .1 .1 .1 .1 .1 .1 .0 + a .1 .1 .1 .1 .1 .1 .0 + 1
 
 abbrev μ-items : Measures 6 items-kinds.ps ℕ
-μ-items κs a = ?
+μ-items κs a = a .1 .1 .1 .1 .1 .1 .0 + a .1 .1 .1 .1 .1 .1 .0 + 1
 
 abbrev μ-lower : Measures 6 lower-kinds.ps ℕ
-μ-lower κs a = ?
+μ-lower κs a = a .1 .1 .1 .1 .1 .1 .0 + a .1 .1 .1 .1 .1 .1 .0
 
 abbrev μ-node-value : Measures 6 node-value-kinds.ps ℕ
-μ-node-value κs a = ?
+μ-node-value κs a = a .1 .1 .1 .1 .1 .1 .0 + a .1 .1 .1 .1 .1 .1 .0 + 1
 
 abbrev chain-at : ℕ → In 6 chain-kinds.ps
 chain-at t = and 6 chain-kinds.ps (is 6 chain-kinds.ps μ-chain t) chain.Pre
@@ -63,1441 +71,335 @@ abbrev node-value-below : ℕ → In 6 node-value-kinds.ps
 node-value-below t =
     and 6 node-value-kinds.ps (falls 6 node-value-kinds.ps _<_ μ-node-value t) node-value.Pre
 
--- src/value.rt:157:9
-chain-read-node-requires : (t : ℕ) → chain-lts.Need-read-node-requires (
-  read-node-reads.Asked,
-  read-node-reads.Learnt,
-  lower-below t,
-  lower.Post,
-  index-reads.Asked,
-  index-reads.Learnt,
-  items-below t,
-  items.Post,
-  mul-reads.Asked,
-  mul-reads.Learnt,
-  add-reads.Asked,
-  add-reads.Learnt,
-) (chain-at t) chain.Post
-chain-read-node-requires t c κs = ?
+abbrev chain-claims : ℕ → chain-lts.Claims
+chain-claims t = (read-node-reads.Asked, read-node-reads.Learnt, lower-below t, lower.Post, index-reads.Asked, index-reads.Learnt, items-below t, items.Post, mul-reads.Asked, mul-reads.Learnt, add-reads.Asked, add-reads.Learnt)
 
--- src/value.rt:158:9
-chain-lower-requires : (t : ℕ) → chain-lts.Need-lower-requires (
-  read-node-reads.Asked,
-  read-node-reads.Learnt,
-  lower-below t,
-  lower.Post,
-  index-reads.Asked,
-  index-reads.Learnt,
-  items-below t,
-  items.Post,
-  mul-reads.Asked,
-  mul-reads.Learnt,
-  add-reads.Asked,
-  add-reads.Learnt,
-) (chain-at t) chain.Post
-chain-lower-requires t c κs = ?
+abbrev items-claims : ℕ → items-lts.Claims
+items-claims t = (read-node-reads.Asked, read-node-reads.Learnt, lower-below t, lower.Post, mul-reads.Asked, mul-reads.Learnt, add-reads.Asked, add-reads.Learnt, index-reads.Asked, index-reads.Learnt, items-below t, items.Post)
 
--- src/value.rt:160:9
-chain-returns : (t : ℕ) → chain-lts.Need-returns (
-  read-node-reads.Asked,
-  read-node-reads.Learnt,
-  lower-below t,
-  lower.Post,
-  index-reads.Asked,
-  index-reads.Learnt,
-  items-below t,
-  items.Post,
-  mul-reads.Asked,
-  mul-reads.Learnt,
-  add-reads.Asked,
-  add-reads.Learnt,
-) (chain-at t) chain.Post
-chain-returns t c = ?
+abbrev lower-claims : ℕ → lower-lts.Claims
+lower-claims t = (index-reads.Asked, index-reads.Learnt, node-value-below t, node-value.Post)
 
--- src/value.rt:162:9
-chain-index-requires : (t : ℕ) → chain-lts.Need-index-requires (
-  read-node-reads.Asked,
-  read-node-reads.Learnt,
-  lower-below t,
-  lower.Post,
-  index-reads.Asked,
-  index-reads.Learnt,
-  items-below t,
-  items.Post,
-  mul-reads.Asked,
-  mul-reads.Learnt,
-  add-reads.Asked,
-  add-reads.Learnt,
-) (chain-at t) chain.Post
-chain-index-requires t c κs = ?
+abbrev node-value-claims : ℕ → node-value-lts.Claims
+node-value-claims t = (read-node-reads.Asked, read-node-reads.Learnt, word-reads.Asked, word-reads.Learnt, lagrange-reads.Asked, lagrange-reads.Learnt, query-reads.Asked, query-reads.Learnt, index-reads.Asked, index-reads.Learnt, word-at-reads.Asked, word-at-reads.Learnt, lower-below t, lower.Post, neg-reads.Asked, neg-reads.Learnt, add-reads.Asked, add-reads.Learnt, mul-reads.Asked, mul-reads.Learnt, chain-below t, chain.Post)
 
--- src/value.rt:164:9
-chain-items-requires : (t : ℕ) → chain-lts.Need-items-requires (
-  read-node-reads.Asked,
-  read-node-reads.Learnt,
-  lower-below t,
-  lower.Post,
-  index-reads.Asked,
-  index-reads.Learnt,
-  items-below t,
-  items.Post,
-  mul-reads.Asked,
-  mul-reads.Learnt,
-  add-reads.Asked,
-  add-reads.Learnt,
-) (chain-at t) chain.Post
-chain-items-requires t c κs = ?
+chain-read-node-requires : (t : ℕ) → chain-lts.Need-read-node-requires (chain-claims t) (chain-at t) chain.Post
+chain-read-node-requires t c κs = search needs
 
--- src/value.rt:164:9
-chain-returns-2 : (t : ℕ) → chain-lts.Need-returns-2 (
-  read-node-reads.Asked,
-  read-node-reads.Learnt,
-  lower-below t,
-  lower.Post,
-  index-reads.Asked,
-  index-reads.Learnt,
-  items-below t,
-  items.Post,
-  mul-reads.Asked,
-  mul-reads.Learnt,
-  add-reads.Asked,
-  add-reads.Learnt,
-) (chain-at t) chain.Post
-chain-returns-2 t c = ?
+chain-lower-requires : (t : ℕ) → chain-lts.Need-lower-requires (chain-claims t) (chain-at t) chain.Post
+chain-lower-requires t c κs = search needs
 
--- src/value.rt:166:12
-chain-mul-requires : (t : ℕ) → chain-lts.Need-mul-requires (
-  read-node-reads.Asked,
-  read-node-reads.Learnt,
-  lower-below t,
-  lower.Post,
-  index-reads.Asked,
-  index-reads.Learnt,
-  items-below t,
-  items.Post,
-  mul-reads.Asked,
-  mul-reads.Learnt,
-  add-reads.Asked,
-  add-reads.Learnt,
-) (chain-at t) chain.Post
-chain-mul-requires t c κs = ?
+chain-returns : (t : ℕ) → chain-lts.Need-returns (chain-claims t) (chain-at t) chain.Post
+unfolding opsOf valueOps environmentOf polyValue
+chain-returns t c =
+    let a = c .before .before .before .before .before .before .before .before .before .args in
+    let o = opsOf (a .circuit .now) (a .witness .now) (a .columns .now) (a .challenges .now) (a .c .now) in
+    let d = c .before .before .before .read-node in
+    ways.met-last o (a .nodes .now) (a .n) (d .result) (d .ensures) (el (a .base)) (el (c .before .before .lower .result)) (c .before .before .lower .ensures) (c .if1 .taken)
 
--- src/value.rt:166:5
-chain-add-requires : (t : ℕ) → chain-lts.Need-add-requires (
-  read-node-reads.Asked,
-  read-node-reads.Learnt,
-  lower-below t,
-  lower.Post,
-  index-reads.Asked,
-  index-reads.Learnt,
-  items-below t,
-  items.Post,
-  mul-reads.Asked,
-  mul-reads.Learnt,
-  add-reads.Asked,
-  add-reads.Learnt,
-) (chain-at t) chain.Post
-chain-add-requires t c κs = ?
+chain-index-requires : (t : ℕ) → chain-lts.Need-index-requires (chain-claims t) (chain-at t) chain.Post
+chain-index-requires t c κs = search needs
 
--- src/value.rt:153:1
-chain-returns-3 : (t : ℕ) → chain-lts.Need-returns-3 (
-  read-node-reads.Asked,
-  read-node-reads.Learnt,
-  lower-below t,
-  lower.Post,
-  index-reads.Asked,
-  index-reads.Learnt,
-  items-below t,
-  items.Post,
-  mul-reads.Asked,
-  mul-reads.Learnt,
-  add-reads.Asked,
-  add-reads.Learnt,
-) (chain-at t) chain.Post
-chain-returns-3 t c = ?
+chain-items-requires : (t : ℕ) → chain-lts.Need-items-requires (chain-claims t) (chain-at t) chain.Post
+chain-items-requires t c κs = search needs
 
--- src/value.rt:174:9
-items-read-node-requires : (t : ℕ) → items-lts.Need-read-node-requires (
-  read-node-reads.Asked,
-  read-node-reads.Learnt,
-  lower-below t,
-  lower.Post,
-  mul-reads.Asked,
-  mul-reads.Learnt,
-  add-reads.Asked,
-  add-reads.Learnt,
-  index-reads.Asked,
-  index-reads.Learnt,
-  items-below t,
-  items.Post,
-) (items-at t) items.Post
-items-read-node-requires t c κs = ?
+chain-returns-2 : (t : ℕ) → chain-lts.Need-returns-2 (chain-claims t) (chain-at t) chain.Post
+unfolding opsOf valueOps environmentOf polyValue
+chain-returns-2 t c =
+    let a = c .before .before .before .before .before .before .before .before .before .before .before .before .args in
+    let o = opsOf (a .circuit .now) (a .witness .now) (a .columns .now) (a .challenges .now) (a .c .now) in
+    let d = c .before .before .before .before .before .before .read-node in
+    ways.met-more o (a .nodes .now) (a .n) (d .result) (d .ensures) (el (a .base)) (el (c .before .before .before .before .before .lower .result)) (c .before .before .before .before .before .lower .ensures) (c .before .before .before .if1 .left) (c .before .before .index .result) (c .before .before .index .ensures) (el (c .items .result)) (c .before .if2 .taken) (c .items .ensures)
 
--- src/value.rt:175:9
-items-lower-requires : (t : ℕ) → items-lts.Need-lower-requires (
-  read-node-reads.Asked,
-  read-node-reads.Learnt,
-  lower-below t,
-  lower.Post,
-  mul-reads.Asked,
-  mul-reads.Learnt,
-  add-reads.Asked,
-  add-reads.Learnt,
-  index-reads.Asked,
-  index-reads.Learnt,
-  items-below t,
-  items.Post,
-) (items-at t) items.Post
-items-lower-requires t c κs = ?
+chain-mul-requires : (t : ℕ) → chain-lts.Need-mul-requires (chain-claims t) (chain-at t) chain.Post
+chain-mul-requires t c κs = search needs
 
--- src/value.rt:176:22
-items-mul-requires : (t : ℕ) → items-lts.Need-mul-requires (
-  read-node-reads.Asked,
-  read-node-reads.Learnt,
-  lower-below t,
-  lower.Post,
-  mul-reads.Asked,
-  mul-reads.Learnt,
-  add-reads.Asked,
-  add-reads.Learnt,
-  index-reads.Asked,
-  index-reads.Learnt,
-  items-below t,
-  items.Post,
-) (items-at t) items.Post
-items-mul-requires t c κs = ?
+chain-add-requires : (t : ℕ) → chain-lts.Need-add-requires (chain-claims t) (chain-at t) chain.Post
+chain-add-requires t c κs = search needs
 
--- src/value.rt:176:9
-items-add-requires : (t : ℕ) → items-lts.Need-add-requires (
-  read-node-reads.Asked,
-  read-node-reads.Learnt,
-  lower-below t,
-  lower.Post,
-  mul-reads.Asked,
-  mul-reads.Learnt,
-  add-reads.Asked,
-  add-reads.Learnt,
-  index-reads.Asked,
-  index-reads.Learnt,
-  items-below t,
-  items.Post,
-) (items-at t) items.Post
-items-add-requires t c κs = ?
+chain-returns-3 : (t : ℕ) → chain-lts.Need-returns-3 (chain-claims t) (chain-at t) chain.Post
+unfolding opsOf valueOps environmentOf polyValue
+chain-returns-3 t c =
+    let a = c .before .before .before .before .before .before .before .before .before .before .before .before .before .args in
+    let o = opsOf (a .circuit .now) (a .witness .now) (a .columns .now) (a .challenges .now) (a .c .now) in
+    let d = c .before .before .before .before .before .before .before .read-node in
+    (c .add .ensures) ∙ ap (𝔾 .add (el (c .before .before .before .before .before .before .lower .result))) (c .before .mul .ensures)
+    ∙ ways.met-no-more o (a .nodes .now) (a .n) (d .result) (d .ensures) (el (a .base)) (el (c .before .before .before .before .before .before .lower .result)) (c .before .before .before .before .before .before .lower .ensures) (c .before .before .before .before .if1 .left) (c .before .before .before .index .result) (c .before .before .before .index .ensures) (c .before .before .if2 .left)
 
--- src/value.rt:178:9
-items-returns : (t : ℕ) → items-lts.Need-returns (
-  read-node-reads.Asked,
-  read-node-reads.Learnt,
-  lower-below t,
-  lower.Post,
-  mul-reads.Asked,
-  mul-reads.Learnt,
-  add-reads.Asked,
-  add-reads.Learnt,
-  index-reads.Asked,
-  index-reads.Learnt,
-  items-below t,
-  items.Post,
-) (items-at t) items.Post
-items-returns t c = ?
+items-read-node-requires : (t : ℕ) → items-lts.Need-read-node-requires (items-claims t) (items-at t) items.Post
+items-read-node-requires t c κs = search needs
 
--- src/value.rt:180:9
-items-mul-requires-2 : (t : ℕ) → items-lts.Need-mul-requires-2 (
-  read-node-reads.Asked,
-  read-node-reads.Learnt,
-  lower-below t,
-  lower.Post,
-  mul-reads.Asked,
-  mul-reads.Learnt,
-  add-reads.Asked,
-  add-reads.Learnt,
-  index-reads.Asked,
-  index-reads.Learnt,
-  items-below t,
-  items.Post,
-) (items-at t) items.Post
-items-mul-requires-2 t c κs = ?
+items-lower-requires : (t : ℕ) → items-lts.Need-lower-requires (items-claims t) (items-at t) items.Post
+items-lower-requires t c κs = search needs
 
--- src/value.rt:181:9
-items-index-requires : (t : ℕ) → items-lts.Need-index-requires (
-  read-node-reads.Asked,
-  read-node-reads.Learnt,
-  lower-below t,
-  lower.Post,
-  mul-reads.Asked,
-  mul-reads.Learnt,
-  add-reads.Asked,
-  add-reads.Learnt,
-  index-reads.Asked,
-  index-reads.Learnt,
-  items-below t,
-  items.Post,
-) (items-at t) items.Post
-items-index-requires t c κs = ?
+items-mul-requires : (t : ℕ) → items-lts.Need-mul-requires (items-claims t) (items-at t) items.Post
+items-mul-requires t c κs = search needs
 
--- src/value.rt:183:9
-items-items-requires : (t : ℕ) → items-lts.Need-items-requires (
-  read-node-reads.Asked,
-  read-node-reads.Learnt,
-  lower-below t,
-  lower.Post,
-  mul-reads.Asked,
-  mul-reads.Learnt,
-  add-reads.Asked,
-  add-reads.Learnt,
-  index-reads.Asked,
-  index-reads.Learnt,
-  items-below t,
-  items.Post,
-) (items-at t) items.Post
-items-items-requires t c κs = ?
+items-add-requires : (t : ℕ) → items-lts.Need-add-requires (items-claims t) (items-at t) items.Post
+items-add-requires t c κs = search needs
 
--- src/value.rt:183:9
-items-returns-2 : (t : ℕ) → items-lts.Need-returns-2 (
-  read-node-reads.Asked,
-  read-node-reads.Learnt,
-  lower-below t,
-  lower.Post,
-  mul-reads.Asked,
-  mul-reads.Learnt,
-  add-reads.Asked,
-  add-reads.Learnt,
-  index-reads.Asked,
-  index-reads.Learnt,
-  items-below t,
-  items.Post,
-) (items-at t) items.Post
-items-returns-2 t c = ?
+items-returns : (t : ℕ) → items-lts.Need-returns (items-claims t) (items-at t) items.Post
+unfolding opsOf valueOps environmentOf polyValue
+items-returns t c =
+    let a = c .before .before .before .before .before .before .before .before .before .before .before .args in
+    let o = opsOf (a .circuit .now) (a .witness .now) (a .columns .now) (a .challenges .now) (a .c .now) in
+    let d = c .before .before .before .before .before .read-node in
+    ways.met-rest-last o (a .nodes .now) (a .n) (d .result) (d .ensures) (el (a .base)) (el (a .power)) (el (a .acc)) (el (c .before .before .before .before .lower .result)) (el (c .before .before .add .result)) (c .before .before .before .before .lower .ensures)
+    ((c .before .before .add .ensures) ∙ ap (𝔾 .add (el (a .acc))) (c .before .before .before .mul .ensures))
+    (c .if1 .taken)
 
--- src/value.rt:185:12
-items-mul-requires-3 : (t : ℕ) → items-lts.Need-mul-requires-3 (
-  read-node-reads.Asked,
-  read-node-reads.Learnt,
-  lower-below t,
-  lower.Post,
-  mul-reads.Asked,
-  mul-reads.Learnt,
-  add-reads.Asked,
-  add-reads.Learnt,
-  index-reads.Asked,
-  index-reads.Learnt,
-  items-below t,
-  items.Post,
-) (items-at t) items.Post
-items-mul-requires-3 t c κs = ?
+items-mul-requires-2 : (t : ℕ) → items-lts.Need-mul-requires-2 (items-claims t) (items-at t) items.Post
+items-mul-requires-2 t c κs = search needs
 
--- src/value.rt:185:5
-items-add-requires-2 : (t : ℕ) → items-lts.Need-add-requires-2 (
-  read-node-reads.Asked,
-  read-node-reads.Learnt,
-  lower-below t,
-  lower.Post,
-  mul-reads.Asked,
-  mul-reads.Learnt,
-  add-reads.Asked,
-  add-reads.Learnt,
-  index-reads.Asked,
-  index-reads.Learnt,
-  items-below t,
-  items.Post,
-) (items-at t) items.Post
-items-add-requires-2 t c κs = ?
+items-index-requires : (t : ℕ) → items-lts.Need-index-requires (items-claims t) (items-at t) items.Post
+items-index-requires t c κs = search needs
 
--- src/value.rt:170:1
-items-returns-3 : (t : ℕ) → items-lts.Need-returns-3 (
-  read-node-reads.Asked,
-  read-node-reads.Learnt,
-  lower-below t,
-  lower.Post,
-  mul-reads.Asked,
-  mul-reads.Learnt,
-  add-reads.Asked,
-  add-reads.Learnt,
-  index-reads.Asked,
-  index-reads.Learnt,
-  items-below t,
-  items.Post,
-) (items-at t) items.Post
-items-returns-3 t c = ?
+items-items-requires : (t : ℕ) → items-lts.Need-items-requires (items-claims t) (items-at t) items.Post
+items-items-requires t c κs = search needs
 
--- src/value.rt:145:9
-lower-index-requires : (t : ℕ) → lower-lts.Need-index-requires (
-  index-reads.Asked,
-  index-reads.Learnt,
-  node-value-below t,
-  node-value.Post,
-) (lower-at t) lower.Post
-lower-index-requires t c κs = ?
+items-returns-2 : (t : ℕ) → items-lts.Need-returns-2 (items-claims t) (items-at t) items.Post
+unfolding opsOf valueOps environmentOf polyValue
+items-returns-2 t c =
+    let a = c .before .before .before .before .before .before .before .before .before .before .before .before .before .before .before .args in
+    let o = opsOf (a .circuit .now) (a .witness .now) (a .columns .now) (a .challenges .now) (a .c .now) in
+    let d = c .before .before .before .before .before .before .before .before .before .read-node in
+    ways.met-rest-more o (a .nodes .now) (a .n) (d .result) (d .ensures) (el (a .base)) (el (a .power)) (el (a .acc)) (el (c .before .before .before .before .before .before .before .before .lower .result)) (el (c .before .before .before .before .before .before .add .result)) (c .before .before .before .before .before .before .before .before .lower .ensures)
+    ((c .before .before .before .before .before .before .add .ensures) ∙ ap (𝔾 .add (el (a .acc))) (c .before .before .before .before .before .before .before .mul .ensures))
+    (c .before .before .before .before .if1 .left) (c .before .before .index .result) (c .before .before .index .ensures) (el (c .before .before .before .mul2 .result)) (c .before .before .before .mul2 .ensures) (el (c .items .result)) (c .before .if2 .taken) (c .items .ensures)
 
--- src/value.rt:147:9
-lower-node-value-requires : (t : ℕ) → lower-lts.Need-node-value-requires (
-  index-reads.Asked,
-  index-reads.Learnt,
-  node-value-below t,
-  node-value.Post,
-) (lower-at t) lower.Post
-lower-node-value-requires t c κs = ?
+items-mul-requires-3 : (t : ℕ) → items-lts.Need-mul-requires-3 (items-claims t) (items-at t) items.Post
+items-mul-requires-3 t c κs = search needs
 
--- src/value.rt:147:9
-lower-returns : (t : ℕ) → lower-lts.Need-returns (
-  index-reads.Asked,
-  index-reads.Learnt,
-  node-value-below t,
-  node-value.Post,
-) (lower-at t) lower.Post
-lower-returns t c = ?
+items-add-requires-2 : (t : ℕ) → items-lts.Need-add-requires-2 (items-claims t) (items-at t) items.Post
+items-add-requires-2 t c κs = search needs
 
--- src/value.rt:141:1
-lower-returns-2 : (t : ℕ) → lower-lts.Need-returns-2 (
-  index-reads.Asked,
-  index-reads.Learnt,
-  node-value-below t,
-  node-value.Post,
-) (lower-at t) lower.Post
-lower-returns-2 t c = ?
+items-returns-3 : (t : ℕ) → items-lts.Need-returns-3 (items-claims t) (items-at t) items.Post
+unfolding opsOf valueOps environmentOf polyValue
+items-returns-3 t c =
+    let a = c .before .before .before .before .before .before .before .before .before .before .before .before .before .before .before .before .args in
+    let o = opsOf (a .circuit .now) (a .witness .now) (a .columns .now) (a .challenges .now) (a .c .now) in
+    let d = c .before .before .before .before .before .before .before .before .before .before .read-node in
+    (c .add2 .ensures) ∙ ap (𝔾 .add (el (c .before .before .before .before .before .before .before .add .result))) (c .before .mul3 .ensures)
+    ∙ ways.met-rest-none o (a .nodes .now) (a .n) (d .result) (d .ensures) (el (a .base)) (el (a .power)) (el (a .acc)) (el (c .before .before .before .before .before .before .before .before .before .lower .result)) (el (c .before .before .before .before .before .before .before .add .result)) (c .before .before .before .before .before .before .before .before .before .lower .ensures)
+    ((c .before .before .before .before .before .before .before .add .ensures) ∙ ap (𝔾 .add (el (a .acc))) (c .before .before .before .before .before .before .before .before .mul .ensures))
+    (c .before .before .before .before .before .if1 .left) (c .before .before .before .index .result) (c .before .before .before .index .ensures) (el (c .before .before .before .before .mul2 .result)) (c .before .before .before .before .mul2 .ensures) (c .before .before .if2 .left)
 
--- src/value.rt:104:9
-node-value-read-node-requires : (t : ℕ) → node-value-lts.Need-read-node-requires (
-  read-node-reads.Asked,
-  read-node-reads.Learnt,
-  word-reads.Asked,
-  word-reads.Learnt,
-  lagrange-reads.Asked,
-  lagrange-reads.Learnt,
-  query-reads.Asked,
-  query-reads.Learnt,
-  index-reads.Asked,
-  index-reads.Learnt,
-  word-at-reads.Asked,
-  word-at-reads.Learnt,
-  lower-below t,
-  lower.Post,
-  neg-reads.Asked,
-  neg-reads.Learnt,
-  add-reads.Asked,
-  add-reads.Learnt,
-  mul-reads.Asked,
-  mul-reads.Learnt,
-  chain-below t,
-  chain.Post,
-) (node-value-at t) node-value.Post
-node-value-read-node-requires t c κs = ?
+lower-index-requires : (t : ℕ) → lower-lts.Need-index-requires (lower-claims t) (lower-at t) lower.Post
+lower-index-requires t c κs = search needs
 
--- src/value.rt:108:19
-node-value-element-copy-out-word : (t : ℕ) → node-value-lts.Need-element-copy-out-word (
-  read-node-reads.Asked,
-  read-node-reads.Learnt,
-  word-reads.Asked,
-  word-reads.Learnt,
-  lagrange-reads.Asked,
-  lagrange-reads.Learnt,
-  query-reads.Asked,
-  query-reads.Learnt,
-  index-reads.Asked,
-  index-reads.Learnt,
-  word-at-reads.Asked,
-  word-at-reads.Learnt,
-  lower-below t,
-  lower.Post,
-  neg-reads.Asked,
-  neg-reads.Learnt,
-  add-reads.Asked,
-  add-reads.Learnt,
-  mul-reads.Asked,
-  mul-reads.Learnt,
-  chain-below t,
-  chain.Post,
-) (node-value-at t) node-value.Post
-node-value-element-copy-out-word t c = ?
+lower-node-value-requires : (t : ℕ) → lower-lts.Need-node-value-requires (lower-claims t) (lower-at t) lower.Post
+lower-node-value-requires t c κs = search needs
 
--- src/value.rt:108:14
-node-value-word-requires : (t : ℕ) → node-value-lts.Need-word-requires (
-  read-node-reads.Asked,
-  read-node-reads.Learnt,
-  word-reads.Asked,
-  word-reads.Learnt,
-  lagrange-reads.Asked,
-  lagrange-reads.Learnt,
-  query-reads.Asked,
-  query-reads.Learnt,
-  index-reads.Asked,
-  index-reads.Learnt,
-  word-at-reads.Asked,
-  word-at-reads.Learnt,
-  lower-below t,
-  lower.Post,
-  neg-reads.Asked,
-  neg-reads.Learnt,
-  add-reads.Asked,
-  add-reads.Learnt,
-  mul-reads.Asked,
-  mul-reads.Learnt,
-  chain-below t,
-  chain.Post,
-) (node-value-at t) node-value.Post
-node-value-word-requires t c κs = ?
+lower-returns : (t : ℕ) → lower-lts.Need-returns (lower-claims t) (lower-at t) lower.Post
+unfolding opsOf valueOps environmentOf polyValue
+lower-returns t c =
+    let a = c .before .before .before .before .before .before .before .before .args in
+    let o = opsOf (a .circuit .now) (a .witness .now) (a .columns .now) (a .challenges .now) (a .c .now) in
+    ways.met-lower o (a .nodes .now) (a .n) (a .a) (c .before .before .index .result) (el (c .node-value .result)) (c .before .before .index .ensures) (c .before .if1 .taken) (c .node-value .ensures)
 
--- src/value.rt:109:32
-node-value-element-copy-out-lagrange : (t : ℕ) → node-value-lts.Need-element-copy-out-lagrange (
-  read-node-reads.Asked,
-  read-node-reads.Learnt,
-  word-reads.Asked,
-  word-reads.Learnt,
-  lagrange-reads.Asked,
-  lagrange-reads.Learnt,
-  query-reads.Asked,
-  query-reads.Learnt,
-  index-reads.Asked,
-  index-reads.Learnt,
-  word-at-reads.Asked,
-  word-at-reads.Learnt,
-  lower-below t,
-  lower.Post,
-  neg-reads.Asked,
-  neg-reads.Learnt,
-  add-reads.Asked,
-  add-reads.Learnt,
-  mul-reads.Asked,
-  mul-reads.Learnt,
-  chain-below t,
-  chain.Post,
-) (node-value-at t) node-value.Post
-node-value-element-copy-out-lagrange t c = ?
+lower-returns-2 : (t : ℕ) → lower-lts.Need-returns-2 (lower-claims t) (lower-at t) lower.Post
+unfolding opsOf valueOps environmentOf polyValue
+lower-returns-2 t c =
+    let a = c .before .before .before .before .before .before .before .args in
+    let o = opsOf (a .circuit .now) (a .witness .now) (a .columns .now) (a .challenges .now) (a .c .now) in
+    ways.met-not-lower o (a .nodes .now) (a .n) (a .a) (c .before .index .result) (c .before .index .ensures) (c .if1 .left)
 
--- src/value.rt:109:38
-node-value-element-copy-out-lagrange-2 : (t : ℕ) → node-value-lts.Need-element-copy-out-lagrange-2 (
-  read-node-reads.Asked,
-  read-node-reads.Learnt,
-  word-reads.Asked,
-  word-reads.Learnt,
-  lagrange-reads.Asked,
-  lagrange-reads.Learnt,
-  query-reads.Asked,
-  query-reads.Learnt,
-  index-reads.Asked,
-  index-reads.Learnt,
-  word-at-reads.Asked,
-  word-at-reads.Learnt,
-  lower-below t,
-  lower.Post,
-  neg-reads.Asked,
-  neg-reads.Learnt,
-  add-reads.Asked,
-  add-reads.Learnt,
-  mul-reads.Asked,
-  mul-reads.Learnt,
-  chain-below t,
-  chain.Post,
-) (node-value-at t) node-value.Post
-node-value-element-copy-out-lagrange-2 t c = ?
+node-value-read-node-requires : (t : ℕ) → node-value-lts.Need-read-node-requires (node-value-claims t) (node-value-at t) node-value.Post
+node-value-read-node-requires t c κs = search needs
 
--- src/value.rt:109:44
-node-value-element-copy-out-lagrange-3 : (t : ℕ) → node-value-lts.Need-element-copy-out-lagrange-3 (
-  read-node-reads.Asked,
-  read-node-reads.Learnt,
-  word-reads.Asked,
-  word-reads.Learnt,
-  lagrange-reads.Asked,
-  lagrange-reads.Learnt,
-  query-reads.Asked,
-  query-reads.Learnt,
-  index-reads.Asked,
-  index-reads.Learnt,
-  word-at-reads.Asked,
-  word-at-reads.Learnt,
-  lower-below t,
-  lower.Post,
-  neg-reads.Asked,
-  neg-reads.Learnt,
-  add-reads.Asked,
-  add-reads.Learnt,
-  mul-reads.Asked,
-  mul-reads.Learnt,
-  chain-below t,
-  chain.Post,
-) (node-value-at t) node-value.Post
-node-value-element-copy-out-lagrange-3 t c = ?
+node-value-element-copy-out-word : (t : ℕ) → node-value-lts.Need-element-copy-out-word (node-value-claims t) (node-value-at t) node-value.Post
+node-value-element-copy-out-word t c = search needs
 
--- src/value.rt:109:14
-node-value-lagrange-requires : (t : ℕ) → node-value-lts.Need-lagrange-requires (
-  read-node-reads.Asked,
-  read-node-reads.Learnt,
-  word-reads.Asked,
-  word-reads.Learnt,
-  lagrange-reads.Asked,
-  lagrange-reads.Learnt,
-  query-reads.Asked,
-  query-reads.Learnt,
-  index-reads.Asked,
-  index-reads.Learnt,
-  word-at-reads.Asked,
-  word-at-reads.Learnt,
-  lower-below t,
-  lower.Post,
-  neg-reads.Asked,
-  neg-reads.Learnt,
-  add-reads.Asked,
-  add-reads.Learnt,
-  mul-reads.Asked,
-  mul-reads.Learnt,
-  chain-below t,
-  chain.Post,
-) (node-value-at t) node-value.Post
-node-value-lagrange-requires t c κs = ?
+node-value-word-requires : (t : ℕ) → node-value-lts.Need-word-requires (node-value-claims t) (node-value-at t) node-value.Post
+node-value-word-requires t c κs = search needs
 
--- src/value.rt:110:19
-node-value-element-copy-out-word-2 : (t : ℕ) → node-value-lts.Need-element-copy-out-word-2 (
-  read-node-reads.Asked,
-  read-node-reads.Learnt,
-  word-reads.Asked,
-  word-reads.Learnt,
-  lagrange-reads.Asked,
-  lagrange-reads.Learnt,
-  query-reads.Asked,
-  query-reads.Learnt,
-  index-reads.Asked,
-  index-reads.Learnt,
-  word-at-reads.Asked,
-  word-at-reads.Learnt,
-  lower-below t,
-  lower.Post,
-  neg-reads.Asked,
-  neg-reads.Learnt,
-  add-reads.Asked,
-  add-reads.Learnt,
-  mul-reads.Asked,
-  mul-reads.Learnt,
-  chain-below t,
-  chain.Post,
-) (node-value-at t) node-value.Post
-node-value-element-copy-out-word-2 t c = ?
+node-value-element-copy-out-lagrange : (t : ℕ) → node-value-lts.Need-element-copy-out-lagrange (node-value-claims t) (node-value-at t) node-value.Post
+node-value-element-copy-out-lagrange t c = search needs
 
--- src/value.rt:110:14
-node-value-word-requires-2 : (t : ℕ) → node-value-lts.Need-word-requires-2 (
-  read-node-reads.Asked,
-  read-node-reads.Learnt,
-  word-reads.Asked,
-  word-reads.Learnt,
-  lagrange-reads.Asked,
-  lagrange-reads.Learnt,
-  query-reads.Asked,
-  query-reads.Learnt,
-  index-reads.Asked,
-  index-reads.Learnt,
-  word-at-reads.Asked,
-  word-at-reads.Learnt,
-  lower-below t,
-  lower.Post,
-  neg-reads.Asked,
-  neg-reads.Learnt,
-  add-reads.Asked,
-  add-reads.Learnt,
-  mul-reads.Asked,
-  mul-reads.Learnt,
-  chain-below t,
-  chain.Post,
-) (node-value-at t) node-value.Post
-node-value-word-requires-2 t c κs = ?
+node-value-element-copy-out-lagrange-2 : (t : ℕ) → node-value-lts.Need-element-copy-out-lagrange-2 (node-value-claims t) (node-value-at t) node-value.Post
+node-value-element-copy-out-lagrange-2 t c = search needs
 
--- src/value.rt:111:14
-node-value-query-requires : (t : ℕ) → node-value-lts.Need-query-requires (
-  read-node-reads.Asked,
-  read-node-reads.Learnt,
-  word-reads.Asked,
-  word-reads.Learnt,
-  lagrange-reads.Asked,
-  lagrange-reads.Learnt,
-  query-reads.Asked,
-  query-reads.Learnt,
-  index-reads.Asked,
-  index-reads.Learnt,
-  word-at-reads.Asked,
-  word-at-reads.Learnt,
-  lower-below t,
-  lower.Post,
-  neg-reads.Asked,
-  neg-reads.Learnt,
-  add-reads.Asked,
-  add-reads.Learnt,
-  mul-reads.Asked,
-  mul-reads.Learnt,
-  chain-below t,
-  chain.Post,
-) (node-value-at t) node-value.Post
-node-value-query-requires t c κs = ?
+node-value-element-copy-out-lagrange-3 : (t : ℕ) → node-value-lts.Need-element-copy-out-lagrange-3 (node-value-claims t) (node-value-at t) node-value.Post
+node-value-element-copy-out-lagrange-3 t c = search needs
 
--- src/value.rt:112:34
-node-value-index-requires : (t : ℕ) → node-value-lts.Need-index-requires (
-  read-node-reads.Asked,
-  read-node-reads.Learnt,
-  word-reads.Asked,
-  word-reads.Learnt,
-  lagrange-reads.Asked,
-  lagrange-reads.Learnt,
-  query-reads.Asked,
-  query-reads.Learnt,
-  index-reads.Asked,
-  index-reads.Learnt,
-  word-at-reads.Asked,
-  word-at-reads.Learnt,
-  lower-below t,
-  lower.Post,
-  neg-reads.Asked,
-  neg-reads.Learnt,
-  add-reads.Asked,
-  add-reads.Learnt,
-  mul-reads.Asked,
-  mul-reads.Learnt,
-  chain-below t,
-  chain.Post,
-) (node-value-at t) node-value.Post
-node-value-index-requires t c κs = ?
+node-value-lagrange-requires : (t : ℕ) → node-value-lts.Need-lagrange-requires (node-value-claims t) (node-value-at t) node-value.Post
+node-value-lagrange-requires t c κs = search needs
 
--- src/value.rt:112:14
-node-value-word-at-requires : (t : ℕ) → node-value-lts.Need-word-at-requires (
-  read-node-reads.Asked,
-  read-node-reads.Learnt,
-  word-reads.Asked,
-  word-reads.Learnt,
-  lagrange-reads.Asked,
-  lagrange-reads.Learnt,
-  query-reads.Asked,
-  query-reads.Learnt,
-  index-reads.Asked,
-  index-reads.Learnt,
-  word-at-reads.Asked,
-  word-at-reads.Learnt,
-  lower-below t,
-  lower.Post,
-  neg-reads.Asked,
-  neg-reads.Learnt,
-  add-reads.Asked,
-  add-reads.Learnt,
-  mul-reads.Asked,
-  mul-reads.Learnt,
-  chain-below t,
-  chain.Post,
-) (node-value-at t) node-value.Post
-node-value-word-at-requires t c κs = ?
+node-value-element-copy-out-word-2 : (t : ℕ) → node-value-lts.Need-element-copy-out-word-2 (node-value-claims t) (node-value-at t) node-value.Post
+node-value-element-copy-out-word-2 t c = search needs
 
--- src/value.rt:113:18
-node-value-lower-requires : (t : ℕ) → node-value-lts.Need-lower-requires (
-  read-node-reads.Asked,
-  read-node-reads.Learnt,
-  word-reads.Asked,
-  word-reads.Learnt,
-  lagrange-reads.Asked,
-  lagrange-reads.Learnt,
-  query-reads.Asked,
-  query-reads.Learnt,
-  index-reads.Asked,
-  index-reads.Learnt,
-  word-at-reads.Asked,
-  word-at-reads.Learnt,
-  lower-below t,
-  lower.Post,
-  neg-reads.Asked,
-  neg-reads.Learnt,
-  add-reads.Asked,
-  add-reads.Learnt,
-  mul-reads.Asked,
-  mul-reads.Learnt,
-  chain-below t,
-  chain.Post,
-) (node-value-at t) node-value.Post
-node-value-lower-requires t c κs = ?
+node-value-word-requires-2 : (t : ℕ) → node-value-lts.Need-word-requires-2 (node-value-claims t) (node-value-at t) node-value.Post
+node-value-word-requires-2 t c κs = search needs
 
--- src/value.rt:113:14
-node-value-neg-requires : (t : ℕ) → node-value-lts.Need-neg-requires (
-  read-node-reads.Asked,
-  read-node-reads.Learnt,
-  word-reads.Asked,
-  word-reads.Learnt,
-  lagrange-reads.Asked,
-  lagrange-reads.Learnt,
-  query-reads.Asked,
-  query-reads.Learnt,
-  index-reads.Asked,
-  index-reads.Learnt,
-  word-at-reads.Asked,
-  word-at-reads.Learnt,
-  lower-below t,
-  lower.Post,
-  neg-reads.Asked,
-  neg-reads.Learnt,
-  add-reads.Asked,
-  add-reads.Learnt,
-  mul-reads.Asked,
-  mul-reads.Learnt,
-  chain-below t,
-  chain.Post,
-) (node-value-at t) node-value.Post
-node-value-neg-requires t c κs = ?
+node-value-query-requires : (t : ℕ) → node-value-lts.Need-query-requires (node-value-claims t) (node-value-at t) node-value.Post
+node-value-query-requires t c κs = search needs
 
--- src/value.rt:115:17
-node-value-lower-requires-2 : (t : ℕ) → node-value-lts.Need-lower-requires-2 (
-  read-node-reads.Asked,
-  read-node-reads.Learnt,
-  word-reads.Asked,
-  word-reads.Learnt,
-  lagrange-reads.Asked,
-  lagrange-reads.Learnt,
-  query-reads.Asked,
-  query-reads.Learnt,
-  index-reads.Asked,
-  index-reads.Learnt,
-  word-at-reads.Asked,
-  word-at-reads.Learnt,
-  lower-below t,
-  lower.Post,
-  neg-reads.Asked,
-  neg-reads.Learnt,
-  add-reads.Asked,
-  add-reads.Learnt,
-  mul-reads.Asked,
-  mul-reads.Learnt,
-  chain-below t,
-  chain.Post,
-) (node-value-at t) node-value.Post
-node-value-lower-requires-2 t c κs = ?
+node-value-index-requires : (t : ℕ) → node-value-lts.Need-index-requires (node-value-claims t) (node-value-at t) node-value.Post
+node-value-index-requires t c κs = search needs
 
--- src/value.rt:116:17
-node-value-lower-requires-3 : (t : ℕ) → node-value-lts.Need-lower-requires-3 (
-  read-node-reads.Asked,
-  read-node-reads.Learnt,
-  word-reads.Asked,
-  word-reads.Learnt,
-  lagrange-reads.Asked,
-  lagrange-reads.Learnt,
-  query-reads.Asked,
-  query-reads.Learnt,
-  index-reads.Asked,
-  index-reads.Learnt,
-  word-at-reads.Asked,
-  word-at-reads.Learnt,
-  lower-below t,
-  lower.Post,
-  neg-reads.Asked,
-  neg-reads.Learnt,
-  add-reads.Asked,
-  add-reads.Learnt,
-  mul-reads.Asked,
-  mul-reads.Learnt,
-  chain-below t,
-  chain.Post,
-) (node-value-at t) node-value.Post
-node-value-lower-requires-3 t c κs = ?
+node-value-word-at-requires : (t : ℕ) → node-value-lts.Need-word-at-requires (node-value-claims t) (node-value-at t) node-value.Post
+node-value-word-at-requires t c κs = search needs
 
--- src/value.rt:117:13
-node-value-add-requires : (t : ℕ) → node-value-lts.Need-add-requires (
-  read-node-reads.Asked,
-  read-node-reads.Learnt,
-  word-reads.Asked,
-  word-reads.Learnt,
-  lagrange-reads.Asked,
-  lagrange-reads.Learnt,
-  query-reads.Asked,
-  query-reads.Learnt,
-  index-reads.Asked,
-  index-reads.Learnt,
-  word-at-reads.Asked,
-  word-at-reads.Learnt,
-  lower-below t,
-  lower.Post,
-  neg-reads.Asked,
-  neg-reads.Learnt,
-  add-reads.Asked,
-  add-reads.Learnt,
-  mul-reads.Asked,
-  mul-reads.Learnt,
-  chain-below t,
-  chain.Post,
-) (node-value-at t) node-value.Post
-node-value-add-requires t c κs = ?
+node-value-lower-requires : (t : ℕ) → node-value-lts.Need-lower-requires (node-value-claims t) (node-value-at t) node-value.Post
+node-value-lower-requires t c κs = search needs
 
--- src/value.rt:120:17
-node-value-lower-requires-4 : (t : ℕ) → node-value-lts.Need-lower-requires-4 (
-  read-node-reads.Asked,
-  read-node-reads.Learnt,
-  word-reads.Asked,
-  word-reads.Learnt,
-  lagrange-reads.Asked,
-  lagrange-reads.Learnt,
-  query-reads.Asked,
-  query-reads.Learnt,
-  index-reads.Asked,
-  index-reads.Learnt,
-  word-at-reads.Asked,
-  word-at-reads.Learnt,
-  lower-below t,
-  lower.Post,
-  neg-reads.Asked,
-  neg-reads.Learnt,
-  add-reads.Asked,
-  add-reads.Learnt,
-  mul-reads.Asked,
-  mul-reads.Learnt,
-  chain-below t,
-  chain.Post,
-) (node-value-at t) node-value.Post
-node-value-lower-requires-4 t c κs = ?
+node-value-neg-requires : (t : ℕ) → node-value-lts.Need-neg-requires (node-value-claims t) (node-value-at t) node-value.Post
+node-value-neg-requires t c κs = search needs
 
--- src/value.rt:121:17
-node-value-lower-requires-5 : (t : ℕ) → node-value-lts.Need-lower-requires-5 (
-  read-node-reads.Asked,
-  read-node-reads.Learnt,
-  word-reads.Asked,
-  word-reads.Learnt,
-  lagrange-reads.Asked,
-  lagrange-reads.Learnt,
-  query-reads.Asked,
-  query-reads.Learnt,
-  index-reads.Asked,
-  index-reads.Learnt,
-  word-at-reads.Asked,
-  word-at-reads.Learnt,
-  lower-below t,
-  lower.Post,
-  neg-reads.Asked,
-  neg-reads.Learnt,
-  add-reads.Asked,
-  add-reads.Learnt,
-  mul-reads.Asked,
-  mul-reads.Learnt,
-  chain-below t,
-  chain.Post,
-) (node-value-at t) node-value.Post
-node-value-lower-requires-5 t c κs = ?
+node-value-lower-requires-2 : (t : ℕ) → node-value-lts.Need-lower-requires-2 (node-value-claims t) (node-value-at t) node-value.Post
+node-value-lower-requires-2 t c κs = search needs
 
--- src/value.rt:122:13
-node-value-mul-requires : (t : ℕ) → node-value-lts.Need-mul-requires (
-  read-node-reads.Asked,
-  read-node-reads.Learnt,
-  word-reads.Asked,
-  word-reads.Learnt,
-  lagrange-reads.Asked,
-  lagrange-reads.Learnt,
-  query-reads.Asked,
-  query-reads.Learnt,
-  index-reads.Asked,
-  index-reads.Learnt,
-  word-at-reads.Asked,
-  word-at-reads.Learnt,
-  lower-below t,
-  lower.Post,
-  neg-reads.Asked,
-  neg-reads.Learnt,
-  add-reads.Asked,
-  add-reads.Learnt,
-  mul-reads.Asked,
-  mul-reads.Learnt,
-  chain-below t,
-  chain.Post,
-) (node-value-at t) node-value.Post
-node-value-mul-requires t c κs = ?
+node-value-lower-requires-3 : (t : ℕ) → node-value-lts.Need-lower-requires-3 (node-value-claims t) (node-value-at t) node-value.Post
+node-value-lower-requires-3 t c κs = search needs
 
--- src/value.rt:125:17
-node-value-lower-requires-6 : (t : ℕ) → node-value-lts.Need-lower-requires-6 (
-  read-node-reads.Asked,
-  read-node-reads.Learnt,
-  word-reads.Asked,
-  word-reads.Learnt,
-  lagrange-reads.Asked,
-  lagrange-reads.Learnt,
-  query-reads.Asked,
-  query-reads.Learnt,
-  index-reads.Asked,
-  index-reads.Learnt,
-  word-at-reads.Asked,
-  word-at-reads.Learnt,
-  lower-below t,
-  lower.Post,
-  neg-reads.Asked,
-  neg-reads.Learnt,
-  add-reads.Asked,
-  add-reads.Learnt,
-  mul-reads.Asked,
-  mul-reads.Learnt,
-  chain-below t,
-  chain.Post,
-) (node-value-at t) node-value.Post
-node-value-lower-requires-6 t c κs = ?
+node-value-add-requires : (t : ℕ) → node-value-lts.Need-add-requires (node-value-claims t) (node-value-at t) node-value.Post
+node-value-add-requires t c κs = search needs
 
--- src/value.rt:126:13
-node-value-mul-requires-2 : (t : ℕ) → node-value-lts.Need-mul-requires-2 (
-  read-node-reads.Asked,
-  read-node-reads.Learnt,
-  word-reads.Asked,
-  word-reads.Learnt,
-  lagrange-reads.Asked,
-  lagrange-reads.Learnt,
-  query-reads.Asked,
-  query-reads.Learnt,
-  index-reads.Asked,
-  index-reads.Learnt,
-  word-at-reads.Asked,
-  word-at-reads.Learnt,
-  lower-below t,
-  lower.Post,
-  neg-reads.Asked,
-  neg-reads.Learnt,
-  add-reads.Asked,
-  add-reads.Learnt,
-  mul-reads.Asked,
-  mul-reads.Learnt,
-  chain-below t,
-  chain.Post,
-) (node-value-at t) node-value.Post
-node-value-mul-requires-2 t c κs = ?
+node-value-lower-requires-4 : (t : ℕ) → node-value-lts.Need-lower-requires-4 (node-value-claims t) (node-value-at t) node-value.Post
+node-value-lower-requires-4 t c κs = search needs
 
--- src/value.rt:129:17
-node-value-lower-requires-7 : (t : ℕ) → node-value-lts.Need-lower-requires-7 (
-  read-node-reads.Asked,
-  read-node-reads.Learnt,
-  word-reads.Asked,
-  word-reads.Learnt,
-  lagrange-reads.Asked,
-  lagrange-reads.Learnt,
-  query-reads.Asked,
-  query-reads.Learnt,
-  index-reads.Asked,
-  index-reads.Learnt,
-  word-at-reads.Asked,
-  word-at-reads.Learnt,
-  lower-below t,
-  lower.Post,
-  neg-reads.Asked,
-  neg-reads.Learnt,
-  add-reads.Asked,
-  add-reads.Learnt,
-  mul-reads.Asked,
-  mul-reads.Learnt,
-  chain-below t,
-  chain.Post,
-) (node-value-at t) node-value.Post
-node-value-lower-requires-7 t c κs = ?
+node-value-lower-requires-5 : (t : ℕ) → node-value-lts.Need-lower-requires-5 (node-value-claims t) (node-value-at t) node-value.Post
+node-value-lower-requires-5 t c κs = search needs
 
--- src/value.rt:130:17
-node-value-index-requires-2 : (t : ℕ) → node-value-lts.Need-index-requires-2 (
-  read-node-reads.Asked,
-  read-node-reads.Learnt,
-  word-reads.Asked,
-  word-reads.Learnt,
-  lagrange-reads.Asked,
-  lagrange-reads.Learnt,
-  query-reads.Asked,
-  query-reads.Learnt,
-  index-reads.Asked,
-  index-reads.Learnt,
-  word-at-reads.Asked,
-  word-at-reads.Learnt,
-  lower-below t,
-  lower.Post,
-  neg-reads.Asked,
-  neg-reads.Learnt,
-  add-reads.Asked,
-  add-reads.Learnt,
-  mul-reads.Asked,
-  mul-reads.Learnt,
-  chain-below t,
-  chain.Post,
-) (node-value-at t) node-value.Post
-node-value-index-requires-2 t c κs = ?
+node-value-mul-requires : (t : ℕ) → node-value-lts.Need-mul-requires (node-value-claims t) (node-value-at t) node-value.Post
+node-value-mul-requires t c κs = search needs
 
--- src/value.rt:132:17
-node-value-chain-requires : (t : ℕ) → node-value-lts.Need-chain-requires (
-  read-node-reads.Asked,
-  read-node-reads.Learnt,
-  word-reads.Asked,
-  word-reads.Learnt,
-  lagrange-reads.Asked,
-  lagrange-reads.Learnt,
-  query-reads.Asked,
-  query-reads.Learnt,
-  index-reads.Asked,
-  index-reads.Learnt,
-  word-at-reads.Asked,
-  word-at-reads.Learnt,
-  lower-below t,
-  lower.Post,
-  neg-reads.Asked,
-  neg-reads.Learnt,
-  add-reads.Asked,
-  add-reads.Learnt,
-  mul-reads.Asked,
-  mul-reads.Learnt,
-  chain-below t,
-  chain.Post,
-) (node-value-at t) node-value.Post
-node-value-chain-requires t c κs = ?
+node-value-lower-requires-6 : (t : ℕ) → node-value-lts.Need-lower-requires-6 (node-value-claims t) (node-value-at t) node-value.Post
+node-value-lower-requires-6 t c κs = search needs
 
--- src/value.rt:132:17
-node-value-returns : (t : ℕ) → node-value-lts.Need-returns (
-  read-node-reads.Asked,
-  read-node-reads.Learnt,
-  word-reads.Asked,
-  word-reads.Learnt,
-  lagrange-reads.Asked,
-  lagrange-reads.Learnt,
-  query-reads.Asked,
-  query-reads.Learnt,
-  index-reads.Asked,
-  index-reads.Learnt,
-  word-at-reads.Asked,
-  word-at-reads.Learnt,
-  lower-below t,
-  lower.Post,
-  neg-reads.Asked,
-  neg-reads.Learnt,
-  add-reads.Asked,
-  add-reads.Learnt,
-  mul-reads.Asked,
-  mul-reads.Learnt,
-  chain-below t,
-  chain.Post,
-) (node-value-at t) node-value.Post
-node-value-returns t c = ?
+node-value-mul-requires-2 : (t : ℕ) → node-value-lts.Need-mul-requires-2 (node-value-claims t) (node-value-at t) node-value.Post
+node-value-mul-requires-2 t c κs = search needs
 
--- src/value.rt:100:1
-node-value-returns-2 : (t : ℕ) → node-value-lts.Need-returns-2 (
-  read-node-reads.Asked,
-  read-node-reads.Learnt,
-  word-reads.Asked,
-  word-reads.Learnt,
-  lagrange-reads.Asked,
-  lagrange-reads.Learnt,
-  query-reads.Asked,
-  query-reads.Learnt,
-  index-reads.Asked,
-  index-reads.Learnt,
-  word-at-reads.Asked,
-  word-at-reads.Learnt,
-  lower-below t,
-  lower.Post,
-  neg-reads.Asked,
-  neg-reads.Learnt,
-  add-reads.Asked,
-  add-reads.Learnt,
-  mul-reads.Asked,
-  mul-reads.Learnt,
-  chain-below t,
-  chain.Post,
-) (node-value-at t) node-value.Post
-node-value-returns-2 t c = ?
+node-value-lower-requires-7 : (t : ℕ) → node-value-lts.Need-lower-requires-7 (node-value-claims t) (node-value-at t) node-value.Post
+node-value-lower-requires-7 t c κs = search needs
 
--- src/value.rt:100:1
-node-value-returns-3 : (t : ℕ) → node-value-lts.Need-returns-3 (
-  read-node-reads.Asked,
-  read-node-reads.Learnt,
-  word-reads.Asked,
-  word-reads.Learnt,
-  lagrange-reads.Asked,
-  lagrange-reads.Learnt,
-  query-reads.Asked,
-  query-reads.Learnt,
-  index-reads.Asked,
-  index-reads.Learnt,
-  word-at-reads.Asked,
-  word-at-reads.Learnt,
-  lower-below t,
-  lower.Post,
-  neg-reads.Asked,
-  neg-reads.Learnt,
-  add-reads.Asked,
-  add-reads.Learnt,
-  mul-reads.Asked,
-  mul-reads.Learnt,
-  chain-below t,
-  chain.Post,
-) (node-value-at t) node-value.Post
-node-value-returns-3 t c = ?
+node-value-index-requires-2 : (t : ℕ) → node-value-lts.Need-index-requires-2 (node-value-claims t) (node-value-at t) node-value.Post
+node-value-index-requires-2 t c κs = search needs
 
--- src/value.rt:100:1
-node-value-returns-4 : (t : ℕ) → node-value-lts.Need-returns-4 (
-  read-node-reads.Asked,
-  read-node-reads.Learnt,
-  word-reads.Asked,
-  word-reads.Learnt,
-  lagrange-reads.Asked,
-  lagrange-reads.Learnt,
-  query-reads.Asked,
-  query-reads.Learnt,
-  index-reads.Asked,
-  index-reads.Learnt,
-  word-at-reads.Asked,
-  word-at-reads.Learnt,
-  lower-below t,
-  lower.Post,
-  neg-reads.Asked,
-  neg-reads.Learnt,
-  add-reads.Asked,
-  add-reads.Learnt,
-  mul-reads.Asked,
-  mul-reads.Learnt,
-  chain-below t,
-  chain.Post,
-) (node-value-at t) node-value.Post
-node-value-returns-4 t c = ?
+node-value-chain-requires : (t : ℕ) → node-value-lts.Need-chain-requires (node-value-claims t) (node-value-at t) node-value.Post
+node-value-chain-requires t c κs = search needs
 
--- src/value.rt:100:1
-node-value-returns-5 : (t : ℕ) → node-value-lts.Need-returns-5 (
-  read-node-reads.Asked,
-  read-node-reads.Learnt,
-  word-reads.Asked,
-  word-reads.Learnt,
-  lagrange-reads.Asked,
-  lagrange-reads.Learnt,
-  query-reads.Asked,
-  query-reads.Learnt,
-  index-reads.Asked,
-  index-reads.Learnt,
-  word-at-reads.Asked,
-  word-at-reads.Learnt,
-  lower-below t,
-  lower.Post,
-  neg-reads.Asked,
-  neg-reads.Learnt,
-  add-reads.Asked,
-  add-reads.Learnt,
-  mul-reads.Asked,
-  mul-reads.Learnt,
-  chain-below t,
-  chain.Post,
-) (node-value-at t) node-value.Post
-node-value-returns-5 t c = ?
+node-value-returns : (t : ℕ) → node-value-lts.Need-returns (node-value-claims t) (node-value-at t) node-value.Post
+unfolding opsOf valueOps environmentOf polyValue
+node-value-returns t c =
+    let a = c .before .before .before .before .before .before .before .before .before .before .before .args in
+    let o = opsOf (a .circuit .now) (a .witness .now) (a .columns .now) (a .challenges .now) (a .c .now) in
+    let d = c .before .before .before .before .before .read-node in
+    ways.met-powers o (a .nodes .now) (a .n) (d .result) (d .ensures) (c .before .before .index2 .result) (c .before .before .index2 .ensures) (el (c .before .before .before .lower7 .result)) (c .before .before .before .lower7 .ensures) (el (c .chain .result)) (c .before .before .before .before .match .keys11) (c .before .if1 .taken) (c .chain .ensures)
 
--- src/value.rt:100:1
-node-value-returns-6 : (t : ℕ) → node-value-lts.Need-returns-6 (
-  read-node-reads.Asked,
-  read-node-reads.Learnt,
-  word-reads.Asked,
-  word-reads.Learnt,
-  lagrange-reads.Asked,
-  lagrange-reads.Learnt,
-  query-reads.Asked,
-  query-reads.Learnt,
-  index-reads.Asked,
-  index-reads.Learnt,
-  word-at-reads.Asked,
-  word-at-reads.Learnt,
-  lower-below t,
-  lower.Post,
-  neg-reads.Asked,
-  neg-reads.Learnt,
-  add-reads.Asked,
-  add-reads.Learnt,
-  mul-reads.Asked,
-  mul-reads.Learnt,
-  chain-below t,
-  chain.Post,
-) (node-value-at t) node-value.Post
-node-value-returns-6 t c = ?
+node-value-returns-2 : (t : ℕ) → node-value-lts.Need-returns-2 (node-value-claims t) (node-value-at t) node-value.Post
+unfolding opsOf valueOps environmentOf polyValue
+node-value-returns-2 t c =
+    let a = c .before .before .before .before .before .before .before .args in
+    let o = opsOf (a .circuit .now) (a .witness .now) (a .columns .now) (a .challenges .now) (a .c .now) in
+    let d = c .before .read-node in
+    ways.met-constant o (a .nodes .now) (a .n) (d .result) (d .ensures) (c .match .keys1)
 
--- src/value.rt:100:1
-node-value-returns-7 : (t : ℕ) → node-value-lts.Need-returns-7 (
-  read-node-reads.Asked,
-  read-node-reads.Learnt,
-  word-reads.Asked,
-  word-reads.Learnt,
-  lagrange-reads.Asked,
-  lagrange-reads.Learnt,
-  query-reads.Asked,
-  query-reads.Learnt,
-  index-reads.Asked,
-  index-reads.Learnt,
-  word-at-reads.Asked,
-  word-at-reads.Learnt,
-  lower-below t,
-  lower.Post,
-  neg-reads.Asked,
-  neg-reads.Learnt,
-  add-reads.Asked,
-  add-reads.Learnt,
-  mul-reads.Asked,
-  mul-reads.Learnt,
-  chain-below t,
-  chain.Post,
-) (node-value-at t) node-value.Post
-node-value-returns-7 t c = ?
+node-value-returns-3 : (t : ℕ) → node-value-lts.Need-returns-3 (node-value-claims t) (node-value-at t) node-value.Post
+unfolding opsOf valueOps environmentOf polyValue
+node-value-returns-3 t c =
+    let a = c .before .before .before .before .before .before .before .before .before .args in
+    let o = opsOf (a .circuit .now) (a .witness .now) (a .columns .now) (a .challenges .now) (a .c .now) in
+    let d = c .before .before .before .read-node in
+    ap el (c .word .ensures) ∙ ways.met-identity o (a .nodes .now) (a .n) (d .result) (d .ensures) (c .before .before .match .keys2)
 
--- src/value.rt:100:1
-node-value-returns-8 : (t : ℕ) → node-value-lts.Need-returns-8 (
-  read-node-reads.Asked,
-  read-node-reads.Learnt,
-  word-reads.Asked,
-  word-reads.Learnt,
-  lagrange-reads.Asked,
-  lagrange-reads.Learnt,
-  query-reads.Asked,
-  query-reads.Learnt,
-  index-reads.Asked,
-  index-reads.Learnt,
-  word-at-reads.Asked,
-  word-at-reads.Learnt,
-  lower-below t,
-  lower.Post,
-  neg-reads.Asked,
-  neg-reads.Learnt,
-  add-reads.Asked,
-  add-reads.Learnt,
-  mul-reads.Asked,
-  mul-reads.Learnt,
-  chain-below t,
-  chain.Post,
-) (node-value-at t) node-value.Post
-node-value-returns-8 t c = ?
+node-value-returns-4 : (t : ℕ) → node-value-lts.Need-returns-4 (node-value-claims t) (node-value-at t) node-value.Post
+unfolding opsOf valueOps environmentOf polyValue
+node-value-returns-4 t c =
+    let a = c .before .before .before .before .before .before .before .before .before .before .before .args in
+    let o = opsOf (a .circuit .now) (a .witness .now) (a .columns .now) (a .challenges .now) (a .c .now) in
+    let d = c .before .before .before .before .before .read-node in
+    (c .lagrange .ensures) ∙ ways.met-lagrange o (a .nodes .now) (a .n) (d .result) (d .ensures) (c .before .before .before .before .match .keys3)
 
--- src/value.rt:100:1
-node-value-returns-9 : (t : ℕ) → node-value-lts.Need-returns-9 (
-  read-node-reads.Asked,
-  read-node-reads.Learnt,
-  word-reads.Asked,
-  word-reads.Learnt,
-  lagrange-reads.Asked,
-  lagrange-reads.Learnt,
-  query-reads.Asked,
-  query-reads.Learnt,
-  index-reads.Asked,
-  index-reads.Learnt,
-  word-at-reads.Asked,
-  word-at-reads.Learnt,
-  lower-below t,
-  lower.Post,
-  neg-reads.Asked,
-  neg-reads.Learnt,
-  add-reads.Asked,
-  add-reads.Learnt,
-  mul-reads.Asked,
-  mul-reads.Learnt,
-  chain-below t,
-  chain.Post,
-) (node-value-at t) node-value.Post
-node-value-returns-9 t c = ?
+node-value-returns-5 : (t : ℕ) → node-value-lts.Need-returns-5 (node-value-claims t) (node-value-at t) node-value.Post
+unfolding opsOf valueOps environmentOf polyValue
+node-value-returns-5 t c =
+    let a = c .before .before .before .before .before .before .before .before .before .args in
+    let o = opsOf (a .circuit .now) (a .witness .now) (a .columns .now) (a .challenges .now) (a .c .now) in
+    let d = c .before .before .before .read-node in
+    ap el (c .word2 .ensures) ∙ ways.met-eqXY o (a .nodes .now) (a .n) (d .result) (d .ensures) (c .before .before .match .keys4)
 
--- src/value.rt:100:1
-node-value-returns-10 : (t : ℕ) → node-value-lts.Need-returns-10 (
-  read-node-reads.Asked,
-  read-node-reads.Learnt,
-  word-reads.Asked,
-  word-reads.Learnt,
-  lagrange-reads.Asked,
-  lagrange-reads.Learnt,
-  query-reads.Asked,
-  query-reads.Learnt,
-  index-reads.Asked,
-  index-reads.Learnt,
-  word-at-reads.Asked,
-  word-at-reads.Learnt,
-  lower-below t,
-  lower.Post,
-  neg-reads.Asked,
-  neg-reads.Learnt,
-  add-reads.Asked,
-  add-reads.Learnt,
-  mul-reads.Asked,
-  mul-reads.Learnt,
-  chain-below t,
-  chain.Post,
-) (node-value-at t) node-value.Post
-node-value-returns-10 t c = ?
+node-value-returns-6 : (t : ℕ) → node-value-lts.Need-returns-6 (node-value-claims t) (node-value-at t) node-value.Post
+unfolding opsOf valueOps environmentOf polyValue
+node-value-returns-6 t c =
+    let a = c .before .before .before .before .before .before .before .before .args in
+    let o = opsOf (a .circuit .now) (a .witness .now) (a .columns .now) (a .challenges .now) (a .c .now) in
+    let d = c .before .before .read-node in
+    (c .query .ensures) ∙ ways.met-poly o (a .nodes .now) (a .n) (d .result) (d .ensures) (c .before .match .keys5)
 
--- src/value.rt:100:1
-node-value-returns-11 : (t : ℕ) → node-value-lts.Need-returns-11 (
-  read-node-reads.Asked,
-  read-node-reads.Learnt,
-  word-reads.Asked,
-  word-reads.Learnt,
-  lagrange-reads.Asked,
-  lagrange-reads.Learnt,
-  query-reads.Asked,
-  query-reads.Learnt,
-  index-reads.Asked,
-  index-reads.Learnt,
-  word-at-reads.Asked,
-  word-at-reads.Learnt,
-  lower-below t,
-  lower.Post,
-  neg-reads.Asked,
-  neg-reads.Learnt,
-  add-reads.Asked,
-  add-reads.Learnt,
-  mul-reads.Asked,
-  mul-reads.Learnt,
-  chain-below t,
-  chain.Post,
-) (node-value-at t) node-value.Post
-node-value-returns-11 t c = ?
+node-value-returns-7 : (t : ℕ) → node-value-lts.Need-returns-7 (node-value-claims t) (node-value-at t) node-value.Post
+unfolding opsOf valueOps environmentOf polyValue
+node-value-returns-7 t c =
+    let a = c .before .before .before .before .before .before .before .before .before .args in
+    let o = opsOf (a .circuit .now) (a .witness .now) (a .columns .now) (a .challenges .now) (a .c .now) in
+    let d = c .before .before .before .read-node in
+    challenge-is (a .challenges .now) (d .result .first) (c .before .index .result) (c .before .index .ensures) (c .word-at .result) (c .word-at .ensures)
+    ∙ ways.met-challenge o (a .nodes .now) (a .n) (d .result) (d .ensures) (c .before .before .match .keys6)
 
--- src/value.rt:100:1
-node-value-returns-12 : (t : ℕ) → node-value-lts.Need-returns-12 (
-  read-node-reads.Asked,
-  read-node-reads.Learnt,
-  word-reads.Asked,
-  word-reads.Learnt,
-  lagrange-reads.Asked,
-  lagrange-reads.Learnt,
-  query-reads.Asked,
-  query-reads.Learnt,
-  index-reads.Asked,
-  index-reads.Learnt,
-  word-at-reads.Asked,
-  word-at-reads.Learnt,
-  lower-below t,
-  lower.Post,
-  neg-reads.Asked,
-  neg-reads.Learnt,
-  add-reads.Asked,
-  add-reads.Learnt,
-  mul-reads.Asked,
-  mul-reads.Learnt,
-  chain-below t,
-  chain.Post,
-) (node-value-at t) node-value.Post
-node-value-returns-12 t c = ?
+node-value-returns-8 : (t : ℕ) → node-value-lts.Need-returns-8 (node-value-claims t) (node-value-at t) node-value.Post
+unfolding opsOf valueOps environmentOf polyValue
+node-value-returns-8 t c =
+    let a = c .before .before .before .before .before .before .before .before .before .args in
+    let o = opsOf (a .circuit .now) (a .witness .now) (a .columns .now) (a .challenges .now) (a .c .now) in
+    let d = c .before .before .before .read-node in
+    (c .neg .ensures) ∙ ways.met-negated o (a .nodes .now) (a .n) (d .result) (d .ensures) (el (c .before .lower .result)) (c .before .lower .ensures) (c .before .before .match .keys7)
 
--- src/value.rt:100:1
-node-value-returns-13 : (t : ℕ) → node-value-lts.Need-returns-13 (
-  read-node-reads.Asked,
-  read-node-reads.Learnt,
-  word-reads.Asked,
-  word-reads.Learnt,
-  lagrange-reads.Asked,
-  lagrange-reads.Learnt,
-  query-reads.Asked,
-  query-reads.Learnt,
-  index-reads.Asked,
-  index-reads.Learnt,
-  word-at-reads.Asked,
-  word-at-reads.Learnt,
-  lower-below t,
-  lower.Post,
-  neg-reads.Asked,
-  neg-reads.Learnt,
-  add-reads.Asked,
-  add-reads.Learnt,
-  mul-reads.Asked,
-  mul-reads.Learnt,
-  chain-below t,
-  chain.Post,
-) (node-value-at t) node-value.Post
-node-value-returns-13 t c = ?
+node-value-returns-9 : (t : ℕ) → node-value-lts.Need-returns-9 (node-value-claims t) (node-value-at t) node-value.Post
+unfolding opsOf valueOps environmentOf polyValue
+node-value-returns-9 t c =
+    let a = c .before .before .before .before .before .before .before .before .before .before .args in
+    let o = opsOf (a .circuit .now) (a .witness .now) (a .columns .now) (a .challenges .now) (a .c .now) in
+    let d = c .before .before .before .before .read-node in
+    (c .add .ensures) ∙ ways.met-sum o (a .nodes .now) (a .n) (d .result) (d .ensures) (el (c .before .before .lower2 .result)) (c .before .before .lower2 .ensures) (el (c .before .lower3 .result)) (c .before .lower3 .ensures) (c .before .before .before .match .keys8)
+
+node-value-returns-10 : (t : ℕ) → node-value-lts.Need-returns-10 (node-value-claims t) (node-value-at t) node-value.Post
+unfolding opsOf valueOps environmentOf polyValue
+node-value-returns-10 t c =
+    let a = c .before .before .before .before .before .before .before .before .before .before .args in
+    let o = opsOf (a .circuit .now) (a .witness .now) (a .columns .now) (a .challenges .now) (a .c .now) in
+    let d = c .before .before .before .before .read-node in
+    (c .mul .ensures) ∙ ways.met-product o (a .nodes .now) (a .n) (d .result) (d .ensures) (el (c .before .before .lower4 .result)) (c .before .before .lower4 .ensures) (el (c .before .lower5 .result)) (c .before .lower5 .ensures) (c .before .before .before .match .keys9)
+
+node-value-returns-11 : (t : ℕ) → node-value-lts.Need-returns-11 (node-value-claims t) (node-value-at t) node-value.Post
+unfolding opsOf valueOps environmentOf polyValue
+node-value-returns-11 t c =
+    let a = c .before .before .before .before .before .before .before .before .before .args in
+    let o = opsOf (a .circuit .now) (a .witness .now) (a .columns .now) (a .challenges .now) (a .c .now) in
+    let d = c .before .before .before .read-node in
+    (c .mul2 .ensures) ∙ ways.met-scaled o (a .nodes .now) (a .n) (d .result) (d .ensures) (el (c .before .lower6 .result)) (c .before .lower6 .ensures) (c .before .before .match .keys10)
+
+node-value-returns-12 : (t : ℕ) → node-value-lts.Need-returns-12 (node-value-claims t) (node-value-at t) node-value.Post
+unfolding opsOf valueOps environmentOf polyValue
+node-value-returns-12 t c =
+    let a = c .before .before .before .before .before .before .before .before .before .before .args in
+    let o = opsOf (a .circuit .now) (a .witness .now) (a .columns .now) (a .challenges .now) (a .c .now) in
+    let d = c .before .before .before .before .read-node in
+    ways.met-no-powers o (a .nodes .now) (a .n) (d .result) (d .ensures) (c .before .index2 .result) (c .before .index2 .ensures) (c .before .before .before .match .keys11) (c .if1 .left)
+
+node-value-returns-13 : (t : ℕ) → node-value-lts.Need-returns-13 (node-value-claims t) (node-value-at t) node-value.Post
+unfolding opsOf valueOps environmentOf polyValue
+node-value-returns-13 t c =
+    let a = c .before .before .before .before .before .before .before .args in
+    let o = opsOf (a .circuit .now) (a .witness .now) (a .columns .now) (a .challenges .now) (a .c .now) in
+    let d = c .before .read-node in
+    let r = (c .match .rest) in
+    ways.met-other o (a .nodes .now) (a .n) (d .result) (d .ensures) (el 0)
+    (λ z. absurd ((r .0 .0 .0 .0 .0 .0 .0 .0 .0 .0 .1) z))
+    (λ z. absurd ((r .0 .0 .0 .0 .0 .0 .0 .0 .0 .1) z))
+    (λ z. absurd ((r .0 .0 .0 .0 .0 .0 .0 .0 .1) z))
+    (λ z. absurd ((r .0 .0 .0 .0 .0 .0 .0 .1) z))
+    (r .0 .0 .0 .0 .0 .0 .1)
+    (λ z. absurd ((r .0 .0 .0 .0 .0 .1) z))
+    (r .0 .0 .0 .0 .1)
+    (r .0 .0 .0 .1)
+    (r .0 .0 .1)
+    (r .0 .1)
+    (r .1)
+    refl
 
 pub +chain+items+lower+node-value-spec : {M : Type 1} → statement M
 +chain+items+lower+node-value-spec =
-    close μ-chain μ-items μ-lower μ-node-value (λ t. chain-lts.spec (
-      read-node-reads.Asked,
-      read-node-reads.Learnt,
-      lower-below t,
-      lower.Post,
-      index-reads.Asked,
-      index-reads.Learnt,
-      items-below t,
-      items.Post,
-      mul-reads.Asked,
-      mul-reads.Learnt,
-      add-reads.Asked,
-      add-reads.Learnt,
-    )
+    close μ-chain μ-items μ-lower μ-node-value (λ t. chain-lts.spec (chain-claims t)
     (chain-at t)
     chain.Post
     (chain-read-node-requires t)
@@ -1509,20 +411,7 @@ pub +chain+items+lower+node-value-spec : {M : Type 1} → statement M
     (chain-mul-requires t)
     (chain-add-requires t)
     (chain-returns-3 t))
-    (λ t. items-lts.spec (
-      read-node-reads.Asked,
-      read-node-reads.Learnt,
-      lower-below t,
-      lower.Post,
-      mul-reads.Asked,
-      mul-reads.Learnt,
-      add-reads.Asked,
-      add-reads.Learnt,
-      index-reads.Asked,
-      index-reads.Learnt,
-      items-below t,
-      items.Post,
-    )
+    (λ t. items-lts.spec (items-claims t)
     (items-at t)
     items.Post
     (items-read-node-requires t)
@@ -1537,42 +426,14 @@ pub +chain+items+lower+node-value-spec : {M : Type 1} → statement M
     (items-mul-requires-3 t)
     (items-add-requires-2 t)
     (items-returns-3 t))
-    (λ t. lower-lts.spec (
-      index-reads.Asked,
-      index-reads.Learnt,
-      node-value-below t,
-      node-value.Post,
-    )
+    (λ t. lower-lts.spec (lower-claims t)
     (lower-at t)
     lower.Post
     (lower-index-requires t)
     (lower-node-value-requires t)
     (lower-returns t)
     (lower-returns-2 t))
-    λ t. node-value-lts.spec (
-      read-node-reads.Asked,
-      read-node-reads.Learnt,
-      word-reads.Asked,
-      word-reads.Learnt,
-      lagrange-reads.Asked,
-      lagrange-reads.Learnt,
-      query-reads.Asked,
-      query-reads.Learnt,
-      index-reads.Asked,
-      index-reads.Learnt,
-      word-at-reads.Asked,
-      word-at-reads.Learnt,
-      lower-below t,
-      lower.Post,
-      neg-reads.Asked,
-      neg-reads.Learnt,
-      add-reads.Asked,
-      add-reads.Learnt,
-      mul-reads.Asked,
-      mul-reads.Learnt,
-      chain-below t,
-      chain.Post,
-    )
+    λ t. node-value-lts.spec (node-value-claims t)
     (node-value-at t)
     node-value.Post
     (node-value-read-node-requires t)
