@@ -13,3 +13,4 @@ pub mod Reader
 pub mod Signed
 pub mod Leaves
 pub mod Sizes
+pub mod Queries

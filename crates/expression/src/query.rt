@@ -9,13 +9,13 @@ ghost use lib.Dec.{eqb, leb};
 ghost use lib.ListN.{length};
 ghost use Rattle.util.specs.Lists.{written};
 ghost use Rattle.expression.specs.Expr.{evaluate, spread, rest, usedQuery};
-ghost use Rattle.expression.specs.Nodes.{kept, exprOf, itemsOf, under, noExpr};
+ghost use Rattle.expression.specs.Nodes.{signed, kept, exprOf, itemsOf, under, noExpr};
 ghost use Rattle.expression.specs.Walks.{usedOps};
 ghost use Rattle.expression.specs.Queries.{queryOf, usedQueries, queriesInto};
 
 // The word that keeps a rotation.
 pub fn kept_word(rotation: Rotation) -> u64
-    ensures { λ r. ⌜ r ≡ kept (rotation .0) ⌝ }
+    ensures { λ r. ⌜ (r ≡ kept (rotation .0)) × (signed r ≡ rotation .0) ⌝ }
 {
     let n = rotation.0;
     ((n as i64) + 2147483648) as u64

@@ -1,4 +1,6 @@
-use Rattle.expression.proofs.Signed.{widens, sum-fits, sum-casts, kept-is}
+use mathlib.Core.Path.{ap, _∙_}
+use Rattle.expression.specs.Nodes.{signed}
+use Rattle.expression.proofs.Signed.{widens, sum-fits, sum-casts, kept-is, signed-kept}
 use Rattle.expression.proofs.query.kept_word.Statement.{statement}
 use Rattle.expression.proofs.query.kept_word.Tie as tie
 use Rattle.expression.proofs.query.kept_word.Reads as reads
@@ -18,7 +20,10 @@ cast-result-2 c = sum-casts (c .before .args .rotation .0) (record { sfits = c .
 
 -- src/query.rt:17:1
 returns : tie.Need-returns
-returns c = kept-is (c .before .args .rotation .0) (record { sfits = c .struct-told .given .0 .1 })
+returns c =
+    let z = c .before .args .rotation .0 in
+    let e = kept-is z (record { sfits = c .struct-told .given .0 .1 }) in
+    (e, ap signed e ∙ signed-kept z (record { sfits = c .struct-told .given .0 .1 }))
 
 pub kept-word-spec : {M : Type 1} → statement M
 kept-word-spec = tie.close (tie.spec cast-result add-result cast-result-2 returns)

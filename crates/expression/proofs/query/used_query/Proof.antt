@@ -1,3 +1,9 @@
+use mathlib.Core.Path.{ap, _∙_}
+use lib.IntN.{ℤ}
+use Rattle.expression.specs.Expr.{usedQuery}
+use Rattle.expression.specs.Nodes.{exprOf}
+use Rattle.expression.specs.Queries.{queryOf}
+use Rattle.expression.proofs.Folds.{used}
 use borrow.Author.Needs.{needs}
 use Rattle.expression.proofs.query.used_query.Statement.{statement}
 use Rattle.expression.proofs.query.used_query.Tie as tie
@@ -16,7 +22,11 @@ node-uses-requires c κs = search needs
 
 -- src/query.rt:25:1
 returns : tie.Need-returns
-returns c = ?
+returns c =
+    let a = c .before .before .before .args in
+    let e = exprOf (a .ws .now) (a .n) in
+    c .node-uses .ensures ∙ used (queryOf (a .polynomial) (c .before .kept-word .result)) e
+    ∙ ap (λ (z : ℤ). usedQuery e (record { polynomial = a .polynomial; rotation = z })) (c .before .kept-word .ensures .1)
 
 pub used-query-spec : {M : Type 1} → statement M
 used-query-spec = tie.close (tie.spec kept-word-requires node-uses-requires returns)

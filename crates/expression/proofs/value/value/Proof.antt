@@ -1,3 +1,9 @@
+use mathlib.Core.Path.{ap, _∙_}
+use Prim.Native.Nat.{ℕ}
+use Rattle.field.specs.Field.{𝔾}
+use Rattle.expression.specs.Nodes.{exprOf}
+use Rattle.expression.specs.Value.{valueAt}
+use Rattle.expression.specs.Point.{environmentOf, opsOf}
 use borrow.Author.Needs.{needs}
 use Rattle.expression.proofs.value.value.Statement.{statement}
 use Rattle.expression.proofs.value.value.Tie as tie
@@ -16,7 +22,19 @@ node-value-requires c κs = search needs
 
 -- src/value.rt:29:1
 returns : tie.Need-returns
-returns c = ?
+unfolding opsOf valueAt
+returns c =
+    let a = c .before .before .before .before .before .before .before .before .args in
+    let p = a .point in
+    c .node-value .ensures
+    ∙ ap
+    (λ (w : ℕ).
+    valueAt 𝔾
+    (environmentOf (a .circuit .now) (a .witness .now) (a .columns .now) (a .challenges .now) (a .layout)
+    (record { k = p .k; row = p .row; place = p .place; eq = w }))
+    (exprOf (a .nodes .now) (a .n))
+    (p .row))
+    (c .before .before .index .ensures)
 
 pub value-spec : {M : Type 1} → statement M
 value-spec = tie.close (tie.spec index-requires node-value-requires returns)
