@@ -29,6 +29,7 @@ module _ {A B : Type 0} (o : Ops A) (q : Ops B) (h : A → B) (m : Hom o q h) wh
 
   mutual
     unfolding evaluate
+
     pub evaluate-hom : (e : Expr) → evaluate q e ≡ h (evaluate o e)
     evaluate-hom (Expr.constant v) = m .constants v
     evaluate-hom Expr.identity = m .identities

@@ -8,7 +8,6 @@ pub mod Step
 pub mod Ways
 pub mod Hom
 pub mod Folds
-pub mod Elements
 pub mod Reader
 pub mod Signed
 pub mod Leaves

@@ -115,19 +115,18 @@ module _ (p : Query → Bool) (f : ℕ → Query) where
         omega arith
 
     pub into-yes : (q w : ℕ) → f i ≡ queryOf q w → Into d (i + 1) (set (set out at q) (at + 1) w) (at + 2)
-    into-yes q w e =
-        (
-          ap₂ (λ (o : List ℕ) (a : ℕ). set (set o a q) (a + 1) w) (h .0) (h .1 ∙ sym (zero-add (length S)))
-              ∙ ap (λ (o : List ℕ). set o (0 + length S + 1) w) (over-snoc d 0 S q (omega (arith, fits)))
-              ∙ ap (λ (a : ℕ). set (over d 0 (S ++ (q ∷ []))) a w)
-              (let z : 0 + length S + 1 ≡ 0 + length (S ++ (q ∷ [])) = omega (arith, longer) in z)
-              ∙ over-snoc d 0 (S ++ (q ∷ [])) w (omega (arith, fits, longer))
-              ∙ ap (over d 0) (append-assoc S (q ∷ []) (w ∷ []) ∙ sym next),
-          (let z = ap length next in
+    into-yes q w e = (
+      ap₂ (λ (o : List ℕ) (a : ℕ). set (set o a q) (a + 1) w) (h .0) (h .1 ∙ sym (zero-add (length S)))
+          ∙ ap (λ (o : List ℕ). set o (0 + length S + 1) w) (over-snoc d 0 S q (omega (arith, fits)))
+          ∙ ap (λ (a : ℕ). set (over d 0 (S ++ (q ∷ []))) a w)
+          (let z : 0 + length S + 1 ≡ 0 + length (S ++ (q ∷ [])) = omega (arith, longer) in z)
+          ∙ over-snoc d 0 (S ++ (q ∷ [])) w (omega (arith, fits, longer))
+          ∙ ap (over d 0) (append-assoc S (q ∷ []) (w ∷ []) ∙ sym next),
+      (let z = ap length next in
           let y = length-append S (q ∷ w ∷ []) in
           let a = h .1 in
           omega arith),
-        )
+    )
       where
         S : List ℕ
         S = queryWords (those p (column f i))

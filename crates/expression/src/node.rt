@@ -1,6 +1,5 @@
 // Node words, and the signed numbers kept in them.
 use bh::Rotation;
-
 ghost use mathlib.Core.Path.{_≡_};
 ghost use Prim.Native.Nat.{ℕ, _+_, _*_, _^_, _≤_, _<_, _%_};
 ghost use lib.ListN.{length, getD};
@@ -26,7 +25,12 @@ pub fn read_node(ws: &[u64], n: usize) -> Node
     let first = ws[at + 1];
     let second = ws[at + 2];
     let value = ws[at + 3];
-    Node { kind, first, second, value }
+    Node {
+        kind,
+        first,
+        second,
+        value,
+    }
 }
 
 // Word i, 0 where there is none.

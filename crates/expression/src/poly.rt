@@ -1,6 +1,6 @@
 // The value of a polynomial at a row, from the three places where polynomials stand.
-use super::node::{word_at, index};
-
+use super::node::index;
+use super::node::word_at;
 ghost use mathlib.Core.Path.{_≡_};
 ghost use Prim.Native.Nat.{_+_, _*_, _≤_, _<_};
 ghost use lib.ListN.{getD};
@@ -30,7 +30,14 @@ pub fn cell(ws: &[u64], start: usize, i: usize, rows: usize, row: usize) -> u64
 }
 
 // Polynomial q at a row, 0 where there is none.
-pub fn poly_at(circuit: &[u64], witness: &[u64], columns: &[u64], layout: Layout, q: u64, row: usize) -> u64
+pub fn poly_at(
+    circuit: &[u64],
+    witness: &[u64],
+    columns: &[u64],
+    layout: Layout,
+    q: u64,
+    row: usize,
+) -> u64
     requires { ⌜ Small layout × (row < 1048576) ⌝ }
     ensures { λ r. ⌜ el r ≡ polyOf 𝔾 (polysOf layout (now (circuit .entry)) (now (witness .entry)) (now (columns .entry))) q row ⌝ }
 {
@@ -60,7 +67,13 @@ pub fn poly_at(circuit: &[u64], witness: &[u64], columns: &[u64], layout: Layout
     }
     let at4 = at3 - permutations;
     if at4 < rest {
-        return cell(columns, 0, instances + permutations + skipped + at4, rows, row);
+        return cell(
+            columns,
+            0,
+            instances + permutations + skipped + at4,
+            rows,
+            row,
+        );
     }
     0
 }

@@ -1,7 +1,7 @@
 // The queries of an expression (Rust `used_query`), from its node words.
-use super::node::{read_node, index};
+use super::node::index;
+use super::node::read_node;
 use bh::Rotation;
-
 ghost use mathlib.Core.Path.{_≡_};
 ghost use mathlib.Core.Bool.{cond, _&&_, _||_};
 ghost use Prim.Native.Nat.{_+_, _-_, _*_, _≤_, _<_};
@@ -102,7 +102,15 @@ fn chain_uses(ws: &[u64], n: usize, polynomial: u64, word: u64, base: bool) -> b
     either(x, either(base, false))
 }
 
-fn items_uses(ws: &[u64], n: usize, polynomial: u64, word: u64, base: bool, power: bool, acc: bool) -> bool
+fn items_uses(
+    ws: &[u64],
+    n: usize,
+    polynomial: u64,
+    word: u64,
+    base: bool,
+    power: bool,
+    acc: bool,
+) -> bool
     requires { ⌜ n * 4 + 4 ≤ length (now ws) ⌝ }
     ensures { λ r. ⌜ r ≡ rest (usedOps (queryOf polynomial word)) base power acc (itemsOf (now (ws .entry)) n) ⌝ }
 {

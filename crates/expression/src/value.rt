@@ -1,9 +1,14 @@
 // The value of an expression at a row (Rust `evaluate`), from its node words.
-use super::node::{read_node, word_at, index, rotation_of};
-use super::words::{add, mul, neg};
-use super::poly::{Layout, poly_at};
+use super::node::index;
+use super::node::read_node;
+use super::node::rotation_of;
+use super::node::word_at;
+use super::poly::Layout;
+use super::poly::poly_at;
+use super::words::add;
+use super::words::mul;
+use super::words::neg;
 use bh::rotate;
-
 ghost use mathlib.Core.Path.{_≡_};
 ghost use mathlib.Core.Bool.{cond};
 ghost use Prim.Native.Nat.{_+_, _*_, _^_, _≤_, _<_};
@@ -26,7 +31,16 @@ pub struct Point {
 }
 
 // The value of node n at a point.
-pub fn value(nodes: &[u64], circuit: &[u64], witness: &[u64], columns: &[u64], challenges: &[u64], layout: Layout, point: Point, n: usize) -> u64
+pub fn value(
+    nodes: &[u64],
+    circuit: &[u64],
+    witness: &[u64],
+    columns: &[u64],
+    challenges: &[u64],
+    layout: Layout,
+    point: Point,
+    n: usize,
+) -> u64
     requires { ⌜ (n * 4 + 4 ≤ length (now nodes)) × (Small layout × Placed point) ⌝ }
     ensures { λ r. ⌜ el r ≡ valueAt 𝔾 (environmentOf (now (circuit .entry)) (now (witness .entry)) (now (columns .entry)) (now (challenges .entry)) layout point) (exprOf (now (nodes .entry)) n) (point .row) ⌝ }
 {
@@ -76,7 +90,16 @@ fn layout_of(c: &[usize; 12]) -> Layout
     let permutations = c[9];
     let skipped = c[10];
     let rest = c[11];
-    Layout { rows, instances, preprocess, start, witness, permutations, skipped, rest }
+    Layout {
+        rows,
+        instances,
+        preprocess,
+        start,
+        witness,
+        permutations,
+        skipped,
+        rest,
+    }
 }
 
 // The row that the rotation kept in a word leads to.
@@ -90,14 +113,36 @@ fn turned(c: &[usize; 12], rotation: u64) -> usize
 }
 
 // A query at a point: a polynomial at the row that its rotation leads to.
-fn query(circuit: &[u64], witness: &[u64], columns: &[u64], c: &[usize; 12], polynomial: u64, rotation: u64) -> u64
+fn query(
+    circuit: &[u64],
+    witness: &[u64],
+    columns: &[u64],
+    c: &[usize; 12],
+    polynomial: u64,
+    rotation: u64,
+) -> u64
     requires { ⌜ Ready (now c) ⌝ }
     ensures { λ r. ⌜ el r ≡ polyValue (now (circuit .entry)) (now (witness .entry)) (now (columns .entry)) (now (c .entry)) polynomial (signed rotation) ⌝ }
 {
-    poly_at(circuit, witness, columns, layout_of(c), polynomial, turned(c, rotation))
+    poly_at(
+        circuit,
+        witness,
+        columns,
+        layout_of(c),
+        polynomial,
+        turned(c, rotation),
+    )
 }
 
-fn node_value(nodes: &[u64], circuit: &[u64], witness: &[u64], columns: &[u64], challenges: &[u64], c: &[usize; 12], n: usize) -> u64
+fn node_value(
+    nodes: &[u64],
+    circuit: &[u64],
+    witness: &[u64],
+    columns: &[u64],
+    challenges: &[u64],
+    c: &[usize; 12],
+    n: usize,
+) -> u64
     requires { ⌜ (n * 4 + 4 ≤ length (now nodes)) × Ready (now c) ⌝ }
     ensures { λ r. ⌜ el r ≡ evaluate (opsOf (now (circuit .entry)) (now (witness .entry)) (now (columns .entry)) (now (challenges .entry)) (now (c .entry))) (exprOf (now (nodes .entry)) n) ⌝ }
 {
@@ -138,7 +183,16 @@ fn node_value(nodes: &[u64], circuit: &[u64], witness: &[u64], columns: &[u64], 
 }
 
 // The value of node a where it is below n, else 0.
-fn lower(nodes: &[u64], circuit: &[u64], witness: &[u64], columns: &[u64], challenges: &[u64], c: &[usize; 12], n: usize, a: u64) -> u64
+fn lower(
+    nodes: &[u64],
+    circuit: &[u64],
+    witness: &[u64],
+    columns: &[u64],
+    challenges: &[u64],
+    c: &[usize; 12],
+    n: usize,
+    a: u64,
+) -> u64
     requires { ⌜ (n * 4 + 4 ≤ length (now nodes)) × Ready (now c) ⌝ }
     ensures { λ r. ⌜ el r ≡ evaluate (opsOf (now (circuit .entry)) (now (witness .entry)) (now (columns .entry)) (now (challenges .entry)) (now (c .entry))) (under n noExpr (exprOf (now (nodes .entry))) a) ⌝ }
 {
@@ -150,7 +204,16 @@ fn lower(nodes: &[u64], circuit: &[u64], witness: &[u64], columns: &[u64], chall
 }
 
 // The sum of the chain that begins at Item n, by powers of base.
-fn chain(nodes: &[u64], circuit: &[u64], witness: &[u64], columns: &[u64], challenges: &[u64], c: &[usize; 12], n: usize, base: u64) -> u64
+fn chain(
+    nodes: &[u64],
+    circuit: &[u64],
+    witness: &[u64],
+    columns: &[u64],
+    challenges: &[u64],
+    c: &[usize; 12],
+    n: usize,
+    base: u64,
+) -> u64
     requires { ⌜ (n * 4 + 4 ≤ length (now nodes)) × Ready (now c) ⌝ }
     ensures { λ r. ⌜ el r ≡ spread (opsOf (now (circuit .entry)) (now (witness .entry)) (now (columns .entry)) (now (challenges .entry)) (now (c .entry))) (el base) (itemsOf (now (nodes .entry)) n) ⌝ }
 {
@@ -161,13 +224,35 @@ fn chain(nodes: &[u64], circuit: &[u64], witness: &[u64], columns: &[u64], chall
     }
     let item = index(d.second);
     if item < n {
-        return items(nodes, circuit, witness, columns, challenges, c, item, base, base, x);
+        return items(
+            nodes,
+            circuit,
+            witness,
+            columns,
+            challenges,
+            c,
+            item,
+            base,
+            base,
+            x,
+        );
     }
     add(x, mul(base, 0))
 }
 
 // The rest of a chain, from Item n on.
-fn items(nodes: &[u64], circuit: &[u64], witness: &[u64], columns: &[u64], challenges: &[u64], c: &[usize; 12], n: usize, base: u64, power: u64, acc: u64) -> u64
+fn items(
+    nodes: &[u64],
+    circuit: &[u64],
+    witness: &[u64],
+    columns: &[u64],
+    challenges: &[u64],
+    c: &[usize; 12],
+    n: usize,
+    base: u64,
+    power: u64,
+    acc: u64,
+) -> u64
     requires { ⌜ (n * 4 + 4 ≤ length (now nodes)) × Ready (now c) ⌝ }
     ensures { λ r. ⌜ el r ≡ rest (opsOf (now (circuit .entry)) (now (witness .entry)) (now (columns .entry)) (now (challenges .entry)) (now (c .entry))) (el base) (el power) (el acc) (itemsOf (now (nodes .entry)) n) ⌝ }
 {
@@ -180,7 +265,18 @@ fn items(nodes: &[u64], circuit: &[u64], witness: &[u64], columns: &[u64], chall
     let p = mul(power, base);
     let item = index(d.second);
     if item < n {
-        return items(nodes, circuit, witness, columns, challenges, c, item, base, p, s);
+        return items(
+            nodes,
+            circuit,
+            witness,
+            columns,
+            challenges,
+            c,
+            item,
+            base,
+            p,
+            s,
+        );
     }
     add(s, mul(p, 0))
 }

@@ -1,15 +1,14 @@
 // Sums, products and negatives of any words, as field elements.
-use field::{add_u64, mul_u64, sub_u64};
-
+use field::add_u64;
+use field::mul_u64;
+use field::neg_u64;
 ghost use mathlib.Core.Path.{_≡_};
 ghost use Rattle.field.specs.Field.{𝔾, el};
-
-const MODULUS: u64 = 18446744069414584321;
 
 pub fn add(a: u64, b: u64) -> u64
     ensures { λ r. ⌜ el r ≡ 𝔾 .add (el a) (el b) ⌝ }
 {
-    add_u64(a % MODULUS, b % MODULUS)
+    add_u64(a, b)
 }
 
 pub fn mul(a: u64, b: u64) -> u64
@@ -21,5 +20,5 @@ pub fn mul(a: u64, b: u64) -> u64
 pub fn neg(a: u64) -> u64
     ensures { λ r. ⌜ el r ≡ 𝔾 .neg (el a) ⌝ }
 {
-    sub_u64(0, a % MODULUS)
+    neg_u64(a)
 }

@@ -157,11 +157,10 @@ returns-2 c =
     let e = exprOf (a .ws .now) (a .n) in
     let q = c .before .before .before .count-queries in
     let z : l .i ≡ a .polys * (a .k + a .k + 1) = omega arith in
-    let h : length (usedQueries e (a .polys) (a .k)) ≤ length (a .out .now) / 2 = omega (arith, q .ensures, c .before .before .if1 .left) in
-    (
+    let h : length (usedQueries e (a .polys) (a .k)) ≤ length (a .out .now) / 2 = omega (arith, q .ensures, c .before .before .if1 .left) in (
       q .ensures,
       into-all (usedQueries e (a .polys) (a .k)) (a .out .now) (l .out) h
-      (l .inv .2 .0 ∙ ap (λ (m : ℕ). over (a .out .now) 0 (queryWords (those (usedQuery e) (column (candidate (a .k)) m)))) z),
+          (l .inv .2 .0 ∙ ap (λ (m : ℕ). over (a .out .now) 0 (queryWords (those (usedQuery e) (column (candidate (a .k)) m)))) z),
     )
 
 pub used-queries-spec : {M : Type 1} → statement M

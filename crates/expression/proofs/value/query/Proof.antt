@@ -24,11 +24,10 @@ turned-requires c κs = search needs
 
 -- src/value.rt:97:5
 poly-at-requires : tie.Need-poly-at-requires
-poly-at-requires c κs =
-    (
-      subst⁻¹ Small (c .before .layout-of .ensures) (c .before .before .before .before .before .pre .layout),
-      c .turned .ensures .1,
-    )
+poly-at-requires c κs = (
+  subst⁻¹ Small (c .before .layout-of .ensures) (c .before .before .before .before .before .pre .layout),
+  c .turned .ensures .1,
+)
 
 -- src/value.rt:93:1
 returns : tie.Need-returns
