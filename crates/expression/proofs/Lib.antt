@@ -13,3 +13,5 @@ pub mod Signed
 pub mod Leaves
 pub mod Sizes
 pub mod Queries
+pub mod Written
+pub mod Copied

@@ -1,0 +1,224 @@
+-- The tree at a node, by the node's kind, as the copy takes it. Proved.
+use mathlib.Core.Path.{_≡_, refl, sym, ap, _∙_, subst}
+use mathlib.Core.Bool.{Bool, true, false, cond}
+use mathlib.Core.List.{List}
+use Prim.Native.Nat.{ℕ, suc, _+_, _-_, _*_, _≤_, _<_}
+use native.Mathlib.Omega.{arith}
+use lib.Dec.{eqb, ltb}
+use lib.IntN.{ℤ, pos, negsuc}
+use borrow.Author.Tests.{ltb-true, ltb-false, eqb-true, eqb-false}
+use Rattle.expression.specs.declared.node.Node.{Node}
+use Rattle.expression.specs.Expr.{Expr, Exprs}
+use Rattle.expression.specs.Nodes.{signed, kept, kindOf, nodeOf, under, noExpr, noExprs, exprOf, itemsOf}
+use Rattle.expression.specs.Read.{nodeAt}
+use Rattle.expression.specs.Flat.{body, sizes, extra, size}
+use Rattle.expression.specs.Written.{Pushed, Written, WrittenOne, WrittenPair, WrittenBase, WrittenList}
+use Rattle.expression.proofs.Step.{under-yes, under-no, by-kind, low, lowItems, node-read, of-kind, items-last, items-more}
+use Rattle.expression.proofs.Written.{
+  written-constant,
+  written-identity,
+  written-lagrange,
+  written-eq-xy,
+  written-poly,
+  written-challenge,
+  one-negated,
+  one-scaled,
+  pair-sum,
+  pair-product,
+  list-last,
+  list-more,
+}
+
+-- the number that any word keeps is kept as that word
+pub kept-signed : (w : ℕ) → kept (signed w) ≡ w
+kept-signed w = by (ltb w 2147483648) refl
+  where
+    by : (t : Bool) → ltb w 2147483648 ≡ t → kept (cond t (negsuc (2147483648 - suc w)) (pos (w - 2147483648))) ≡ w
+    by true h = omega (arith, ltb-true w 2147483648 h)
+    by false h = omega (arith, ltb-false w 2147483648 h)
+
+-- what is written for the tree that a node is
+read-as : (e f : Expr) (at next : ℕ) (d d1 : List ℕ) → e ≡ f → Written f at d d1 next → Written e at d d1 next
+read-as e f at next d d1 h w = subst (λ (x : Expr). Written x at d d1 next) (sym h) w
+
+module _ (ws : List ℕ) (n : ℕ) (d : Node) (read : d ≡ nodeAt ws n) {at next : ℕ} {b a : List ℕ} where
+  -- ---- leaves
+  pub constant-copied : d .kind ≡ 1 → Pushed at 1 0 0 (d .value) b a next → Written (exprOf ws n) at b a next
+  unfolding kindOf nodeOf
+  constant-copied k p = read-as (exprOf ws n) (Expr.constant (d .value)) at next b a (of-kind ws n d read 1 k) (written-constant p)
+
+  pub identity-copied : d .kind ≡ 2 → Pushed at 2 0 0 0 b a next → Written (exprOf ws n) at b a next
+  unfolding kindOf nodeOf
+  identity-copied k p = read-as (exprOf ws n) Expr.identity at next b a (of-kind ws n d read 2 k) (written-identity p)
+
+  pub lagrange-copied : d .kind ≡ 3 → Pushed at 3 0 0 (d .value) b a next → Written (exprOf ws n) at b a next
+  unfolding kindOf nodeOf
+  lagrange-copied k p =
+      read-as (exprOf ws n) (Expr.lagrange (signed (d .value))) at next b a (of-kind ws n d read 3 k)
+      (written-lagrange (subst (λ (v : ℕ). Pushed at 3 0 0 v b a next) (sym (kept-signed (d .value))) p))
+
+  pub eq-xy-copied : d .kind ≡ 4 → Pushed at 4 0 0 (d .value) b a next → Written (exprOf ws n) at b a next
+  unfolding kindOf nodeOf
+  eq-xy-copied k p = read-as (exprOf ws n) (Expr.eqXY (d .value)) at next b a (of-kind ws n d read 4 k) (written-eq-xy p)
+
+  pub poly-copied : d .kind ≡ 5 → Pushed at 5 (d .first) 0 (d .value) b a next → Written (exprOf ws n) at b a next
+  unfolding kindOf nodeOf
+  poly-copied k p =
+      read-as (exprOf ws n) (Expr.poly (d .first) (signed (d .value))) at next b a (of-kind ws n d read 5 k)
+      (written-poly (subst (λ (v : ℕ). Pushed at 5 (d .first) 0 v b a next) (sym (kept-signed (d .value))) p))
+
+  pub challenge-copied : d .kind ≡ 6 → Pushed at 6 (d .first) 0 0 b a next → Written (exprOf ws n) at b a next
+  unfolding kindOf nodeOf
+  challenge-copied k p = read-as (exprOf ws n) (Expr.challenge (d .first)) at next b a (of-kind ws n d read 6 k) (written-challenge p)
+
+  -- no kind, or an Item's: Constant 0
+  pub other-copied : (d .kind ≡ 1 → ⊥) → (d .kind ≡ 2 → ⊥) → (d .kind ≡ 3 → ⊥) → (d .kind ≡ 4 → ⊥) → (d .kind ≡ 5 → ⊥)
+      → (d .kind ≡ 6 → ⊥)
+      → (d .kind ≡ 7 → ⊥)
+      → (d .kind ≡ 8 → ⊥)
+      → (d .kind ≡ 9 → ⊥)
+      → (d .kind ≡ 10 → ⊥)
+      → (d .kind ≡ 11 → ⊥)
+      → Pushed at 1 0 0 0 b a next
+      → Written (exprOf ws n) at b a next
+  other-copied h1 h2 h3 h4 h5 h6 h7 h8 h9 h10 h11 p =
+      read-as (exprOf ws n) noExpr at next b a
+      (node-read ws n d read
+      ∙ by-kind (λ (e : Expr). e ≡ noExpr) (low ws n) (lowItems ws n) (d .first) (d .second) (d .value) (d .kind) (λ z. absurd (h1 z))
+      (λ z. absurd (h2 z))
+      (λ z. absurd (h3 z))
+      (λ z. absurd (h4 z))
+      (λ z. absurd (h5 z))
+      (λ z. absurd (h6 z))
+      (λ z. absurd (h7 z))
+      (λ z. absurd (h8 z))
+      (λ z. absurd (h9 z))
+      (λ z. absurd (h10 z))
+      (λ z. absurd (h11 z))
+      refl)
+      (written-constant p)
+
+  -- ---- parts
+  pub negated-copied : d .kind ≡ 7 → WrittenOne 7 (low ws n (d .first)) 0 at b a next → Written (exprOf ws n) at b a next
+  unfolding kindOf nodeOf
+  negated-copied k w =
+      read-as (exprOf ws n) (Expr.negated (low ws n (d .first))) at next b a (of-kind ws n d read 7 k) (one-negated w)
+
+  pub sum-copied : d .kind ≡ 8 → WrittenPair 8 (low ws n (d .first)) (low ws n (d .second)) at b a next
+      → Written (exprOf ws n) at b a next
+  unfolding kindOf nodeOf
+  sum-copied k w =
+      read-as (exprOf ws n) (Expr.sum (low ws n (d .first)) (low ws n (d .second))) at next b a (of-kind ws n d read 8 k) (pair-sum w)
+
+  pub product-copied : d .kind ≡ 9 → WrittenPair 9 (low ws n (d .first)) (low ws n (d .second)) at b a next
+      → Written (exprOf ws n) at b a next
+  unfolding kindOf nodeOf
+  product-copied k w =
+      read-as (exprOf ws n) (Expr.product (low ws n (d .first)) (low ws n (d .second))) at next b a (of-kind ws n d read 9 k)
+      (pair-product w)
+
+  pub scaled-copied : d .kind ≡ 10 → WrittenOne 10 (low ws n (d .first)) (d .value) at b a next
+      → Written (exprOf ws n) at b a next
+  unfolding kindOf nodeOf
+  scaled-copied k w =
+      read-as (exprOf ws n) (Expr.scaled (low ws n (d .first)) (d .value)) at next b a (of-kind ws n d read 10 k) (one-scaled w)
+
+  pub powers-copied : d .kind ≡ 11 → Written (Expr.powers (lowItems ws n (d .second)) (low ws n (d .first))) at b a next
+      → Written (exprOf ws n) at b a next
+  unfolding kindOf nodeOf
+  powers-copied k w =
+      read-as (exprOf ws n) (Expr.powers (lowItems ws n (d .second)) (low ws n (d .first))) at next b a (of-kind ws n d read 11 k) w
+
+-- ---- the nodes that it takes
+module _ (ws : List ℕ) (n : ℕ) (d : Node) (read : d ≡ nodeAt ws n) where
+  pub negated-size : d .kind ≡ 7 → size (exprOf ws n) ≡ size (low ws n (d .first)) + 1
+  unfolding kindOf nodeOf body
+  negated-size k = let e = ap size (of-kind ws n d read 7 k) in omega arith
+
+  pub sum-size : d .kind ≡ 8 → size (exprOf ws n) ≡ size (low ws n (d .first)) + size (low ws n (d .second)) + 1
+  unfolding kindOf nodeOf body
+  sum-size k = let e = ap size (of-kind ws n d read 8 k) in omega arith
+
+  pub product-size : d .kind ≡ 9 → size (exprOf ws n) ≡ size (low ws n (d .first)) + size (low ws n (d .second)) + 1
+  unfolding kindOf nodeOf body
+  product-size k = let e = ap size (of-kind ws n d read 9 k) in omega arith
+
+  pub scaled-size : d .kind ≡ 10 → size (exprOf ws n) ≡ size (low ws n (d .first)) + 1
+  unfolding kindOf nodeOf body
+  scaled-size k = let e = ap size (of-kind ws n d read 10 k) in omega arith
+
+  pub powers-size : d .kind ≡ 11
+      → size (exprOf ws n)
+      ≡ sizes (lowItems ws n (d .second)) + size (low ws n (d .first)) + extra (lowItems ws n (d .second)) + 2
+  unfolding kindOf nodeOf body
+  powers-size k = let e = ap size (of-kind ws n d read 11 k) in omega arith
+
+-- ---- a lower node, by its number c
+module _ (ws : List ℕ) (n a c : ℕ) (same : c ≡ a) where
+  low-is : c < n → low ws n a ≡ exprOf ws c
+  low-is h = ap (low ws n) (sym same) ∙ under-yes n noExpr (exprOf ws) c h
+
+  pub low-size : c < n → size (low ws n a) ≡ size (exprOf ws c)
+  low-size h = ap size (low-is h)
+
+  pub low-copied : {at next : ℕ} {d d1 : List ℕ} → c < n → Written (exprOf ws c) at d d1 next → Written (low ws n a) at d d1 next
+  low-copied {at} {next} {d} {d1} h w = read-as (low ws n a) (exprOf ws c) at next d d1 (low-is h) w
+
+  pub none-copied : {at next : ℕ} {d d1 : List ℕ} → n ≤ c → Pushed at 1 0 0 0 d d1 next → Written (low ws n a) at d d1 next
+  none-copied {at} {next} {d} {d1} h p =
+      read-as (low ws n a) noExpr at next d d1 (ap (low ws n) (sym same) ∙ under-no n noExpr (exprOf ws) c h) (written-constant p)
+
+-- ---- the list at an Item, by its number i
+module _ (ws : List ℕ) (bound item i : ℕ) (same : i ≡ item) where
+  no-items : bound ≤ i → lowItems ws bound item ≡ noExprs
+  no-items h = ap (lowItems ws bound) (sym same) ∙ under-no bound noExprs (itemsOf ws) i h
+
+  pub none-size : bound ≤ i → (sizes (lowItems ws bound item) ≡ 1) × (extra (lowItems ws bound item) ≡ 0)
+  unfolding body
+  none-size h = (ap sizes (no-items h), ap extra (no-items h))
+
+  pub list-none-copied : {b : Expr} {at x next base : ℕ} {d d1 d2 : List ℕ} → bound ≤ i → Pushed at 1 0 0 0 d d1 x
+      → WrittenBase b x d1 d2 next base
+      → WrittenList (lowItems ws bound item) b at d d2 next base
+  list-none-copied {b} {at} {x} {next} {base} {d} {d1} {d2} h p w =
+      subst (λ (es : Exprs). WrittenList es b at d d2 next base) (sym (no-items h)) (list-last (written-constant p) w)
+
+  module _ (d : Node) (read : d ≡ nodeAt ws i) (h : i < bound) where
+    here : lowItems ws bound item ≡ itemsOf ws i
+    here = ap (lowItems ws bound) (sym same) ∙ under-yes bound noExprs (itemsOf ws) i h
+
+    pub last-size : d .value ≡ 0 → (sizes (lowItems ws bound item) ≡ size (low ws i (d .first))) × (extra (lowItems ws bound item) ≡ 0)
+    unfolding body
+    last-size z =
+        let e = here ∙ items-last ws i d read z in
+        (ap sizes e, ap extra e)
+
+    pub more-size : (d .value ≡ 0 → ⊥)
+        → (sizes (lowItems ws bound item) ≡ size (low ws i (d .first)) + sizes (lowItems ws i (d .second)))
+        × (extra (lowItems ws bound item) ≡ extra (lowItems ws i (d .second)) + 1)
+    unfolding body
+    more-size z =
+        let e = here ∙ items-more ws i d read z in
+        (ap sizes e, ap extra e ∙ omega arith)
+
+    pub first-size : size (low ws i (d .first)) ≤ sizes (lowItems ws bound item)
+    first-size = by (eqb (d .value) 0) refl
+      where
+        by : (t : Bool) → eqb (d .value) 0 ≡ t → size (low ws i (d .first)) ≤ sizes (lowItems ws bound item)
+        by true z = omega (arith, last-size (eqb-true (d .value) 0 z) .0)
+        by false z = omega (arith, more-size (eqb-false (d .value) 0 z) .0)
+
+    pub list-last-copied : {b : Expr} {at x next base : ℕ} {u v w : List ℕ} → d .value ≡ 0
+        → Written (low ws i (d .first)) at u v x
+        → WrittenBase b x v w next base
+        → WrittenList (lowItems ws bound item) b at u w next base
+    list-last-copied {b} {at} {x} {next} {base} {u} {v} {w} z p q =
+        subst (λ (es : Exprs). WrittenList es b at u w next base) (sym (here ∙ items-last ws i d read z)) (list-last p q)
+
+    pub list-more-copied : {b : Expr} {at x y next base : ℕ} {s u v w : List ℕ} → (d .value ≡ 0 → ⊥)
+        → Written (low ws i (d .first)) at s u x
+        → WrittenList (lowItems ws i (d .second)) b x u v y base
+        → Pushed y 12 (x - 1) (y - 1) 1 v w next
+        → WrittenList (lowItems ws bound item) b at s w next base
+    list-more-copied {b} {at} {x} {y} {next} {base} {s} {u} {v} {w} z p q r =
+        subst (λ (es : Exprs). WrittenList es b at s w next base) (sym (here ∙ items-more ws i d read z)) (list-more p q r)
