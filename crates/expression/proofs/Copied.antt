@@ -15,6 +15,7 @@ use Rattle.expression.specs.Flat.{body, sizes, extra, size}
 use Rattle.expression.specs.Written.{Pushed, Written, WrittenOne, WrittenPair, WrittenBase, WrittenList}
 use Rattle.expression.proofs.Step.{under-yes, under-no, by-kind, low, lowItems, node-read, of-kind, items-last, items-more}
 use Rattle.expression.proofs.Written.{
+  written-as,
   written-constant,
   written-identity,
   written-lagrange,
@@ -37,39 +38,35 @@ kept-signed w = by (ltb w 2147483648) refl
     by true h = omega (arith, ltb-true w 2147483648 h)
     by false h = omega (arith, ltb-false w 2147483648 h)
 
--- what is written for the tree that a node is
-read-as : (e f : Expr) (at next : ℕ) (d d1 : List ℕ) → e ≡ f → Written f at d d1 next → Written e at d d1 next
-read-as e f at next d d1 h w = subst (λ (x : Expr). Written x at d d1 next) (sym h) w
-
 module _ (ws : List ℕ) (n : ℕ) (d : Node) (read : d ≡ nodeAt ws n) {at next : ℕ} {b a : List ℕ} where
   -- ---- leaves
   pub constant-copied : d .kind ≡ 1 → Pushed at 1 0 0 (d .value) b a next → Written (exprOf ws n) at b a next
   unfolding kindOf nodeOf
-  constant-copied k p = read-as (exprOf ws n) (Expr.constant (d .value)) at next b a (of-kind ws n d read 1 k) (written-constant p)
+  constant-copied k p = written-as (of-kind ws n d read 1 k) (written-constant p)
 
   pub identity-copied : d .kind ≡ 2 → Pushed at 2 0 0 0 b a next → Written (exprOf ws n) at b a next
   unfolding kindOf nodeOf
-  identity-copied k p = read-as (exprOf ws n) Expr.identity at next b a (of-kind ws n d read 2 k) (written-identity p)
+  identity-copied k p = written-as (of-kind ws n d read 2 k) (written-identity p)
 
   pub lagrange-copied : d .kind ≡ 3 → Pushed at 3 0 0 (d .value) b a next → Written (exprOf ws n) at b a next
   unfolding kindOf nodeOf
   lagrange-copied k p =
-      read-as (exprOf ws n) (Expr.lagrange (signed (d .value))) at next b a (of-kind ws n d read 3 k)
+      written-as (of-kind ws n d read 3 k)
       (written-lagrange (subst (λ (v : ℕ). Pushed at 3 0 0 v b a next) (sym (kept-signed (d .value))) p))
 
   pub eq-xy-copied : d .kind ≡ 4 → Pushed at 4 0 0 (d .value) b a next → Written (exprOf ws n) at b a next
   unfolding kindOf nodeOf
-  eq-xy-copied k p = read-as (exprOf ws n) (Expr.eqXY (d .value)) at next b a (of-kind ws n d read 4 k) (written-eq-xy p)
+  eq-xy-copied k p = written-as (of-kind ws n d read 4 k) (written-eq-xy p)
 
   pub poly-copied : d .kind ≡ 5 → Pushed at 5 (d .first) 0 (d .value) b a next → Written (exprOf ws n) at b a next
   unfolding kindOf nodeOf
   poly-copied k p =
-      read-as (exprOf ws n) (Expr.poly (d .first) (signed (d .value))) at next b a (of-kind ws n d read 5 k)
+      written-as (of-kind ws n d read 5 k)
       (written-poly (subst (λ (v : ℕ). Pushed at 5 (d .first) 0 v b a next) (sym (kept-signed (d .value))) p))
 
   pub challenge-copied : d .kind ≡ 6 → Pushed at 6 (d .first) 0 0 b a next → Written (exprOf ws n) at b a next
   unfolding kindOf nodeOf
-  challenge-copied k p = read-as (exprOf ws n) (Expr.challenge (d .first)) at next b a (of-kind ws n d read 6 k) (written-challenge p)
+  challenge-copied k p = written-as (of-kind ws n d read 6 k) (written-challenge p)
 
   -- no kind, or an Item's: Constant 0
   pub other-copied : (d .kind ≡ 1 → ⊥) → (d .kind ≡ 2 → ⊥) → (d .kind ≡ 3 → ⊥) → (d .kind ≡ 4 → ⊥) → (d .kind ≡ 5 → ⊥)
@@ -82,7 +79,7 @@ module _ (ws : List ℕ) (n : ℕ) (d : Node) (read : d ≡ nodeAt ws n) {at nex
       → Pushed at 1 0 0 0 b a next
       → Written (exprOf ws n) at b a next
   other-copied h1 h2 h3 h4 h5 h6 h7 h8 h9 h10 h11 p =
-      read-as (exprOf ws n) noExpr at next b a
+      written-as
       (node-read ws n d read
       ∙ by-kind (λ (e : Expr). e ≡ noExpr) (low ws n) (lowItems ws n) (d .first) (d .second) (d .value) (d .kind) (λ z. absurd (h1 z))
       (λ z. absurd (h2 z))
@@ -102,32 +99,32 @@ module _ (ws : List ℕ) (n : ℕ) (d : Node) (read : d ≡ nodeAt ws n) {at nex
   pub negated-copied : d .kind ≡ 7 → WrittenOne 7 (low ws n (d .first)) 0 at b a next → Written (exprOf ws n) at b a next
   unfolding kindOf nodeOf
   negated-copied k w =
-      read-as (exprOf ws n) (Expr.negated (low ws n (d .first))) at next b a (of-kind ws n d read 7 k) (one-negated w)
+      written-as (of-kind ws n d read 7 k) (one-negated w)
 
   pub sum-copied : d .kind ≡ 8 → WrittenPair 8 (low ws n (d .first)) (low ws n (d .second)) at b a next
       → Written (exprOf ws n) at b a next
   unfolding kindOf nodeOf
   sum-copied k w =
-      read-as (exprOf ws n) (Expr.sum (low ws n (d .first)) (low ws n (d .second))) at next b a (of-kind ws n d read 8 k) (pair-sum w)
+      written-as (of-kind ws n d read 8 k) (pair-sum w)
 
   pub product-copied : d .kind ≡ 9 → WrittenPair 9 (low ws n (d .first)) (low ws n (d .second)) at b a next
       → Written (exprOf ws n) at b a next
   unfolding kindOf nodeOf
   product-copied k w =
-      read-as (exprOf ws n) (Expr.product (low ws n (d .first)) (low ws n (d .second))) at next b a (of-kind ws n d read 9 k)
+      written-as (of-kind ws n d read 9 k)
       (pair-product w)
 
   pub scaled-copied : d .kind ≡ 10 → WrittenOne 10 (low ws n (d .first)) (d .value) at b a next
       → Written (exprOf ws n) at b a next
   unfolding kindOf nodeOf
   scaled-copied k w =
-      read-as (exprOf ws n) (Expr.scaled (low ws n (d .first)) (d .value)) at next b a (of-kind ws n d read 10 k) (one-scaled w)
+      written-as (of-kind ws n d read 10 k) (one-scaled w)
 
   pub powers-copied : d .kind ≡ 11 → Written (Expr.powers (lowItems ws n (d .second)) (low ws n (d .first))) at b a next
       → Written (exprOf ws n) at b a next
   unfolding kindOf nodeOf
   powers-copied k w =
-      read-as (exprOf ws n) (Expr.powers (lowItems ws n (d .second)) (low ws n (d .first))) at next b a (of-kind ws n d read 11 k) w
+      written-as (of-kind ws n d read 11 k) w
 
 -- ---- the nodes that it takes
 module _ (ws : List ℕ) (n : ℕ) (d : Node) (read : d ≡ nodeAt ws n) where
@@ -162,11 +159,11 @@ module _ (ws : List ℕ) (n a c : ℕ) (same : c ≡ a) where
   low-size h = ap size (low-is h)
 
   pub low-copied : {at next : ℕ} {d d1 : List ℕ} → c < n → Written (exprOf ws c) at d d1 next → Written (low ws n a) at d d1 next
-  low-copied {at} {next} {d} {d1} h w = read-as (low ws n a) (exprOf ws c) at next d d1 (low-is h) w
+  low-copied {at} {next} {d} {d1} h w = written-as (low-is h) w
 
   pub none-copied : {at next : ℕ} {d d1 : List ℕ} → n ≤ c → Pushed at 1 0 0 0 d d1 next → Written (low ws n a) at d d1 next
   none-copied {at} {next} {d} {d1} h p =
-      read-as (low ws n a) noExpr at next d d1 (ap (low ws n) (sym same) ∙ under-no n noExpr (exprOf ws) c h) (written-constant p)
+      written-as (ap (low ws n) (sym same) ∙ under-no n noExpr (exprOf ws) c h) (written-constant p)
 
 -- ---- the list at an Item, by its number i
 module _ (ws : List ℕ) (bound item i : ℕ) (same : i ≡ item) where

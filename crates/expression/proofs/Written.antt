@@ -12,7 +12,7 @@ use lib.ListN.{length, take, drop, set, length-append, length-take, drop-of-leng
 use lib.Seq.{take-all}
 use Rattle.util.specs.Lists.{over}
 use Rattle.util.proofs.Over.{length-over, over-over, over-sets}
-use Rattle.expression.specs.Expr.{Expr, Exprs}
+use Rattle.expression.specs.Expr.{Expr, Exprs, minus, at, exprsOf, distributePowers, productFrom}
 use Rattle.expression.specs.Nodes.{kept}
 use Rattle.expression.specs.Flat.{body, sizes, extra, size, root, words, flat, flats, chain}
 use Rattle.expression.specs.FlatFacts.{flat-length, flats-length, chain-length}
@@ -60,6 +60,15 @@ pushed d at k a b v h =
     let p2 : at * 4 + 2 ≡ suc (suc (at * 4)) = omega arith in
     let p3 : at * 4 + 3 ≡ suc (suc (suc (at * 4))) = omega arith in
     record { number = refl; buffer = rw (p1, p2, p3) (over-sets (words k a b v) d (at * 4) h) }
+
+-- the same tree
+pub written-as : {e f : Expr} {at next : ℕ} {d d1 : List ℕ} → e ≡ f → Written f at d d1 next → Written e at d d1 next
+written-as {e} {f} {at} {next} {d} {d1} h w = subst (λ (x : Expr). Written x at d d1 next) (sym h) w
+
+-- the buffer stays as long as it was
+pub written-length : {e : Expr} {at next : ℕ} {d d1 : List ℕ} → (at + size e) * 4 ≤ length d → Written e at d d1 next → length d1 ≡ length d
+written-length {e} {at} {next} {d} {d1} h w =
+    ap length (w .buffer) ∙ length-over d (at * 4) (flat e at) (omega (arith, flat-length e at))
 
 -- ---- leaves
 module _ {at next : ℕ} {d d1 : List ℕ} where
@@ -210,6 +219,12 @@ module _ {e b : Expr} {at x next base : ℕ} {d d1 d2 : List ℕ} where
             (w .buffer ∙ ap₂ (λ (j i : ℕ). over d1 (x * 4) (flat b j ++ words 12 i 0 0)) n r);
       }
 
+module _ {e b : Expr} {at x y next : ℕ} {d d1 d2 d3 : List ℕ} where
+  -- the last expression, the base, the last Item
+  pub list-end : Written e at d d1 x → Written b x d1 d2 y → Pushed y 12 (x - 1) 0 0 d2 d3 next
+      → WrittenList (Exprs.last e) b at d d3 next (y - 1)
+  list-end v w p = let n = v .number in list-last v (written-base (omega arith) w p)
+
 module _ {e b : Expr} {es : Exprs} {at x y next base : ℕ} {d d1 d2 d3 : List ℕ} where
   -- an expression before a list, and its Item behind the list's
   pub list-more : Written e at d d1 x → WrittenList es b x d1 d2 y base → Pushed y 12 (x - 1) (y - 1) 1 d2 d3 next
@@ -253,3 +268,48 @@ module _ {b : Expr} {es : Exprs} {at x next base : ℕ} {d d1 d2 : List ℕ} whe
       then (F ++ (B ++ C)) W at x d d1 d2 (omega (arith, list-length es b at)) (w .buffer)
       (p .buffer ∙ ap₂ (λ (u j : ℕ). over d1 (x * 4) (words 11 u j 0)) (w .root) q) in
       record { number = omega (arith, p .number); buffer = whole ∙ ap (over d (at * 4)) (simp append-assoc) }
+
+-- ---- the forms that Rust's operators and functions make
+module _ {n next : ℕ} {d d1 : List ℕ} where
+  -- a query with rotation 0
+  pub written-at : {q : ℕ} → Pushed n 5 q 0 2147483648 d d1 next → Written (at q) n d d1 next
+  written-at p = written-poly p
+
+module _ {a b : Expr} {at x y z next : ℕ} {d d1 d2 d3 d4 : List ℕ} where
+  pub written-minus : Written a at d d1 x → Written b x d1 d2 y → Pushed y 7 (y - 1) 0 0 d2 d3 z
+      → Pushed z 8 (x - 1) (z - 1) 0 d3 d4 next
+      → Written (minus a b) at d d4 next
+  written-minus v w p q = written-sum v (written-negated w p) q
+
+product-end : (e f : Expr) (fs : List Expr) → productFrom e (fs ++ (f ∷ [])) ≡ Expr.product (productFrom e fs) f
+unfolding productFrom
+product-end e f [] = refl
+product-end e f (g ∷ fs) = product-end (Expr.product e g) f fs
+
+module _ (e : Expr) (fs : List Expr) {f : Expr} {at x y next : ℕ} {d d1 d2 d3 : List ℕ} where
+  -- one factor more
+  pub written-factor : Written (productFrom e fs) at d d1 x → Written f x d1 d2 y → Pushed y 9 (x - 1) (y - 1) 0 d2 d3 next
+      → Written (productFrom e (fs ++ (f ∷ []))) at d d3 next
+  written-factor v w p = written-as (product-end e f fs) (written-product v w p)
+
+module _ {e : Expr} {at next : ℕ} {d d1 : List ℕ} where
+  pub list-one : {b : Expr} {base : ℕ} → WrittenList (Exprs.last e) b at d d1 next base → WrittenList (exprsOf e []) b at d d1 next base
+  unfolding exprsOf
+  list-one w = w
+
+  -- a list of one is its item
+  pub written-single : (b : Expr) → Written e at d d1 next → Written (distributePowers (e ∷ []) b) at d d1 next
+  unfolding distributePowers
+  written-single b w = w
+
+module _ (f : Expr) (es : List Expr) {e b : Expr} {at x y next base : ℕ} {d d1 d2 d3 : List ℕ} where
+  pub list-cons : Written e at d d1 x → WrittenList (exprsOf f es) b x d1 d2 y base → Pushed y 12 (x - 1) (y - 1) 1 d2 d3 next
+      → WrittenList (exprsOf e (f ∷ es)) b at d d3 next base
+  unfolding exprsOf
+  list-cons v w p = list-more v w p
+
+module _ (e f : Expr) (es : List Expr) {b : Expr} {at x next base : ℕ} {d d1 d2 : List ℕ} where
+  pub written-distribute : WrittenList (exprsOf e (f ∷ es)) b at d d1 x base → Pushed x 11 base (x - 1) 0 d1 d2 next
+      → Written (distributePowers (e ∷ (f ∷ es)) b) at d d2 next
+  unfolding distributePowers
+  written-distribute w p = written-powers w p
