@@ -15,7 +15,7 @@ use Rattle.util.proofs.Over.{length-over, over-over, over-sets}
 use Rattle.expression.specs.Expr.{Expr, Exprs, minus, at, exprsOf, distributePowers, productFrom}
 use Rattle.expression.specs.Nodes.{kept}
 use Rattle.expression.specs.Flat.{body, sizes, extra, size, root, words, flat, flats, chain}
-use Rattle.expression.specs.FlatFacts.{flat-length, flats-length, chain-length}
+use Rattle.expression.proofs.FlatLength.{flat-length, flats-length, chain-length}
 use Rattle.expression.specs.Written.{Pushed, Written, WrittenOne, WrittenPair, WrittenBase, WrittenList}
 
 -- ---- runs of words
