@@ -1,0 +1,238 @@
+//! Cases drawn from a seed, the fixed ones (the demo circuit, the limits), and the
+//! answers to them.
+use super::calls::Case;
+use super::generate::{self, value, Log};
+use super::given::answer;
+use super::limits;
+use super::model::{columns, composed_words, neg, Tree, P};
+use super::questions::{read, Circuit};
+use super::refuse::{Broken, WAYS};
+use super::sections::*;
+
+/// Words that a buffer holds before the call.
+fn unwritten(rng: &mut Rng, n: usize) -> Vec<u64> {
+    let wide = rng.once_in(4);
+    (0..n).map(|i| if wide { rng.word() } else { 10 + (37 * i as u64 + 11) % 89 }).collect()
+}
+
+/// Exact, or longer than needed.
+fn length(rng: &mut Rng, needed: usize) -> usize {
+    needed + if rng.once_in(2) { 0 } else { rng.range(1, 9) }
+}
+
+fn circuit(log: &Log) -> Circuit {
+    read(&log.sections.words()).expect("an accepted circuit")
+}
+
+pub fn build_lent(log: &Log, columns: Vec<u64>, nodes: Vec<u64>) -> Vec<Vec<u64>> {
+    let words = log.sections.words();
+    vec![words, log.instance.clone(), log.witness.clone(), log.challenges.clone(), columns, nodes]
+}
+
+/// The building call on an accepted log.
+pub fn build_case(log: &Log, rng: &mut Rng) -> Case {
+    let c = circuit(log);
+    let (columns, nodes) = (length(rng, c.column_words()), length(rng, composed_words(&c).len()));
+    let (columns, nodes) = (unwritten(rng, columns), unwritten(rng, nodes));
+    answer("build", build_lent(log, columns, nodes))
+}
+
+/// The row sum of a log that was built: its own columns, or any.
+pub fn row_sum_case(log: &Log, rng: &mut Rng) -> Option<Case> {
+    let c = circuit(log);
+    let (built, zero) = columns(&c, &log.instance, &log.witness, &log.challenges).ok()?;
+    let mut words = built.words();
+    let altered = rng.once_in(3);
+    if altered {
+        let wide = rng.once_in(2);
+        words.iter_mut().for_each(|w| *w = if wide || rng.once_in(5) { value(rng, true) } else { *w });
+    }
+    let wide = rng.once_in(2);
+    let challenges = [&log.challenges[..], &[value(rng, wide)]].concat();
+    let y = (0..c.k).map(|_| value(rng, wide)).collect();
+    let case = answer("row_sum", vec![log.sections.words(), log.witness.clone(), words, composed_words(&c), challenges, y]);
+    if log.meets && !altered && !zero && c.cuts_are_alike() {
+        assert_eq!(case.returned, [0, 0], "demand 3");
+    }
+    Some(case)
+}
+
+/// A refusal of the building call by one way of `WAYS`; none where the way does
+/// not fit the log. Two faults at once are answered by the model alone.
+pub fn refused_build(log: Log, way: usize, second: Option<usize>, rng: &mut Rng) -> Option<Case> {
+    let needs = |log: &Log| read(&log.sections.words()).ok().map(|c| [c.column_words(), composed_words(&c).len()]);
+    let before = needs(&log)?;
+    let mut b = Broken { log, edits: vec![], short: [0; 2] };
+    let (number, fault) = WAYS[way];
+    if !fault(&mut b, rng) {
+        return None;
+    }
+    if let Some(second) = second {
+        WAYS[second].1(&mut b, rng);
+    }
+    // Faults of later questions change nothing.
+    if number < 12 && rng.once_in(3) {
+        b.log.witness.pop();
+        b.log.challenges.iter_mut().for_each(|c| *c = P);
+        b.short = [usize::MAX; 2];
+    }
+    let needed = needs(&b.log).unwrap_or(before);
+    let shorter = |i: usize| needed[i].saturating_sub(b.short[i]);
+    if number == 14 && second.is_none() && shorter(0) == needed[0] && shorter(1) == needed[1] {
+        return None;
+    }
+    let lengths = if b.short == [0; 2] { [length(rng, needed[0]), length(rng, needed[1])] } else { [shorter(0), shorter(1)] };
+    let (columns, nodes) = (unwritten(rng, lengths[0]), unwritten(rng, lengths[1]));
+    let mut lent = build_lent(&b.log, columns, nodes);
+    lent[0] = b.words();
+    let case = answer("build", lent);
+    if second.is_none() {
+        assert_eq!(case.returned[0], number, "way {way}: {:?}", case);
+    }
+    Some(case)
+}
+
+/// A refusal of the row sum: 1 to 11 by the circuit words, or 16.
+fn refused_row_sum(log: Log, rng: &mut Rng) -> Option<Case> {
+    let mut lent = row_sum_case(&log, rng)?.lent;
+    let mut number = 16;
+    if rng.once_in(3) {
+        let way = rng.below(WAYS.len());
+        let mut b = Broken { log, edits: vec![], short: [0; 2] };
+        number = WAYS[way].0;
+        if number > 11 || !WAYS[way].1(&mut b, rng) {
+            return None;
+        }
+        lent[0] = b.words();
+    } else {
+        let at = rng.range(1, 5);
+        let word = rng.below(lent[at].len().max(1));
+        match rng.below(4) {
+            0 => lent[at].push(if at == 3 { 0 } else { value(rng, true) }),
+            1 => drop(lent[at].pop()?),
+            2 => lent[at].clear(),
+            _ if at == 3 => {
+                let by = rng.pick(&[1, P, 1 << 63]);
+                lent[at][word] = lent[at][word].wrapping_add(by);
+            }
+            _ => *lent[at].get_mut(word)? = rng.pick(&[P, P + 1, u64::MAX]),
+        }
+        // An empty slice that was empty already is no fault.
+        if lent[at].is_empty() && read(&lent[0]).unwrap().column_words() == 0 && at == 2 {
+            return None;
+        }
+    }
+    let case = answer("row_sum", lent);
+    assert_eq!(case.returned, [number, 0]);
+    Some(case)
+}
+
+/// A stage called alone, now and then refused.
+fn stage_case(name: &str, rng: &mut Rng, small: bool) -> Case {
+    let k = if !small && rng.once_in(20) { rng.range(6, 10) } else { rng.range(1, if small { 3 } else { 5 }) };
+    let rows = 1usize << k;
+    let wide = rng.once_in(3);
+    let column = |rng: &mut Rng| (0..rows).map(|_| value(rng, wide)).collect::<Vec<_>>();
+    let table = column(rng);
+    let mut input: Vec<u64> = (0..rows).map(|_| rng.pick(&table)).collect();
+    if rng.once_in(6) {
+        input = column(rng);
+    }
+    let m = if rng.once_in(2) { (0..rows).map(|_| rng.below(3) as u64).collect() } else { column(rng) };
+    let gamma = if rng.once_in(3) { neg(rng.pick(&table)) } else { value(rng, wide) };
+    let y = (0..k).map(|_| value(rng, wide)).collect();
+    let out = length(rng, rows);
+    let mut lent = match name {
+        "lookup_m_poly" => vec![vec![k as u64], input, table],
+        "lookup_h_poly" => vec![vec![k as u64], input, table, m, vec![gamma]],
+        _ => vec![vec![k as u64], y],
+    };
+    lent.push(unwritten(rng, out));
+    let last = lent.len() - 1;
+    let mut number = None;
+    if rng.once_in(4) {
+        let at = rng.range(1, last - 1);
+        let one = at == 4;
+        let word = rng.below(lent[at].len());
+        number = Some(rng.pick(&[2, 12, 13, 14]));
+        match number {
+            Some(2) => lent[0][0] = rng.pick(&[0, 11, 64, u64::MAX, k as u64 + (1 << 32)]),
+            Some(12) if !one && rng.once_in(2) => lent[at].push(rng.word()),
+            Some(12) if !one => drop(lent[at].pop()),
+            Some(14) => lent[last].truncate(rng.pick(&[0, 1, rows - 1])),
+            _ => {
+                number = Some(13);
+                lent[at][word] = rng.pick(&[P, P + 1, u64::MAX]);
+            }
+        }
+    }
+    let case = answer(name, lent);
+    if let Some(number) = number {
+        assert_eq!(case.returned, [number]);
+    }
+    case
+}
+
+/// The case of a seed with a number.
+pub fn case(seed: u64, number: u64, small: bool) -> Case {
+    let mut rng = Rng(seed.wrapping_mul(0x2545f4914f6cdd1d) ^ number.wrapping_mul(0x9e3779b97f4a7c15));
+    let rng = &mut rng;
+    rng.word();
+    loop {
+        let kind = rng.below(20);
+        let refused = (12..=15).contains(&kind);
+        let log = || generate::log(&mut Rng(seed ^ number.wrapping_mul(0xd1342543de82ef95)), small || refused);
+        let case = match kind {
+            0..=7 => Some(build_case(&log(), rng)),
+            8..=11 => row_sum_case(&log(), rng).or_else(|| Some(build_case(&log(), rng))),
+            12..=14 => {
+                let way = rng.below(WAYS.len());
+                let second = rng.once_in(4).then(|| rng.below(WAYS.len()));
+                refused_build(log(), way, second, rng)
+            }
+            15 => refused_row_sum(log(), rng),
+            16 | 17 => Some(stage_case("lookup_m_poly", rng, small)),
+            18 => Some(stage_case("lookup_h_poly", rng, small)),
+            _ => Some(stage_case("eq_xy", rng, small)),
+        };
+        if let Some(case) = case {
+            return case;
+        }
+    }
+}
+
+/// The demo circuit, k = 3: a selector with a rotation, a lookup of width 2 whose
+/// table has rows twice, copies over an instance and two witness columns.
+pub fn demo() -> Log {
+    let mut s = Sections { k: 3, ..Default::default() };
+    let poly = |p: u64, r: i64| Tree::Polynomial(p, r);
+    let minus = |a: Tree, b: Tree| Tree::Sum(a.into(), Tree::Negated(b.into()).into());
+    s.bodies[INSTANCES] = vec![2];
+    s.bodies[PREPROCESS] = [[0, 1, 1, 0, 1, 0, 0, 0], [0, 5, 11, 17, 17, 23, 0, 5], [0, 6, 6, 6, 6, 6, 0, 6]].concat();
+    s.bodies[ROUNDS] = vec![2, 0];
+    s.constraint(&Tree::Product(poly(1, 0).into(), minus(minus(poly(4, 1), poly(4, 0)), poly(5, 0)).into()));
+    s.lookup(&[(poly(4, 0), poly(2, 0)), (poly(5, 0), poly(3, 0))]);
+    s.cycle(&[(0, 1), (4, 1)]);
+    s.cycle(&[(0, 2), (4, 2)]);
+    s.cycle(&[(5, 1), (5, 2), (5, 4)]);
+    let witness = [[0, 5, 11, 23, 17, 0, 0, 0], [0, 6, 6, 6, 6, 0, 0, 0]].concat();
+    Log { sections: s, instance: vec![5, 11], witness, challenges: vec![1000003, 777], meets: true }
+}
+
+/// The demo and the limits: built, and summed where they are accepted.
+pub fn fixed() -> Vec<Case> {
+    let rng = &mut Rng(4);
+    let mut out = vec![];
+    for (number, log) in [(0, demo())].into_iter().chain(limits::all()) {
+        if number == 0 {
+            out.push(build_case(&log, rng));
+            out.extend(row_sum_case(&log, rng));
+            assert_eq!(out[out.len() - 2].returned[0], 0);
+        } else {
+            let case = answer("build", build_lent(&log, unwritten(rng, 40), unwritten(rng, 40)));
+            assert_eq!(case.returned[0], number, "{:?}", log.sections);
+            out.push(case);
+        }
+    }
+    out
+}

@@ -1,0 +1,124 @@
+//! Every limit of document 01, at and one past, as logs with the number known.
+use super::generate::Log;
+use super::model::{Tree, P};
+use super::refuse::of_degree;
+use super::sections::*;
+
+/// A log of all-zero columns over these sections, with a constraint if it has none.
+fn log_of(mut s: Sections) -> Log {
+    if s.bodies[CONSTRAINTS].is_empty() && s.bodies[WIDTHS].is_empty() && s.bodies[LENGTHS].is_empty() {
+        s.constraint(&Tree::Constant(0));
+    }
+    let rows = 1usize << s.k.min(10);
+    let witnesses: u64 = s.bodies[ROUNDS].chunks(2).map(|r| r[0]).sum();
+    let challenges = vec![1 + P / 3; s.challenges() as usize + 2];
+    let instance = vec![0; s.bodies[INSTANCES].iter().sum::<u64>() as usize];
+    Log { instance, witness: vec![0; witnesses as usize * rows], challenges, sections: s, meets: true }
+}
+
+fn base(k: u64) -> Sections {
+    let mut s = Sections { k, ..Default::default() };
+    s.bodies[ROUNDS] = vec![1, 0];
+    s
+}
+
+fn with(k: u64, edit: impl Fn(&mut Sections)) -> Log {
+    let mut s = base(k);
+    edit(&mut s);
+    log_of(s)
+}
+
+/// `n` single cells' cycles of `length` cells over polynomials 0 to 3, k = 3.
+fn cycles(n: u64, length: u64) -> Log {
+    with(3, |s| {
+        s.bodies[ROUNDS] = vec![4, 0];
+        (0..n).for_each(|i| s.cycle(&(0..length).map(|j| (j, 1 + i % 7)).collect::<Vec<_>>()));
+    })
+}
+
+/// One constraint of n nodes.
+fn nodes(n: u64) -> Log {
+    with(1, |s| {
+        let sums = (n - 1) / 2;
+        let sum = (0..sums).fold(Tree::Constant(0), |t, _| Tree::Sum(t.into(), Tree::Constant(0).into()));
+        s.constraint(&if n % 2 == 1 { sum } else { Tree::Negated(sum.into()) });
+    })
+}
+
+fn value(place: usize, word: u64) -> Log {
+    let mut log = with(1, |s| s.bodies[INSTANCES] = vec![1]);
+    match place {
+        0 => log.instance[0] = word,
+        1 => log.witness[1] = word,
+        _ => log.challenges[1] = word,
+    }
+    log
+}
+
+fn rotation(r: i64) -> Log {
+    with(3, |s| s.constraint(&Tree::Scaled(Tree::Polynomial(0, r).into(), 0)))
+}
+
+/// Everything at its limit at once, as far as the limits allow each other.
+fn whole() -> Log {
+    let mut s = base(10);
+    s.bodies[INSTANCES] = vec![1023; 8];
+    s.bodies[PREPROCESS] = (0..32 * 1024).map(|i| i % 5).collect();
+    s.bodies[ROUNDS] = vec![8, 4, 8, 4, 8, 4, 8, 4];
+    for _ in 0..8 {
+        let same = |i: u64| (Tree::Polynomial(40 + i, 1), Tree::Polynomial(40 + i, -1));
+        s.lookup(&(0..8).map(same).collect::<Vec<_>>());
+    }
+    for i in 0..32 {
+        let tree = (0..13).fold(Tree::Polynomial(40 + i, 0), |t, _| Tree::Sum(t.into(), Tree::Constant(0).into()));
+        s.constraint(&Tree::Scaled(tree.into(), 0));
+    }
+    (0..1024).for_each(|i| s.cycle(&[(40 + i % 32, 1 + i % 1023), (40 + (i + 1) % 32, 1 + i % 1023), (i % 8, 1), (i % 8, 2)]));
+    s.degree = 33;
+    log_of(s)
+}
+
+/// The limits, each with the number that the log must get.
+pub fn all() -> Vec<(u64, Log)> {
+    let mut out = vec![];
+    let mut pair = |past: u64, log: &dyn Fn(u64) -> Log, limit: u64| {
+        out.push((0, log(limit)));
+        out.push((past, log(limit + 1)));
+    };
+    pair(2, &|k| with(k, |_| {}), 10);
+    pair(3, &|n| with(1, |s| s.bodies[INSTANCES] = vec![0; n as usize]), 8);
+    pair(3, &|n| with(1, |s| s.bodies[PREPROCESS] = vec![0; 2 * n as usize]), 32);
+    pair(3, &|n| with(1, |s| s.bodies[ROUNDS] = [1, 1].repeat(n as usize)), 4);
+    pair(3, &|n| with(1, |s| s.bodies[ROUNDS] = vec![n, 0]), 32);
+    pair(3, &|n| with(1, |s| s.bodies[ROUNDS] = vec![1, 1, 30, 1, n - 31, 0]), 32);
+    pair(3, &|n| with(1, |s| s.bodies[ROUNDS] = vec![1, n]), 16);
+    pair(3, &|n| with(1, |s| s.bodies[ROUNDS] = vec![1, 8, 1, n - 8]), 16);
+    pair(3, &nodes, 1024);
+    pair(3, &|n| with(1, |s| (0..n).for_each(|_| s.constraint(&Tree::Constant(0)))), 32);
+    pair(3, &|n| with(1, |s| (0..n).for_each(|_| s.lookup(&[(Tree::Identity, Tree::Identity)]))), 8);
+    pair(3, &|n| with(1, |s| s.lookup(&vec![(Tree::Identity, Tree::Identity); n as usize])), 8);
+    pair(3, &|n| cycles(n, 1), 1024);
+    pair(3, &|n| cycles(n, 4), 1024);
+    pair(3, &|n| with(1, |s| s.degree = n), 33);
+    pair(5, &|n| with(3, |s| s.bodies[INSTANCES] = vec![n]), 7);
+    pair(8, &|n| rotation(n as i64), 3);
+    pair(8, &|n| rotation(-(n as i64)), 3);
+    pair(8, &|n| with(1, |s| s.constraint(&Tree::Scaled(Tree::Polynomial(n, 0).into(), 0))), 0);
+    pair(10, &|n| with(1, |s| s.constraint(&of_degree(n))), 1024);
+    pair(10, &|n| with(1, |s| s.lookup(&[(of_degree(n), Tree::Constant(0))])), 1023);
+    pair(10, &|n| with(1, |s| s.lookup(&[(of_degree(n), of_degree(512))])), 511);
+    pair(10, &|n| with(1, |s| { s.degree = 5; s.constraint(&of_degree(n)) }), 4);
+    pair(11, &|n| with(3, |s| s.cycle(&[(0, n)])), 7);
+    pair(11, &|n| with(3, |s| s.cycle(&[(n, 1)])), 0);
+    (0..3).for_each(|place| pair(13, &|n| value(place, n), P - 1));
+    out.push((3, with(1, |s| s.bodies[ROUNDS] = vec![])));
+    out.push((11, with(3, |s| s.cycle(&[(0, 0)]))));
+    out.push((0, with(3, |s| s.cycle(&[(0, 1)]))));
+    // A wide cell section, past its limit by one: cycles 1024, cells 4097.
+    let mut log = cycles(1024, 4);
+    log.sections.bodies[LENGTHS][0] += 1;
+    log.sections.bodies[CELLS].splice(0..0, [0, 7]);
+    out.push((3, log));
+    out.push((0, whole()));
+    out
+}

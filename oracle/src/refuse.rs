@@ -1,0 +1,283 @@
+//! Refused circuits: an accepted log, broken in one way, the number known by
+//! construction. `WAYS` has every question from 1 to 15, with sums that would wrap.
+use super::generate::Log;
+use super::model::{Tree, P};
+use super::sections::*;
+
+/// A log on its way to the call. Words past the sections are edited at the end.
+pub struct Broken {
+    pub log: Log,
+    /// Edits of the finished circuit words.
+    pub edits: Vec<Edit>,
+    /// Taken from the buffers' needed lengths.
+    pub short: [usize; 2],
+}
+
+pub enum Edit {
+    Set(usize, u64),
+    Add(usize, u64),
+    Length(usize),
+    More(u64),
+    Less,
+}
+
+impl Broken {
+    pub fn words(&self) -> Vec<u64> {
+        let mut words = self.log.sections.words();
+        for edit in &self.edits {
+            match edit {
+                Edit::Set(at, to) => words[*at] = *to,
+                Edit::Add(at, by) => words[*at] = words[*at].wrapping_add(*by),
+                Edit::Length(n) => words.truncate(*n),
+                Edit::More(word) => words.push(*word),
+                Edit::Less => drop(words.pop()),
+            }
+        }
+        words
+    }
+}
+
+/// Breaks the log, or answers false where the log has nothing to break so.
+type Way = fn(&mut Broken, &mut Rng) -> bool;
+
+const TOP: u64 = 1 << 63;
+const MAX: u64 = u64::MAX;
+
+fn big(rng: &mut Rng) -> u64 {
+    rng.pick(&[P, P + 1, MAX, MAX - 1, TOP + P / 2])
+}
+
+/// A random entry of a section, by its first word's index in the body.
+fn entry(s: &Sections, section: usize, rng: &mut Rng) -> Option<usize> {
+    let count = s.count(section) as usize;
+    (count > 0).then(|| rng.below(count) * s.entry(section))
+}
+
+fn node_of(s: &Sections, kinds: &[u64], rng: &mut Rng) -> Option<usize> {
+    let nodes = &s.bodies[NODES];
+    let all: Vec<usize> = (0..nodes.len()).step_by(4).filter(|at| kinds.contains(&nodes[*at])).collect();
+    (!all.is_empty()).then(|| rng.pick(&all))
+}
+
+fn set(s: &mut Sections, section: usize, at: Option<usize>, word: usize, to: u64) -> bool {
+    let Some(at) = at else { return false };
+    let changed = s.bodies[section][at + word] != to;
+    s.bodies[section][at + word] = to;
+    changed
+}
+
+/// New nodes after the others, the last a constraint's root. Children are given
+/// as distances back from the first new node's place: 0 is the first new node.
+fn constraint_of(s: &mut Sections, nodes: &[[u64; 4]]) -> bool {
+    let at = s.count(NODES);
+    for [kind, first, second, value] in nodes {
+        let place = |n: u64| if n >= NEW { n.wrapping_sub(NEW).wrapping_add(at) } else { n };
+        s.bodies[NODES].extend([*kind, place(*first), place(*second), *value]);
+    }
+    s.bodies[CONSTRAINTS].push(at + nodes.len() as u64 - 1);
+    s.count(NODES) <= 1024 && s.count(CONSTRAINTS) <= 32
+}
+/// NEW + i is the i-th new node.
+const NEW: u64 = 1 << 40;
+
+fn polynomial(p: u64, word: u64) -> [u64; 4] {
+    [5, p, 0, word]
+}
+const ZERO: u64 = 1 << 31;
+
+/// A tree of degree d ≥ 1, 0 on every row: nested lists, each four times its base.
+pub fn of_degree(d: u64) -> Tree {
+    Tree::Scaled(Box::new(power(d)), 0)
+}
+fn power(d: u64) -> Tree {
+    if d == 1 {
+        return Tree::Identity;
+    }
+    if d % 4 == 0 {
+        return Tree::List(vec![Tree::Constant(1); 5], Box::new(power(d / 4)));
+    }
+    Tree::Product(Box::new(power(d - 1)), Box::new(Tree::Identity))
+}
+
+fn room(s: &Sections) -> bool {
+    s.count(NODES) <= 1024 && s.count(CONSTRAINTS) <= 32 && s.count(WIDTHS) <= 8
+}
+
+/// A constraint of these nodes takes the log to the number given beside the way.
+macro_rules! node { ($($node:expr),+) => { |b, _| constraint_of(&mut b.log.sections, &[$($node),+]) } }
+macro_rules! tree { ($tree:expr) => { |b, _| { b.log.sections.constraint(&$tree); room(&b.log.sections) } } }
+macro_rules! rounds { ($($word:expr),+) => { |b, _| { b.log.sections.bodies[ROUNDS] = vec![$($word),+]; true } } }
+macro_rules! edit { ($edit:expr) => { |b, _| { b.edits.push($edit); true } } }
+macro_rules! sections { (|$s:ident, $rng:ident| $body:expr) => { |b, $rng| { let $s = &mut b.log.sections; $body } } }
+
+const CONSTANT: [u64; 4] = [1, 0, 0, 0];
+const LAST: [u64; 4] = [12, NEW, 0, 0];
+
+pub const WAYS: &[(u64, Way)] = &[
+    (1, |b, rng| { b.edits.push(Edit::Length(rng.below(20))); true }),
+    (1, edit!(Edit::Length(19))),
+    (1, edit!(Edit::Length(0))),
+    (2, edit!(Edit::Set(0, 0))),
+    (2, edit!(Edit::Set(0, 11))),
+    (2, edit!(Edit::Set(0, 64))),
+    (2, edit!(Edit::Set(0, MAX))),
+    (2, edit!(Edit::Set(0, (1 << 32) + 3))),
+    // 3, contents
+    (3, edit!(Edit::Set(1, 34))),
+    (3, edit!(Edit::Set(1, MAX))),
+    (3, |b, rng| {
+        let (s, limit) = rng.pick(&[(0, 8), (1, 32), (2, 4), (3, 1024), (4, 32), (5, 8), (7, 1024), (8, 4096)]);
+        b.edits.push(Edit::Set(3 + 2 * s, rng.pick(&[limit + 1, TOP, MAX, MAX - 7, 1 << 62])));
+        true
+    }),
+    (3, edit!(Edit::Set(7, 0))),
+    // 3, bodies
+    (3, rounds![33, 0]),
+    (3, rounds![32, 1, 1, 0]),
+    (3, rounds![TOP, 1, TOP, 1]),
+    (3, rounds![MAX, 1, 2, 1]),
+    (3, rounds![1, 17]),
+    (3, rounds![1, 1, 1, 16]),
+    (3, rounds![1, TOP, 1, TOP]),
+    (3, rounds![1, MAX, 1, 2]),
+    (3, sections!(|s, rng| { let to = rng.pick(&[9, TOP, MAX]); let at = entry(s, WIDTHS, rng); set(s, WIDTHS, at, 0, to) })),
+    (3, sections!(|s, _rng| { s.bodies[LENGTHS] = vec![4097]; true })),
+    (3, sections!(|s, _rng| { s.bodies[LENGTHS] = vec![4096, 1]; true })),
+    (3, sections!(|s, _rng| { s.bodies[LENGTHS] = vec![TOP, TOP]; true })),
+    (3, sections!(|s, _rng| { s.bodies[LENGTHS] = vec![MAX, 1 + s.count(CELLS)]; true })),
+    (3, sections!(|s, rng| { let at = entry(s, LENGTHS, rng); set(s, LENGTHS, at, 0, MAX) })),
+    // 4, contents
+    (4, |b, rng| { b.edits.push(Edit::Add(2 + 2 * rng.below(9), rng.pick(&[1, MAX, TOP, MAX - 19]))); true }),
+    (4, |b, rng| { b.edits.push(Edit::More(rng.pick(&[0, 1, MAX]))); true }),
+    (4, |b, _| { b.edits.push(Edit::Less); b.log.sections.words().len() > 20 }),
+    (4, edit!(Edit::Add(15, TOP))),
+    (4, edit!(Edit::Set(15, MAX))),
+    (4, edit!(Edit::Add(15, 1))),
+    // 4, bodies
+    (4, sections!(|s, _rng| { s.bodies[PAIRS].extend([0, 0]); true })),
+    (4, sections!(|s, _rng| s.bodies[PAIRS].pop().and(s.bodies[PAIRS].pop()).is_some())),
+    (4, sections!(|s, _rng| { s.bodies[CELLS].extend([0, 1]); s.count(CELLS) <= 4096 })),
+    (4, sections!(|s, _rng| s.bodies[CELLS].pop().and(s.bodies[CELLS].pop()).is_some())),
+    (4, sections!(|s, _rng| { s.bodies[WIDTHS].push(1); s.count(WIDTHS) <= 8 })),
+    (4, sections!(|s, _rng| { s.bodies[LENGTHS].push(1); true })),
+    // 5
+    (5, sections!(|s, rng| { let at = entry(s, ROUNDS, rng); set(s, ROUNDS, at, 0, 0) })),
+    (5, sections!(|s, _rng| s.count(ROUNDS) > 1 && set(s, ROUNDS, Some(0), 1, 0))),
+    (5, sections!(|s, rng| { let to = rng.pick(&[1 << s.k, MAX, TOP]); let at = entry(s, INSTANCES, rng); set(s, INSTANCES, at, 0, to) })),
+    // 6
+    (6, sections!(|s, rng| {
+        let word = rng.below(1 << s.k);
+        let (to, at) = (big(rng), entry(s, PREPROCESS, rng));
+        set(s, PREPROCESS, at, word, to)
+    })),
+    (6, sections!(|s, rng| { let (to, at) = (big(rng), node_of(s, &[1], rng)); set(s, NODES, at, 3, to) })),
+    (6, sections!(|s, rng| { let (to, at) = (big(rng), node_of(s, &[10], rng)); set(s, NODES, at, 3, to) })),
+    (6, node!([1, 7, 7, P])),
+    (6, node!([10, MAX, 3, MAX])),
+    // 7
+    (7, |b, rng| { let kind = rng.pick(&[0, 13, MAX, (1 << 32) + 1]); constraint_of(&mut b.log.sections, &[[kind, 0, 0, 0]]) }),
+    (7, node!([1, 1, 0, 0])),
+    (7, node!([1, 0, 1, 0])),
+    (7, node!([2, 0, 0, 1])),
+    (7, node!([2, 0, 1, 0])),
+    (7, node!([2, 1, 0, 0])),
+    (7, node!([3, 0, 0, 1 << 32])),
+    (7, node!([3, 0, 0, MAX])),
+    (7, node!([3, 1, 0, ZERO])),
+    (7, node!([3, 0, 1, ZERO])),
+    (7, node!([4, 1, 0, 0])),
+    (7, node!([4, 0, 1, 0])),
+    (7, node!([5, 0, 1, ZERO])),
+    (7, node!(polynomial(0, 1 << 32))),
+    (7, node!(polynomial(0, ZERO + (1 << 32)))),
+    (7, node!([6, 0, 1, 0])),
+    (7, node!([6, 0, 0, 1])),
+    (7, node!(CONSTANT, [7, NEW, 1, 0])),
+    (7, node!(CONSTANT, [7, NEW, 0, 1])),
+    (7, node!([7, NEW, 0, 0])),
+    (7, node!([7, MAX, 0, 0])),
+    (7, node!(CONSTANT, [7, NEW + (1 << 62), 0, 0])),
+    (7, node!(CONSTANT, CONSTANT, [8, NEW, NEW + 1, 1])),
+    (7, node!(CONSTANT, CONSTANT, [9, NEW, NEW + 1, 1])),
+    (7, node!(CONSTANT, [8, NEW, NEW, 0])),
+    (7, node!(CONSTANT, [9, NEW, NEW + 1, 0])),
+    (7, node!(CONSTANT, [9, NEW + 1, NEW, 0])),
+    (7, node!(CONSTANT, [8, NEW, NEW + (1 << 62), 0])),
+    (7, node!(CONSTANT, [10, NEW, 1, 0])),
+    (7, node!(CONSTANT, LAST, [8, NEW, NEW + 1, 0])),
+    (7, node!(CONSTANT, LAST, [7, NEW + 1, 0, 0])),
+    (7, node!(CONSTANT, LAST)),
+    // Lists: of one; a base that is an Item; Items of a wrong make.
+    (7, node!(CONSTANT, CONSTANT, LAST, [11, NEW + 1, NEW + 2, 0])),
+    (7, node!(CONSTANT, CONSTANT, [11, NEW + 1, NEW, 0])),
+    (7, node!(CONSTANT, CONSTANT, CONSTANT, LAST, [12, NEW + 1, NEW + 3, 1], [11, NEW + 2, NEW + 4, 1])),
+    (7, node!(CONSTANT, CONSTANT, CONSTANT, LAST, [12, NEW + 1, NEW + 3, 2], [11, NEW + 2, NEW + 4, 0])),
+    (7, node!(CONSTANT, CONSTANT, CONSTANT, LAST, [12, NEW + 1, 0, 1], [11, NEW + 2, NEW + 4, 0])),
+    (7, node!(CONSTANT, CONSTANT, CONSTANT, [12, NEW, 1, 0], [12, NEW + 1, NEW + 3, 1], [11, NEW + 2, NEW + 4, 0])),
+    (7, node!(CONSTANT, CONSTANT, LAST, [12, NEW + 1, NEW + 2, 1], [11, NEW + 3, NEW + 3, 0])),
+    (7, node!(CONSTANT, CONSTANT, CONSTANT, LAST, [12, NEW + 3, NEW + 3, 1], [11, NEW + 2, NEW + 4, 0])),
+    (7, node!(CONSTANT, CONSTANT, CONSTANT, LAST, [12, NEW + 1, NEW + 3 + (1 << 62), 1], [11, NEW + 2, NEW + 4, 0])),
+    // Nodes named by none or twice; roots that are none.
+    (7, sections!(|s, _rng| { s.bodies[NODES].extend(CONSTANT); room(s) })),
+    (7, sections!(|s, rng| match entry(s, CONSTRAINTS, rng) { Some(at) => { let root = s.bodies[CONSTRAINTS][at]; s.bodies[CONSTRAINTS].push(root); room(s) } None => false })),
+    (7, sections!(|s, rng| { let to = rng.pick(&[s.count(NODES), MAX, 1 << 62]); let at = entry(s, CONSTRAINTS, rng); set(s, CONSTRAINTS, at, 0, to) })),
+    (7, sections!(|s, rng| { let to = rng.pick(&[s.count(NODES), MAX, 1 << 62]); let at = entry(s, PAIRS, rng); let word = rng.below(2); set(s, PAIRS, at, word, to) })),
+    (7, sections!(|s, rng| match entry(s, PAIRS, rng) { Some(at) => { let root = s.bodies[PAIRS][at]; set(s, PAIRS, Some(at), 1, root) } None => false })),
+    // 8
+    (8, |b, _| { let p = b.log.sections.polys(); constraint_of(&mut b.log.sections, &[polynomial(p, ZERO)]) }),
+    (8, |b, rng| { let p = rng.pick(&[MAX, TOP, 1 << 32]); constraint_of(&mut b.log.sections, &[polynomial(p, ZERO)]) }),
+    (8, |b, _| { let c = b.log.sections.challenges(); constraint_of(&mut b.log.sections, &[[6, c, 0, 0]]) }),
+    (8, |b, rng| { let c = rng.pick(&[MAX, TOP]); constraint_of(&mut b.log.sections, &[[6, c, 0, 0]]) }),
+    (8, |b, rng| {
+        let k = b.log.sections.k;
+        let word = rng.pick(&[ZERO + k + 1, ZERO - k - 1, 0, (1 << 32) - 1]);
+        constraint_of(&mut b.log.sections, &[polynomial(0, word)])
+    }),
+    (8, node!([4, 0, 0, 0])),
+    (8, node!([4, 0, 0, MAX])),
+    (8, sections!(|s, _rng| { s.lookup(&[(Tree::EqXY(0), Tree::EqXY(0))]); room(s) })),
+    // 9
+    (9, sections!(|s, _rng| { s.bodies[WIDTHS].push(0); room(s) })),
+    (9, sections!(|s, _rng| { s.bodies[WIDTHS].insert(0, 0); room(s) })),
+    (9, sections!(|s, _rng| { (3..9).for_each(|i| s.bodies[i].clear()); true })),
+    // 10
+    (10, sections!(|s, rng| { s.degree = rng.range(1, 5) as u64; let d = s.degree; s.constraint(&of_degree(d)); room(s) })),
+    (10, sections!(|s, _rng| { s.degree = 0; s.constraint(&of_degree(1025)); room(s) })),
+    (10, sections!(|s, _rng| { s.degree = 0; s.lookup(&[(of_degree(1024), Tree::Constant(0))]); room(s) })),
+    (10, sections!(|s, _rng| { s.degree = 0; s.lookup(&[(Tree::Constant(0), of_degree(16)), (of_degree(1008), Tree::Constant(0))]); room(s) })),
+    (10, sections!(|s, _rng| { s.degree = 33; s.constraint(&of_degree(33)); room(s) })),
+    // 2^64 and 2^66: as u64 both are 0.
+    (10, tree!(Tree::Product(of_degree(TOP).into(), of_degree(TOP).into()))),
+    (10, tree!(Tree::List(vec![Tree::Constant(0); 9], of_degree(TOP).into()))),
+    // 11
+    (11, sections!(|s, _rng| { s.bodies[LENGTHS].push(0); true })),
+    (11, sections!(|s, rng| { let p = rng.pick(&[s.polys(), MAX, 1 << 60]); s.cycle(&[(p, 1)]); true })),
+    (11, sections!(|s, rng| { let row = rng.pick(&[0, 1 << s.k, MAX, TOP + 1]); s.cycle(&[(0, row)]); true })),
+    (11, sections!(|s, _rng| { s.cycle(&[(0, 1), (0, 1)]); true })),
+    (11, sections!(|s, _rng| { s.cycle(&[(0, 1), (0, 2), (0, 1)]); s.k > 1 })),
+    // 12
+    (12, |b, rng| { b.log.instance.push(rng.word()); true }),
+    (12, |b, _| b.log.instance.pop().is_some()),
+    (12, |b, rng| { b.log.witness.push(rng.word()); true }),
+    (12, |b, _| b.log.witness.pop().is_some()),
+    (12, |b, rng| { b.log.challenges.push(rng.word()); true }),
+    (12, |b, _| b.log.challenges.pop().is_some()),
+    (12, |b, _| { b.log.witness.clear(); true }),
+    // 13
+    (13, |b, rng| { let at = rng.below(b.log.instance.len().max(1)); b.log.instance.get_mut(at).map(|w| *w = big(rng)).is_some() }),
+    (13, |b, rng| { let at = rng.below(b.log.witness.len()); b.log.witness[at] = big(rng); true }),
+    (13, |b, rng| { let at = rng.below(b.log.challenges.len()); b.log.challenges[at] = big(rng); true }),
+    // 14
+    (14, |b, _| { b.short[0] = 1; true }),
+    (14, |b, rng| { b.short[1] = rng.range(1, 4); true }),
+    (14, |b, _| { b.short = [usize::MAX; 2]; true }),
+    // 15
+    (15, sections!(|s, _rng| { s.lookup(&[(Tree::Constant(1), Tree::Constant(2))]); room(s) })),
+    (15, sections!(|s, _rng| { s.lookup(&[(Tree::Identity, Tree::Lagrange(1))]); room(s) && s.k > 1 })),
+    (15, sections!(|s, _rng| {
+        let roots = [s.node(&Tree::Identity), s.node(&Tree::Constant(5))];
+        s.bodies[PAIRS].splice(0..0, roots);
+        s.bodies[WIDTHS].insert(0, 1);
+        room(s)
+    })),
+];

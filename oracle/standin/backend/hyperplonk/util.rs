@@ -1,0 +1,18 @@
+//! The oracle's own code. hyperplonk.rs declares `pub mod util` under feature
+//! "benchmark" and its file is not among those given, so ours stands here: as a
+//! child of `hyperplonk` it may call every `pub(super)` and `pub(crate)` item.
+//! The modules are the files of oracle/src.
+mod calls;
+mod cases;
+mod generate;
+mod given;
+mod limits;
+mod modes;
+mod model;
+mod questions;
+mod refuse;
+mod sections;
+
+pub fn main() {
+    modes::main()
+}
