@@ -1,9 +1,101 @@
+//! The oracle's command line: `oracle MODE [--seed S] [--count N] ..`.
+use super::bench;
+use super::calls::{Case, CALLS};
 use super::cases::{case, fixed};
+use super::differences::differences;
+use super::library::{catch_faults, Library, FAULTS, RUNNING};
+use super::prove::through_prove;
+use super::stored;
+use std::{
+    collections::BTreeMap,
+    fs,
+    process::exit,
+    sync::atomic::Ordering,
+};
+
+fn option(name: &str) -> Option<String> {
+    let mut args = std::env::args().skip_while(|a| a != name);
+    args.next()?;
+    args.next()
+}
+
+fn number(name: &str, default: u64) -> u64 {
+    option(name).map_or(default, |v| v.parse().unwrap_or_else(|_| panic!("{name} {v}: a number is due")))
+}
+
 pub fn main() {
-    let t = std::time::Instant::now();
-    let mut count = std::collections::BTreeMap::new();
-    for c in fixed() { *count.entry((c.call, c.returned[0])).or_insert(0) += 1; }
-    println!("fixed {:?} {:?}", t.elapsed(), count);
-    for i in 0..2000 { let c = case(1, i, false); *count.entry((c.call, c.returned[0])).or_insert(0) += 1; }
-    println!("{:?} {:?}", t.elapsed(), count);
+    let mode = std::env::args().nth(1).unwrap_or_default();
+    let (seed, count) = (number("--seed", 1), number("--count", 1000));
+    match mode.as_str() {
+        "cases" => {
+            print!("{}", stored::head(&format!("oracle/run cases --seed {seed} --count {count}")));
+            (0..count).for_each(|i| print!("\n{}", case(seed, i, false).text()));
+        }
+        "compare" => {
+            let library = option("--stub").map_or(Library::Linked, |n| Library::Stub(n.parse().unwrap()));
+            match option("--file") {
+                Some(file) => compare(library, stored::read(&file).into_iter()),
+                None => compare(library, fixed().into_iter().chain((0..count).map(|i| case(seed, i, false)))),
+            }
+        }
+        "sample" => print!("{}", stored::sample()),
+        "small" => print!("{}", stored::small()),
+        "bench" => bench::sheets(Library::Linked),
+        "field" => bench::field(),
+        "prove" => through_prove(seed, count),
+        "differences" => differences(),
+        "survey" => survey(seed, count),
+        "faults" => println!("{}", FAULTS.len()),
+        _ => {
+            eprintln!("usage: oracle/run cases|compare|sample|small|bench|field|prove|differences|survey|selftest [--seed S] [--count N] [--file F]");
+            exit(2);
+        }
+    }
+}
+
+/// Runs the cases through the library; ends with 'N compared, M differ'.
+fn compare(library: Library, cases: impl Iterator<Item = Case>) {
+    let (mut compared, mut differ, mut skipped) = (0, 0, BTreeMap::new());
+    if let Library::Stub(fault) = library {
+        println!("the model stands in the library's place; fault: {}", FAULTS[fault as usize]);
+    }
+    catch_faults();
+    for (i, case) in cases.enumerate() {
+        RUNNING.store(i as u64, Ordering::Relaxed);
+        if !library.has(case.call) {
+            *skipped.entry(case.call).or_insert(0) += 1;
+            continue;
+        }
+        compared += 1;
+        if let Some(what) = library.differs(&case) {
+            differ += 1;
+            if differ <= 5 {
+                let file = format!("target/oracle/differs-{differ}.txt");
+                let told = fs::write(&file, case.text()).map_or(String::new(), |_| format!("; the case is in {file}"));
+                println!("case {i}, {}: {what}{told}", case.call);
+            }
+        }
+    }
+    for call in CALLS.iter().filter(|c| !library.has(c.name)) {
+        let cases = skipped.get(call.name).unwrap_or(&0);
+        println!("skipped: {} ({cases} cases), the library has no hyperplonk_{}", call.name, call.name);
+    }
+    println!("{compared} compared, {differ} differ");
+    exit((differ > 0) as i32);
+}
+
+/// What the seeded cases are made of.
+fn survey(seed: u64, count: u64) {
+    let mut numbers = BTreeMap::new();
+    let mut seen = BTreeMap::new();
+    for i in 0..count {
+        let case = case(seed, i, false);
+        *numbers.entry((case.call, case.returned[0])).or_insert(0) += 1;
+        stored::features(&case).into_iter().for_each(|f| *seen.entry(f).or_insert(0) += 1);
+    }
+    for call in CALLS.iter() {
+        let of = numbers.iter().filter(|n| n.0 .0 == call.name);
+        println!("{}: {}", call.name, of.map(|(n, count)| format!("{}×{count}", n.1)).collect::<Vec<_>>().join(" "));
+    }
+    seen.into_iter().for_each(|(f, n)| println!("{n:>6} {f}"));
 }

@@ -107,12 +107,22 @@ impl Sections {
 }
 
 /// Splitmix64.
-pub struct Rng(pub u64);
+pub struct Rng {
+    state: u64,
+    /// Buffers then hold small words before a call.
+    pub narrow: bool,
+}
 
 impl Rng {
+    pub fn new(seed: u64) -> Rng {
+        Rng { state: seed, narrow: false }
+    }
+    pub fn narrow(seed: u64) -> Rng {
+        Rng { state: seed, narrow: true }
+    }
     pub fn word(&mut self) -> u64 {
-        self.0 = self.0.wrapping_add(0x9e3779b97f4a7c15);
-        let z = (self.0 ^ (self.0 >> 30)).wrapping_mul(0xbf58476d1ce4e5b9);
+        self.state = self.state.wrapping_add(0x9e3779b97f4a7c15);
+        let z = (self.state ^ (self.state >> 30)).wrapping_mul(0xbf58476d1ce4e5b9);
         let z = (z ^ (z >> 27)).wrapping_mul(0x94d049bb133111eb);
         z ^ (z >> 31)
     }

@@ -2,16 +2,21 @@
 //! "benchmark" and its file is not among those given, so ours stands here: as a
 //! child of `hyperplonk` it may call every `pub(super)` and `pub(crate)` item.
 //! The modules are the files of oracle/src.
+mod bench;
 mod calls;
 mod cases;
+mod differences;
 mod generate;
 mod given;
+mod library;
 mod limits;
-mod modes;
 mod model;
+mod modes;
+mod prove;
 mod questions;
 mod refuse;
 mod sections;
+mod stored;
 
 pub fn main() {
     modes::main()
