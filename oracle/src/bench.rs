@@ -53,7 +53,13 @@ fn full() -> Log {
     }
     (0..8).for_each(|i| s.cycle(&[(i, 1 + i)]));
     let mut word = |_| rng.word() % P;
-    Log { sections: s, instance: (0..8 * 1023).map(&mut word).collect(), witness, challenges: (0..2).map(&mut word).collect(), meets: true }
+    Log {
+        sections: s,
+        instance: (0..8 * 1023).map(&mut word).collect(),
+        witness,
+        challenges: (0..2).map(&mut word).collect(),
+        meets: true,
+    }
 }
 
 /// k = 10, one gate q_l a + q_r b + q_m a b + q_o c + q_c over three copied columns.
@@ -69,7 +75,13 @@ fn plain() -> Log {
     s.constraint(&sum(gate, query(5, 0)));
     (1..1000).for_each(|b| s.cycle(&[(6 + b % 3, b), (6 + (b + 1) % 3, b + 1)]));
     let mut word = |_| rng.word() % P;
-    Log { sections: s, instance: (0..16).map(&mut word).collect(), witness: (0..3 * n).map(&mut word).collect(), challenges: (0..2).map(&mut word).collect(), meets: false }
+    Log {
+        sections: s,
+        instance: (0..16).map(&mut word).collect(),
+        witness: (0..3 * n).map(&mut word).collect(),
+        challenges: (0..2).map(&mut word).collect(),
+        meets: false,
+    }
 }
 
 /// k = 4, the demo circuit's make with one lookup and copies.
@@ -99,7 +111,18 @@ impl Times {
 }
 
 const STAGES: [&str; 12] = [
-    "instance", "(copying)", "compressed", "m", "h", "permutation", "compose", "z", "build", "eq_xy", "row sum", "reading the words",
+    "instance",
+    "(copying)",
+    "compressed",
+    "m",
+    "h",
+    "permutation",
+    "compose",
+    "z",
+    "build",
+    "eq_xy",
+    "row sum",
+    "reading the words",
 ];
 
 fn sheet(name: &str, log: &Log, library: Library, reps: usize) {
@@ -143,13 +166,18 @@ fn sheet(name: &str, log: &Log, library: Library, reps: usize) {
         }
         let pairs: Vec<_> = built.compressed.chunks(2).collect();
         if library.has("lookup_m_poly") && !pairs.is_empty() {
-            let call = |p: &&[Vec<u64>]| library.call("lookup_m_poly", &[&[c.k][..], &slice(&p[0]), &slice(&p[1]), &out].concat());
+            let call = |p: &&[Vec<u64>]| {
+                library.call("lookup_m_poly", &[&[c.k][..], &slice(&p[0]), &slice(&p[1]), &out].concat())
+            };
             ours.time("m", || pairs.iter().map(call).sum::<u64>());
         }
         if library.has("lookup_h_poly") && !pairs.is_empty() {
             let gamma = log.challenges[log.challenges.len() - 1] as usize;
             let call = |(p, m): (&&[Vec<u64>], &Vec<u64>)| {
-                library.call("lookup_h_poly", &[&[c.k][..], &slice(&p[0]), &slice(&p[1]), &slice(m), &[gamma], &out].concat())
+                library.call(
+                    "lookup_h_poly",
+                    &[&[c.k][..], &slice(&p[0]), &slice(&p[1]), &slice(m), &[gamma], &out].concat(),
+                )
             };
             ours.time("h", || pairs.iter().zip(&built.m).map(call).sum::<u64>());
         }
@@ -162,13 +190,21 @@ fn sheet(name: &str, log: &Log, library: Library, reps: usize) {
             assert_eq!(sum[0], sums[0]);
         }
     }
-    println!("{name}: {} copied, {} z, {} columns, {} nodes; best of {reps}", c.copied().len(), c.parts(), c.column_words() / rows_in, lent[5].len() / 4);
+    println!(
+        "{name}: {} copied, {} z, {} columns, {} nodes; best of {reps}",
+        c.copied().len(),
+        c.parts(),
+        c.column_words() / rows_in,
+        lent[5].len() / 4
+    );
     println!("  {:<18} {:>12} {:>12} {:>8}", "stage", "Rust ms", "library ms", "ratio");
     for stage in STAGES {
         let Some(theirs) = rust.0.get(stage) else { continue };
         let ms = |d: &Duration| d.as_nanos() as f64 / 1e6;
         match ours.0.get(stage) {
-            Some(mine) => println!("  {stage:<18} {:>12.4} {:>12.4} {:>8.2}", ms(theirs), ms(mine), ms(mine) / ms(theirs)),
+            Some(mine) => {
+                println!("  {stage:<18} {:>12.4} {:>12.4} {:>8.2}", ms(theirs), ms(mine), ms(mine) / ms(theirs))
+            }
             None => println!("  {stage:<18} {:>12.4} {:>12} {:>8}", ms(theirs), "-", "-"),
         }
     }
@@ -183,17 +219,36 @@ pub fn sheets(library: Library) {
 /// Dependent multiplications and inverses, to set crate field's benchmark beside.
 pub fn field() {
     let per = |n: u32, run: &mut dyn FnMut()| {
-        let best = (0..5).map(|_| { let start = Instant::now(); run(); start.elapsed() }).min().unwrap();
+        let best = (0..5)
+            .map(|_| {
+                let start = Instant::now();
+                run();
+                start.elapsed()
+            })
+            .min()
+            .unwrap();
         best.as_nanos() as f64 / n as f64
     };
     let (a, n) = (F::from(0x1234_5678_9abc_def1), 10_000_000);
     let mut x = F::from(3);
-    println!("multiplication, u128 product, reduced by 2^64 = 2^32 − 1: {:.2} ns", per(n, &mut || (0..n).for_each(|_| x = x * a)));
+    println!(
+        "multiplication, u128 product, reduced by 2^64 = 2^32 − 1: {:.2} ns",
+        per(n, &mut || (0..n).for_each(|_| x = x * a))
+    );
     let mut w = x.value();
-    println!("multiplication, u128 product % p:                         {:.2} ns", per(n, &mut || (0..n).for_each(|_| w = super::model::mul(w, 0x1234_5678_9abc_def1))));
+    println!(
+        "multiplication, u128 product % p:                         {:.2} ns",
+        per(n, &mut || (0..n).for_each(|_| w = super::model::mul(w, 0x1234_5678_9abc_def1)))
+    );
     let mut s = x;
-    println!("addition:                                                 {:.2} ns", per(n, &mut || (0..n).for_each(|_| s = s + a)));
+    println!(
+        "addition:                                                 {:.2} ns",
+        per(n, &mut || (0..n).for_each(|_| s = s + a))
+    );
     let n = 20_000;
-    println!("inverse, a^(p − 2):                                       {:.1} ns", per(n, &mut || (0..n).for_each(|_| x = x.invert().unwrap_or(F::ONE) + a)));
+    println!(
+        "inverse, a^(p − 2):                                       {:.1} ns",
+        per(n, &mut || (0..n).for_each(|_| x = x.invert().unwrap_or(F::ONE) + a))
+    );
     black_box((x, w, s));
 }

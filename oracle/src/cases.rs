@@ -50,7 +50,8 @@ pub fn row_sum_case(log: &Log, rng: &mut Rng) -> Option<Case> {
     let wide = rng.once_in(2);
     let challenges = [&log.challenges[..], &[value(rng, wide)]].concat();
     let y = (0..c.k).map(|_| value(rng, wide)).collect();
-    let case = answer("row_sum", vec![log.sections.words(), log.witness.clone(), words, composed_words(&c), challenges, y]);
+    let case =
+        answer("row_sum", vec![log.sections.words(), log.witness.clone(), words, composed_words(&c), challenges, y]);
     if log.meets && !altered && !zero && c.cuts_are_alike() {
         assert_eq!(case.returned, [0, 0], "demand 3");
     }
@@ -81,7 +82,8 @@ pub fn refused_build(log: Log, way: usize, second: Option<usize>, rng: &mut Rng)
     if number == 14 && second.is_none() && shorter(0) == needed[0] && shorter(1) == needed[1] {
         return None;
     }
-    let lengths = if b.short == [0; 2] { [length(rng, needed[0]), length(rng, needed[1])] } else { [shorter(0), shorter(1)] };
+    let lengths =
+        if b.short == [0; 2] { [length(rng, needed[0]), length(rng, needed[1])] } else { [shorter(0), shorter(1)] };
     let (columns, nodes) = (unwritten(rng, lengths[0]), unwritten(rng, lengths[1]));
     let mut lent = build_lent(&b.log, columns, nodes);
     lent[0] = b.words();

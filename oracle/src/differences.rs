@@ -73,7 +73,9 @@ pub fn differences() {
     }
     let mut s = base(1, 1);
     s.constraint(&Tree::EqXY(0));
-    show("EqXY(0) as a user constraint", &s, |i| format!("{}, compose of degree {}", well(i), run(|| compose(i).1.degree())));
+    show("EqXY(0) as a user constraint", &s, |i| {
+        format!("{}, compose of degree {}", well(i), run(|| compose(i).1.degree()))
+    });
     let mut s = base(2, 1);
     s.lookup(&[(Tree::Polynomial(0, 3), Tree::Polynomial(0, 0))]);
     show("a rotation beyond k (rotation 3 at k = 2, on 0 1 2 3)", &s, |i| {
@@ -83,7 +85,9 @@ pub fn differences() {
     for degree in [1025, 1 << 62] {
         let mut s = base(1, 1);
         s.constraint(&of_degree(degree));
-        show(&format!("a user constraint of degree {degree}, no maximum stated"), &s, |i| format!("{}, degree {}", well(i), i.constraints[0].degree()));
+        show(&format!("a user constraint of degree {degree}, no maximum stated"), &s, |i| {
+            format!("{}, degree {}", well(i), i.constraints[0].degree())
+        });
     }
     let mut s = base(1, 1);
     s.degree = 4;
@@ -133,7 +137,9 @@ pub fn differences() {
     let built = |i: &Info| run(|| lookup_compressed_polys(&i.lookups, &[&zeros(1)], &[], &f(&[1])).len());
     let mut s = base(1, 1);
     s.bodies[WIDTHS] = vec![0];
-    show("a lookup of width 0", &s, |i| format!("{}, compressed {}, compose {}", well(i), built(i), run(|| compose(i).0)));
+    show("a lookup of width 0", &s, |i| {
+        format!("{}, compressed {}, compose {}", well(i), built(i), run(|| compose(i).0))
+    });
     let mut s = base(1, 1);
     s.lookup(&[(Tree::EqXY(0), Tree::EqXY(0))]);
     show("EqXY(0) in a lookup", &s, |i| format!("{}, compressed {}", well(i), built(i)));
@@ -141,7 +147,9 @@ pub fn differences() {
     for (what, cycle) in [("row 0", vec![(0, 0)]), ("row 2^k", vec![(0, 2)]), ("an empty cycle", vec![])] {
         let mut s = base(1, 1);
         s.cycle(&cycle);
-        show(what, &s, |i| format!("{}, permutation_polys {}", well(i), run(|| permutation_polys::<F>(1, &[0], &i.permutations).len())));
+        show(what, &s, |i| {
+            format!("{}, permutation_polys {}", well(i), run(|| permutation_polys::<F>(1, &[0], &i.permutations).len()))
+        });
     }
     let mut s = base(1, 1);
     s.cycle(&[(9, 1)]);
@@ -153,11 +161,25 @@ pub fn differences() {
         Expr::Challenge(0).into(),
     );
     let value = rows(1, &list, &[f(&[1, 1]), f(&[10, 10])], &f(&[100]), &f(&[0]))[0].value();
-    println!("a list of p0, p1 by c0: `identifier` prints {}; with p0 = 1, p1 = 10, c0 = 100 it is {value}", list.identifier());
-    let list = Expr::DistributePowers(vec![Query::new(0, Rotation(0)).into()], Expr::from(Query::new(7, Rotation(0))).into());
-    println!("a list of one hides its base: degree {}, {} query (document 01's kind 11 has two Items or more)", list.degree(), list.used_query().len());
+    println!(
+        "a list of p0, p1 by c0: `identifier` prints {}; with p0 = 1, p1 = 10, c0 = 100 it is {value}",
+        list.identifier()
+    );
+    let list =
+        Expr::DistributePowers(vec![Query::new(0, Rotation(0)).into()], Expr::from(Query::new(7, Rotation(0))).into());
+    println!(
+        "a list of one hides its base: degree {}, {} query (document 01's kind 11 has two Items or more)",
+        list.degree(),
+        list.used_query().len()
+    );
     let m = lookup_m_poly(&[Poly::new(f(&[7, 7, 5, 9])), Poly::new(f(&[5, 7, 7, 9]))]).unwrap();
-    println!("a table row listed twice, table 5 7 7 9, inputs 7 7 5 9: m {:?}; Haböck's paper shares: 1 1 1 1", words(&m.evals));
+    println!(
+        "a table row listed twice, table 5 7 7 9, inputs 7 7 5 9: m {:?}; Haböck's paper shares: 1 1 1 1",
+        words(&m.evals)
+    );
     let h = lookup_h_poly(&[Poly::new(f(&[1, 1])), Poly::new(f(&[0, 1]))], &Poly::new(f(&[0, 2])), &F::from(P - 1));
-    println!("a zero denominator, input 1 1, table 0 1, m 0 2, γ = p − 1: h {:?} (batch_invert is a stand-in)", words(&h.evals));
+    println!(
+        "a zero denominator, input 1 1, table 0 1, m 0 2, γ = p − 1: h {:?} (batch_invert is a stand-in)",
+        words(&h.evals)
+    );
 }

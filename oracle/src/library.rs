@@ -107,7 +107,10 @@ impl Library {
             }
             for (buffer, (got, due)) in after.iter().zip(&case.after).enumerate() {
                 if let Some(at) = (0..due.len()).find(|i| got[*i] != due[*i]) {
-                    return Some(format!("({side} fence) buffer {buffer}, word {at}: {}, and {} is due", got[at], due[at]));
+                    return Some(format!(
+                        "({side} fence) buffer {buffer}, word {at}: {}, and {} is due",
+                        got[at], due[at]
+                    ));
                 }
             }
         }
@@ -191,7 +194,10 @@ impl Drop for Room {
 pub static RUNNING: AtomicU64 = AtomicU64::new(0);
 
 extern "C" fn on_fault(_: i32) {
-    let text = format!("case {}: a word outside the lent slices was touched, or the stack ran out\n", RUNNING.load(Ordering::Relaxed));
+    let text = format!(
+        "case {}: a word outside the lent slices was touched, or the stack ran out\n",
+        RUNNING.load(Ordering::Relaxed)
+    );
     unsafe {
         write(1, text.as_ptr(), text.len());
         _exit(1)
@@ -249,7 +255,9 @@ fn stub(name: &str, a: &[usize], library: Library) -> u64 {
         4 if number != 0 && number != 15 => drop(bump(0)),
         5 => case.returned[last] ^= 1,
         6 if name == "row_sum" => case.returned[1] = 0,
-        7 => drop(unsafe { ptr::read_volatile((places[0].max(places[1]) as *const u64).add(if places[0] == 0 { a[2] } else { a[1] })) }),
+        7 => drop(unsafe {
+            ptr::read_volatile((places[0].max(places[1]) as *const u64).add(if places[0] == 0 { a[2] } else { a[1] }))
+        }),
         8 => unsafe { ptr::write_volatile((places[kind.lent - 1] as *mut u64).sub(1), 0) },
         _ => {}
     }

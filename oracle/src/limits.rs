@@ -73,7 +73,9 @@ fn whole() -> Log {
         let tree = (0..13).fold(Tree::Polynomial(40 + i, 0), |t, _| Tree::Sum(t.into(), Tree::Constant(0).into()));
         s.constraint(&Tree::Scaled(tree.into(), 0));
     }
-    (0..1024).for_each(|i| s.cycle(&[(40 + i % 32, 1 + i % 1023), (40 + (i + 1) % 32, 1 + i % 1023), (i % 8, 1), (i % 8, 2)]));
+    (0..1024).for_each(|i| {
+        s.cycle(&[(40 + i % 32, 1 + i % 1023), (40 + (i + 1) % 32, 1 + i % 1023), (i % 8, 1), (i % 8, 2)])
+    });
     s.degree = 33;
     log_of(s)
 }
@@ -107,7 +109,16 @@ pub fn all() -> Vec<(u64, Log)> {
     pair(10, &|n| with(1, |s| s.constraint(&of_degree(n))), 1024);
     pair(10, &|n| with(1, |s| s.lookup(&[(of_degree(n), Tree::Constant(0))])), 1023);
     pair(10, &|n| with(1, |s| s.lookup(&[(of_degree(n), of_degree(512))])), 511);
-    pair(10, &|n| with(1, |s| { s.degree = 5; s.constraint(&of_degree(n)) }), 4);
+    pair(
+        10,
+        &|n| {
+            with(1, |s| {
+                s.degree = 5;
+                s.constraint(&of_degree(n))
+            })
+        },
+        4,
+    );
     pair(11, &|n| with(3, |s| s.cycle(&[(0, n)])), 7);
     pair(11, &|n| with(3, |s| s.cycle(&[(n, 1)])), 0);
     (0..3).for_each(|place| pair(13, &|n| value(place, n), P - 1));

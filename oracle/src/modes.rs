@@ -3,15 +3,11 @@ use super::bench;
 use super::calls::{Case, CALLS};
 use super::cases::{case, fixed};
 use super::differences::differences;
+use super::examples::examples;
 use super::library::{catch_faults, Library, FAULTS, RUNNING};
 use super::prove::through_prove;
 use super::stored;
-use std::{
-    collections::BTreeMap,
-    fs,
-    process::exit,
-    sync::atomic::Ordering,
-};
+use std::{collections::BTreeMap, fs, process::exit, sync::atomic::Ordering};
 
 fn option(name: &str) -> Option<String> {
     let mut args = std::env::args().skip_while(|a| a != name);
@@ -44,10 +40,11 @@ pub fn main() {
         "field" => bench::field(),
         "prove" => through_prove(seed, count),
         "differences" => differences(),
+        "examples" => examples(),
         "survey" => survey(seed, count),
         "faults" => println!("{}", FAULTS.len()),
         _ => {
-            eprintln!("usage: oracle/run cases|compare|sample|small|bench|field|prove|differences|survey|selftest [--seed S] [--count N] [--file F]");
+            eprintln!("oracle: see the head of oracle/run for the modes");
             exit(2);
         }
     }

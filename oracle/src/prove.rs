@@ -11,7 +11,7 @@ use crate::{
     backend::{PlonkishBackend, PlonkishCircuit},
     pcs::{Evaluation, PolynomialCommitmentScheme},
     rand::RngCore,
-    util::{arithmetic::Goldilocks as F, transcript::*, Itertools},
+    util::{arithmetic::Goldilocks as F, parallel::set_num_threads, transcript::*, Itertools},
     Error,
 };
 use std::{cell::RefCell, collections::VecDeque};
@@ -70,13 +70,7 @@ impl PolynomialCommitmentScheme<F> for Clear {
     ) -> Result<Vec<Vec<Vec<F>>>, Error> {
         (0..num_polys).map(|_| Ok(vec![transcript.read_commitment()?])).collect()
     }
-    fn verify(
-        _: &(),
-        _: &Vec<Vec<F>>,
-        _: &Vec<F>,
-        _: &F,
-        _: &mut impl TranscriptRead<Vec<F>, F>,
-    ) -> Result<(), Error> {
+    fn verify(_: &(), _: &Vec<Vec<F>>, _: &Vec<F>, _: &F, _: &mut impl TranscriptRead<Vec<F>, F>) -> Result<(), Error> {
         unreachable!()
     }
     fn batch_verify<'a>(
@@ -188,7 +182,9 @@ fn fails(log: &Log, composed: &Expr) -> bool {
         q.poly() < n && q.rotation().0 < 0 && log.info.num_instances[q.poly()] + q.rotation().distance() > places
     };
     // evaluate_for_rotation at a distance of k; no query to open; instance_evals.
-    composed.max_used_rotation_distance() >= k || pcs_query(composed, n).is_empty() || composed.used_query().iter().any(past_end)
+    composed.max_used_rotation_distance() >= k
+        || pcs_query(composed, n).is_empty()
+        || composed.used_query().iter().any(past_end)
 }
 
 /// On logs that meet their circuit: prove's columns are the stages', verify is content.
@@ -206,6 +202,11 @@ pub fn through_prove(seed: u64, count: u64) {
             continue;
         }
         let built = build(&given, &mut |_| {}).unwrap().0;
+        for threads in [2, 3, 64] {
+            set_num_threads(threads);
+            assert_eq!(build(&given, &mut |_| {}).unwrap().0, built, "cut for {threads} threads");
+            set_num_threads(1);
+        }
         let rest = f(&(0..1 + 2 * c.k).map(|_| 2 + rng.word() % (1 << 60)).collect_vec());
         let opened = proved(&given, &rest).unwrap_or_else(|e| panic!("{e:?} on {log:?}"));
         let all = (built.instance.iter().chain(&c.preprocess).cloned())
@@ -215,5 +216,7 @@ pub fn through_prove(seed: u64, count: u64) {
         assert_eq!(all, opened.iter().map(|p| words(p)).collect_vec());
         alike += 1;
     }
-    println!("{alike} logs through the Rust's prove and verify: its columns are the stages'; {passed_over} passed over");
+    println!(
+        "{alike} logs through the Rust's prove and verify: its columns are the stages'; {passed_over} passed over"
+    );
 }

@@ -111,7 +111,10 @@ pub fn read(w: &[u64]) -> Result<Circuit, u64> {
     ask(count(6) as u128 == total(&mut widths.iter().copied()) && count(8) as u128 == cells, 4)?;
     // 5
     let last = rounds.len() - 1;
-    ask(rounds.iter().enumerate().all(|(i, r)| r.0 > 0 && (i == last || r.1 > 0)) && body(0).iter().all(|l| *l < rows), 5)?;
+    ask(
+        rounds.iter().enumerate().all(|(i, r)| r.0 > 0 && (i == last || r.1 > 0)) && body(0).iter().all(|l| *l < rows),
+        5,
+    )?;
     // 6
     let nodes: Vec<[u64; 4]> = body(3).chunks(4).map(|n| [n[0], n[1], n[2], n[3]]).collect();
     let scalars = nodes.iter().filter(|n| n[0] == 1 || n[0] == 10).map(|n| n[3]);

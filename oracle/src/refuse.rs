@@ -66,8 +66,8 @@ fn set(s: &mut Sections, section: usize, at: Option<usize>, word: usize, to: u64
     changed
 }
 
-/// New nodes after the others, the last a constraint's root. Children are given
-/// as distances back from the first new node's place: 0 is the first new node.
+/// New nodes after the others, the last a constraint's root; they name each other
+/// by NEW + i, the i-th of them.
 fn constraint_of(s: &mut Sections, nodes: &[[u64; 4]]) -> bool {
     let at = s.count(NODES);
     for [kind, first, second, value] in nodes {
@@ -77,7 +77,6 @@ fn constraint_of(s: &mut Sections, nodes: &[[u64; 4]]) -> bool {
     s.bodies[CONSTRAINTS].push(at + nodes.len() as u64 - 1);
     s.count(NODES) <= 1024 && s.count(CONSTRAINTS) <= 32
 }
-/// NEW + i is the i-th new node.
 const NEW: u64 = 1 << 40;
 
 fn polynomial(p: u64, word: u64) -> [u64; 4] {
@@ -163,7 +162,10 @@ pub const WAYS: &[(u64, Way)] = &[
     // 5
     (5, sections!(|s, rng| { let at = entry(s, ROUNDS, rng); set(s, ROUNDS, at, 0, 0) })),
     (5, sections!(|s, _rng| s.count(ROUNDS) > 1 && set(s, ROUNDS, Some(0), 1, 0))),
-    (5, sections!(|s, rng| { let to = rng.pick(&[1 << s.k, MAX, TOP]); let at = entry(s, INSTANCES, rng); set(s, INSTANCES, at, 0, to) })),
+    (5, sections!(|s, rng| {
+        let (to, at) = (rng.pick(&[1 << s.k, MAX, TOP]), entry(s, INSTANCES, rng));
+        set(s, INSTANCES, at, 0, to)
+    })),
     // 6
     (6, sections!(|s, rng| {
         let word = rng.below(1 << s.k);
@@ -175,7 +177,10 @@ pub const WAYS: &[(u64, Way)] = &[
     (6, node!([1, 7, 7, P])),
     (6, node!([10, MAX, 3, MAX])),
     // 7
-    (7, |b, rng| { let kind = rng.pick(&[0, 13, MAX, (1 << 32) + 1]); constraint_of(&mut b.log.sections, &[[kind, 0, 0, 0]]) }),
+    (7, |b, rng| {
+        let kind = rng.pick(&[0, 13, MAX, (1 << 32) + 1]);
+        constraint_of(&mut b.log.sections, &[[kind, 0, 0, 0]])
+    }),
     (7, node!([1, 1, 0, 0])),
     (7, node!([1, 0, 1, 0])),
     (7, node!([2, 0, 0, 1])),
@@ -219,10 +224,26 @@ pub const WAYS: &[(u64, Way)] = &[
     (7, node!(CONSTANT, CONSTANT, CONSTANT, LAST, [12, NEW + 1, NEW + 3 + (1 << 62), 1], [11, NEW + 2, NEW + 4, 0])),
     // Nodes named by none or twice; roots that are none.
     (7, sections!(|s, _rng| { s.bodies[NODES].extend(CONSTANT); room(s) })),
-    (7, sections!(|s, rng| match entry(s, CONSTRAINTS, rng) { Some(at) => { let root = s.bodies[CONSTRAINTS][at]; s.bodies[CONSTRAINTS].push(root); room(s) } None => false })),
-    (7, sections!(|s, rng| { let to = rng.pick(&[s.count(NODES), MAX, 1 << 62]); let at = entry(s, CONSTRAINTS, rng); set(s, CONSTRAINTS, at, 0, to) })),
-    (7, sections!(|s, rng| { let to = rng.pick(&[s.count(NODES), MAX, 1 << 62]); let at = entry(s, PAIRS, rng); let word = rng.below(2); set(s, PAIRS, at, word, to) })),
-    (7, sections!(|s, rng| match entry(s, PAIRS, rng) { Some(at) => { let root = s.bodies[PAIRS][at]; set(s, PAIRS, Some(at), 1, root) } None => false })),
+    (7, sections!(|s, rng| {
+        let root = entry(s, CONSTRAINTS, rng).map(|at| s.bodies[CONSTRAINTS][at]);
+        s.bodies[CONSTRAINTS].extend(root);
+        root.is_some() && room(s)
+    })),
+    (7, sections!(|s, rng| {
+        let to = rng.pick(&[s.count(NODES), MAX, 1 << 62]);
+        let at = entry(s, CONSTRAINTS, rng);
+        set(s, CONSTRAINTS, at, 0, to)
+    })),
+    (7, sections!(|s, rng| {
+        let (to, word) = (rng.pick(&[s.count(NODES), MAX, 1 << 62]), rng.below(2));
+        let at = entry(s, PAIRS, rng);
+        set(s, PAIRS, at, word, to)
+    })),
+    (7, sections!(|s, rng| {
+        let at = entry(s, PAIRS, rng);
+        let root = at.map_or(0, |at| s.bodies[PAIRS][at]);
+        set(s, PAIRS, at, 1, root)
+    })),
     // 8
     (8, |b, _| { let p = b.log.sections.polys(); constraint_of(&mut b.log.sections, &[polynomial(p, ZERO)]) }),
     (8, |b, rng| { let p = rng.pick(&[MAX, TOP, 1 << 32]); constraint_of(&mut b.log.sections, &[polynomial(p, ZERO)]) }),
@@ -244,7 +265,11 @@ pub const WAYS: &[(u64, Way)] = &[
     (10, sections!(|s, rng| { s.degree = rng.range(1, 5) as u64; let d = s.degree; s.constraint(&of_degree(d)); room(s) })),
     (10, sections!(|s, _rng| { s.degree = 0; s.constraint(&of_degree(1025)); room(s) })),
     (10, sections!(|s, _rng| { s.degree = 0; s.lookup(&[(of_degree(1024), Tree::Constant(0))]); room(s) })),
-    (10, sections!(|s, _rng| { s.degree = 0; s.lookup(&[(Tree::Constant(0), of_degree(16)), (of_degree(1008), Tree::Constant(0))]); room(s) })),
+    (10, sections!(|s, _rng| {
+        s.degree = 0;
+        s.lookup(&[(Tree::Constant(0), of_degree(16)), (of_degree(1008), Tree::Constant(0))]);
+        room(s)
+    })),
     (10, sections!(|s, _rng| { s.degree = 33; s.constraint(&of_degree(33)); room(s) })),
     // 2^64 and 2^66: as u64 both are 0.
     (10, tree!(Tree::Product(of_degree(TOP).into(), of_degree(TOP).into()))),
@@ -264,7 +289,10 @@ pub const WAYS: &[(u64, Way)] = &[
     (12, |b, _| b.log.challenges.pop().is_some()),
     (12, |b, _| { b.log.witness.clear(); true }),
     // 13
-    (13, |b, rng| { let at = rng.below(b.log.instance.len().max(1)); b.log.instance.get_mut(at).map(|w| *w = big(rng)).is_some() }),
+    (13, |b, rng| {
+        let at = rng.below(b.log.instance.len().max(1));
+        b.log.instance.get_mut(at).map(|w| *w = big(rng)).is_some()
+    }),
     (13, |b, rng| { let at = rng.below(b.log.witness.len()); b.log.witness[at] = big(rng); true }),
     (13, |b, rng| { let at = rng.below(b.log.challenges.len()); b.log.challenges[at] = big(rng); true }),
     // 14

@@ -150,7 +150,13 @@ pub fn features(case: &Case) -> BTreeSet<String> {
         saw(if cycle.len() == 1 { "single-cell cycle".into() } else { "longer cycle".into() });
         for cell in cycle {
             let (i, p) = (c.instances.len() as u64, c.preprocess.len() as u64);
-            let of = if cell.0 < i { "an instance" } else if cell.0 < i + p { "a preprocess" } else { "a witness" };
+            let of = if cell.0 < i {
+                "an instance"
+            } else if cell.0 < i + p {
+                "a preprocess"
+            } else {
+                "a witness"
+            };
             saw(format!("cell of {of} column"));
             if !cells.insert(*cell) {
                 saw("cycles that meet".into());
@@ -159,7 +165,13 @@ pub fn features(case: &Case) -> BTreeSet<String> {
     }
     for node in case.lent[0][case.lent[0][8] as usize..case.lent[0][10] as usize].chunks(4) {
         saw(format!("node kind {:>2}", node[0]));
-        let sign = if node[3] < 1 << 31 { "negative" } else if node[3] > 1 << 31 { "positive" } else { "0" };
+        let sign = if node[3] < 1 << 31 {
+            "negative"
+        } else if node[3] > 1 << 31 {
+            "positive"
+        } else {
+            "0"
+        };
         if node[0] == 3 || node[0] == 5 {
             saw(format!("{} {sign}", if node[0] == 3 { "Lagrange" } else { "rotation" }));
         }

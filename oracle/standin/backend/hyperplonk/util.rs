@@ -6,6 +6,7 @@ mod bench;
 mod calls;
 mod cases;
 mod differences;
+mod examples;
 mod generate;
 mod given;
 mod library;

@@ -1,0 +1,74 @@
+//! Document 01's worked examples, by the Rust and by the model; the stand-in's
+//! field against products taken modulo p; the row order for every k it has.
+use super::super::{
+    preprocessor::permutation_polys,
+    prover::{lookup_compressed_polys, lookup_m_poly},
+};
+use super::given::{build, f, words, Expr, Log, Poly};
+use super::model::{self, m_column, next, order, prev, P};
+use super::questions::read;
+use super::sections::*;
+use crate::util::{
+    arithmetic::{BooleanHypercube, Field, Goldilocks as F},
+    expression::Rotation,
+    Itertools,
+};
+
+pub fn examples() {
+    let rust_order = |k| BooleanHypercube::new(k).iter().collect_vec();
+    assert_eq!(rust_order(2), [0, 1, 2, 3]);
+    assert_eq!(rust_order(3), [0, 1, 2, 4, 3, 6, 7, 5]);
+    assert_eq!((BooleanHypercube::new(3).rotate(1, Rotation(-1)), prev(3, 1)), (5, 5));
+    for k in 1..=10 {
+        assert_eq!(rust_order(k), order(k));
+        assert!((0..1 << k)
+            .all(|b| next(k, b) == BooleanHypercube::new(k).rotate(b, Rotation(1)) && prev(k, next(k, b)) == b));
+    }
+    for k in 0..32 {
+        let bh = BooleanHypercube::new(k);
+        assert_eq!(bh.x_inv(), bh.primitive() / 2);
+    }
+    for k in 1..=20 {
+        let (bh, mut seen, mut b) = (BooleanHypercube::new(k), vec![false; 1 << k], 1);
+        for _ in 1..1usize << k {
+            assert!(b != 0 && !std::mem::replace(&mut seen[b], true));
+            b = bh.rotate(b, Rotation(1));
+        }
+        assert_eq!((b, bh.rotate(0, Rotation(1)), bh.rotate(0, Rotation(-1))), (1, 0, 0));
+    }
+    let lagrange = |i: i32| {
+        let lookup = vec![vec![(Expr::lagrange(i), Expr::zero())]];
+        words(&lookup_compressed_polys(&lookup, &[&Poly::new(f(&[0; 8]))], &[], &f(&[1]))[0][0].evals)
+    };
+    assert_eq!(lagrange(-1), [0, 0, 0, 0, 0, 1, 0, 0]);
+    assert_eq!(lagrange(8), [1, 0, 0, 0, 0, 0, 0, 0]);
+    let table = [5, 7, 7, 9];
+    for (input, m) in [([7, 7, 5, 9], Ok(vec![1, 0, 2, 1])), ([6, 7, 5, 9], Err(15))] {
+        let rust = lookup_m_poly(&[Poly::new(f(&input)), Poly::new(f(&table))]);
+        assert_eq!((rust.map(|m| words(&m.evals)).map_err(|_| 15), m_column(&input, &table)), (m.clone(), m));
+    }
+    let labels = permutation_polys::<F>(2, &[0, 1], &[vec![(0, 1), (1, 2)]]);
+    assert_eq!(labels.iter().map(|p| words(&p.evals)).collect_vec(), [[0, 6, 2, 3], [4, 5, 1, 7]]);
+    assert_eq!((F::from(1 << 32) * F::from(1 << 32)).value(), 4294967295);
+    assert_eq!(F::from(2).invert().unwrap().value(), 9223372034707292161);
+    let mut s = Sections { k: 1, ..Default::default() };
+    s.bodies[ROUNDS] = vec![1, 0];
+    s.cycle(&[(0, 1)]);
+    assert_eq!(build(&Log::of(&s.words(), &[], &[3, 4], &[5, 6]), &mut |_| {}).unwrap().0.z, [[0, 1]]);
+    let mut s = Sections { k: 1, degree: 6, ..Default::default() };
+    s.bodies[ROUNDS] = vec![5, 0];
+    s.cycle(&(0..5).map(|p| (p, 1)).collect_vec());
+    let c = read(&s.words()).unwrap();
+    assert_eq!((c.copied().len(), c.d(), c.parts(), c.cuts_are_alike()), (5, 5, 2, false));
+
+    let mut rng = Rng::new(5);
+    let edges = [0, 1, 2, 7, 0xffff_fffe, 0xffff_ffff, 1 << 32, (1 << 32) + 1, 1 << 63, P / 2, P - 2, P - 1];
+    let values = edges.into_iter().chain((0..500).map(|_| rng.word() % P)).collect_vec();
+    for (a, b) in values.iter().flat_map(|a| values.iter().map(move |b| (*a, *b))) {
+        let (x, y) = (F::from(a), F::from(b));
+        let rust = [x * y, x + y, x - y, -x].map(F::value);
+        assert_eq!(rust, [model::mul(a, b), model::add(a, b), model::sub(a, b), model::neg(a)]);
+    }
+    assert!(values.iter().all(|a| *a == 0 || model::mul(*a, F::from(*a).invert().unwrap().value()) == 1));
+    println!("document 01's examples hold; the field is Z/p; halving for k 0 to 31, full order for k 1 to 20");
+}
