@@ -222,7 +222,17 @@ pub fn demo() -> Log {
     Log { sections: s, instance: vec![5, 11], witness, challenges: vec![1000003, 777], meets: true }
 }
 
-/// The demo and the limits: built, and summed where they are accepted.
+/// A refusal by this way, on the first small log that it fits.
+pub fn refused_by(way: usize, fits: impl Fn(&Case, u64) -> bool) -> Option<Case> {
+    (0..400).find_map(|seed| {
+        let rng = &mut Rng::narrow(1000 * way as u64 + seed);
+        let log = generate::log(rng, true);
+        refused_build(log, way, None, rng).filter(|case| fits(case, seed))
+    })
+}
+
+/// The demo and the limits, built, and summed where they are accepted; every way
+/// to be refused.
 pub fn fixed() -> Vec<Case> {
     let rng = &mut Rng::new(4);
     let mut out = vec![];
@@ -237,5 +247,6 @@ pub fn fixed() -> Vec<Case> {
             out.push(case);
         }
     }
+    out.extend((0..WAYS.len()).map(|way| refused_by(way, |_, _| true).expect("a log for each way")));
     out
 }

@@ -1,8 +1,8 @@
 //! Stored answers: the sample that the replay reads, a handful of small whole
 //! circuits, and what cases are made of.
 use super::calls::{Case, CALLS};
-use super::cases::{build_case, build_lent, case, demo, refused_build, row_sum_case};
-use super::generate::{self, Log};
+use super::cases::{build_case, build_lent, case, demo, refused_build, refused_by, row_sum_case};
+use super::generate::Log;
 use super::given::answer;
 use super::model::{columns, Tree, P};
 use super::questions::read as read_circuit;
@@ -32,19 +32,12 @@ fn file(command: &str, cases: &[Case]) -> String {
 
 /// Every way to be refused, on small circuits; then drawn cases, each short.
 pub fn sample() -> String {
-    let mut cases = vec![];
-    for way in 0..WAYS.len() {
-        cases.extend((0..400).find_map(|seed| {
-            let rng = &mut Rng::narrow(1000 * way as u64 + seed);
-            let log = generate::log(rng, true);
-            let made = refused_build(log, way, None, rng)?;
-            (made.text().len() < 1500 || seed > 200).then_some(made)
-        }));
-    }
+    let short = |case: &Case, seed: u64| case.text().len() < 1500 || seed > 200;
+    let mut cases: Vec<Case> = (0..WAYS.len()).filter_map(|way| refused_by(way, short)).collect();
     for (i, call) in CALLS.iter().enumerate() {
         let want = [110, 70, 30, 30, 20][i];
-        let short = (0..).map(|n| case(7, n, true)).filter(|c| c.call == call.name && c.text().len() < 1400);
-        cases.extend(short.take(want));
+        let drawn = (0..).map(|n| case(7, n, true)).filter(|c| c.call == call.name && c.text().len() < 1400);
+        cases.extend(drawn.take(want));
     }
     file("oracle/run sample", &cases)
 }
