@@ -1,6 +1,6 @@
 //! Stored answers: the sample that the replay reads, a handful of small whole
 //! circuits, and what cases are made of.
-use super::calls::{Case, CALLS};
+use super::calls::Case;
 use super::cases::{build_case, build_lent, case, demo, refused_build, refused_by, row_sum_case};
 use super::generate::Log;
 use super::given::answer;
@@ -32,12 +32,19 @@ fn file(command: &str, cases: &[Case]) -> String {
 
 /// Every way to be refused, on small circuits; then drawn cases, each short.
 pub fn sample() -> String {
-    let short = |case: &Case, seed: u64| case.text().len() < 1500 || seed > 200;
+    let short = |case: &Case, seed: u64| case.text().len() < 900 || seed > 200;
     let mut cases: Vec<Case> = (0..WAYS.len()).filter_map(|way| refused_by(way, short)).collect();
-    for (i, call) in CALLS.iter().enumerate() {
-        let want = [110, 70, 30, 30, 20][i];
-        let drawn = (0..).map(|n| case(7, n, true)).filter(|c| c.call == call.name && c.text().len() < 1400);
-        cases.extend(drawn.take(want));
+    let drawn = |call: &'static str, refused: bool, most: usize| {
+        let fits = move |c: &Case| c.call == call && (c.returned[0] != 0) == refused && c.text().len() < most;
+        (0..).map(|n| case(7, n, true)).filter(fits)
+    };
+    cases.extend(drawn("build", false, 2600).take(60));
+    cases.extend(drawn("build", true, 1500).filter(|c| c.returned[0] == 15).take(8));
+    cases.extend(drawn("row_sum", false, 1600).take(40));
+    cases.extend(drawn("row_sum", true, 1200).take(30));
+    for stage in ["lookup_m_poly", "lookup_h_poly", "eq_xy"] {
+        cases.extend(drawn(stage, false, 1200).take(18));
+        cases.extend(drawn(stage, true, 1200).take(10));
     }
     file("oracle/run sample", &cases)
 }

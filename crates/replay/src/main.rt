@@ -3,7 +3,6 @@
 // lengths they state; a refusal returns zeros after its number and leaves its buffers, but for 15; words past those
 // written stay.
 ghost use Prim.Native.Nat.{_≤_};
-
 use libc::STDOUT_FILENO;
 
 struct Number {
@@ -28,18 +27,38 @@ fn digit(byte: u8) -> u64
 // The number with one more digit; not good where it would pass 2^64 - 1.
 fn append(value: u64, digit: u64, next: usize) -> Number {
     if digit > 9 {
-        return Number { value: 0, next: next, good: false };
+        return Number {
+            value: 0,
+            next: next,
+            good: false,
+        };
     }
     if value > 1844674407370955161 {
-        return Number { value: 0, next: next, good: false };
+        return Number {
+            value: 0,
+            next: next,
+            good: false,
+        };
     }
     if value == 1844674407370955161 {
         if digit > 5 {
-            return Number { value: 0, next: next, good: false };
+            return Number {
+                value: 0,
+                next: next,
+                good: false,
+            };
         }
-        return Number { value: 18446744073709551610 + digit, next: next, good: true };
+        return Number {
+            value: 18446744073709551610 + digit,
+            next: next,
+            good: true,
+        };
     }
-    Number { value: value * 10 + digit, next: next, good: true }
+    Number {
+        value: value * 10 + digit,
+        next: next,
+        good: true,
+    }
 }
 
 // The decimal number at a place, and the place after it.
@@ -49,7 +68,11 @@ fn read_number(text: &[u8], at: usize) -> Number {
     while i < text.len() {
         let d = digit(text[i]);
         if d > 9 {
-            return Number { value: value, next: i, good: i > at };
+            return Number {
+                value: value,
+                next: i,
+                good: i > at,
+            };
         }
         let more = append(value, d, i);
         if !more.good {
@@ -58,7 +81,11 @@ fn read_number(text: &[u8], at: usize) -> Number {
         value = more.value;
         i += 1;
     }
-    Number { value: value, next: i, good: i > at }
+    Number {
+        value: value,
+        next: i,
+        good: i > at,
+    }
 }
 
 // A line of words, and where it left off in the text and in the words.
@@ -69,7 +96,11 @@ struct Line {
 }
 
 fn bad_line() -> Line {
-    Line { next: 0, end: 0, good: false }
+    Line {
+        next: 0,
+        end: 0,
+        good: false,
+    }
 }
 
 // Reads the line at a place: numbers with one space between, into the words from a place on.
@@ -94,7 +125,11 @@ fn read_line(text: &[u8], at: usize, words: &mut [u64], from: usize) -> Line {
             return bad_line();
         }
         if text[next] == b'\n' {
-            return Line { next: next + 1, end: n, good: true };
+            return Line {
+                next: next + 1,
+                end: n,
+                good: true,
+            };
         }
         if text[next] != b' ' {
             return bad_line();
@@ -105,7 +140,13 @@ fn read_line(text: &[u8], at: usize, words: &mut [u64], from: usize) -> Line {
 }
 
 // Reads the lines of a block: the words of line j stand from starts[j] on, their number first, as the line has it.
-fn read_block(text: &[u8], at: usize, lines: usize, words: &mut [u64], starts: &mut [usize]) -> Line {
+fn read_block(
+    text: &[u8],
+    at: usize,
+    lines: usize,
+    words: &mut [u64],
+    starts: &mut [usize],
+) -> Line {
     let mut i = at;
     let mut from: usize = 0;
     let mut j: usize = 0;
@@ -132,7 +173,11 @@ fn read_block(text: &[u8], at: usize, lines: usize, words: &mut [u64], starts: &
         i = read.next;
         j += 1;
     }
-    Line { next: i, end: from, good: true }
+    Line {
+        next: i,
+        end: from,
+        good: true,
+    }
 }
 
 // Have the slices at a and at b the same length, and the same words after the first `skip`?
@@ -231,20 +276,46 @@ fn number_then_zeros(words: &[u64], a: usize, n: u64) -> bool {
 // The calls: build 0, row_sum 1, lookup_m_poly 2, lookup_h_poly 3, eq_xy 4.
 const CALLS: usize = 5;
 
-// How many slices are lent, from which on they are buffers, and how many words come back.
+// How many slices are lent, from which on they are buffers, how many words come back, and the lines of a block.
 struct Shape {
     lent: usize,
     buffers: usize,
     returned: u64,
+    lines: usize,
 }
 
 fn shape_of(call: usize) -> Shape {
     match call {
-        0 => Shape { lent: 6, buffers: 4, returned: 4 },
-        1 => Shape { lent: 6, buffers: 6, returned: 2 },
-        2 => Shape { lent: 4, buffers: 3, returned: 1 },
-        3 => Shape { lent: 6, buffers: 5, returned: 1 },
-        _ => Shape { lent: 3, buffers: 2, returned: 1 },
+        0 => Shape {
+            lent: 6,
+            buffers: 4,
+            returned: 4,
+            lines: 9,
+        },
+        1 => Shape {
+            lent: 6,
+            buffers: 6,
+            returned: 2,
+            lines: 7,
+        },
+        2 => Shape {
+            lent: 4,
+            buffers: 3,
+            returned: 1,
+            lines: 6,
+        },
+        3 => Shape {
+            lent: 6,
+            buffers: 5,
+            returned: 1,
+            lines: 8,
+        },
+        _ => Shape {
+            lent: 3,
+            buffers: 2,
+            returned: 1,
+            lines: 5,
+        },
     }
 }
 
@@ -300,6 +371,186 @@ fn after_line(text: &[u8], at: usize) -> usize {
     i
 }
 
+// How many words of a buffer a success writes: the building call says so, a stage writes 2^k.
+fn written(call: usize, is_nodes: bool, words: &[u64], returned: usize, k: u64) -> u64 {
+    if call == 0 {
+        if returned >= words.len() {
+            return 0;
+        }
+        if words.len() - returned < 4 {
+            return 0;
+        }
+        if is_nodes {
+            let nodes = words[returned + 3];
+            if nodes > 100000 {
+                return 0;
+            }
+            return 4 * nodes;
+        }
+        return words[returned + 2];
+    }
+    if k > 10 {
+        return 0;
+    }
+    1 << k
+}
+
+// Is the buffer at b what the one at a may become under this number?
+fn is_after(words: &[u64], a: usize, b: usize, number: u64, is_nodes: bool, written: u64) -> bool {
+    if number == 0 {
+        return kept(words, a, b, written);
+    }
+    if number == 15 {
+        if !is_nodes {
+            return zeroed(words, a, b);
+        }
+    }
+    kept(words, a, b, 0)
+}
+
+// What a block shows.
+const WRONG: u64 = 0;
+
+const DONE: u64 = 1;
+
+const REFUSED: u64 = 2;
+
+fn judge(call: usize, words: &[u64], starts: &[usize]) -> u64 {
+    let shape = shape_of(call);
+    let lent = shape.lent;
+    let buffers = shape.buffers;
+    if starts.len() < 9 {
+        return WRONG;
+    }
+    if lent > 6 {
+        return WRONG;
+    }
+    let returned = starts[lent];
+    if returned >= words.len() {
+        return WRONG;
+    }
+    if words.len() - returned < 2 {
+        return WRONG;
+    }
+    if words[returned] != shape.returned {
+        return WRONG;
+    }
+    let number = words[returned + 1];
+    let k = words[1];
+    if buffers < lent {
+        let most = written(call, false, words, returned, k);
+        if !is_after(
+            words,
+            starts[buffers],
+            starts[lent + 1],
+            number,
+            false,
+            most,
+        ) {
+            return WRONG;
+        }
+        if buffers + 1 < lent {
+            let most = written(call, true, words, returned, k);
+            if !is_after(
+                words,
+                starts[buffers + 1],
+                starts[lent + 2],
+                number,
+                true,
+                most,
+            ) {
+                return WRONG;
+            }
+        }
+    }
+    if number == 0 {
+        return DONE;
+    }
+    if !number_then_zeros(words, returned, shape.returned) {
+        return WRONG;
+    }
+    REFUSED
+}
+
+// Counts one more at a place: blocks by call, refusals by call from 5 on, and at 10 blocks that are not right.
+fn count(counts: &mut [u64], at: usize) {
+    if at < counts.len() {
+        if counts[at] < 1000000 {
+            counts[at] += 1;
+        }
+    }
+}
+
+// Takes a line of the head, an empty line or a block; answers the place after it, or the text's end where no block is.
+fn turn(
+    text: &[u8],
+    at: usize,
+    words: &mut [u64],
+    starts: &mut [usize],
+    counts: &mut [u64],
+) -> usize {
+    if at >= text.len() {
+        return at;
+    }
+    if text[at] == b'#' {
+        return after_line(text, at);
+    }
+    if text[at] == b'\n' {
+        return at + 1;
+    }
+    let call = call_at(text, at);
+    let shape = shape_of(call);
+    let read = read_block(text, after_line(text, at), shape.lines, words, starts);
+    let mut shown = WRONG;
+    if call < CALLS && read.good {
+        shown = judge(call, words, starts);
+    }
+    if shown == WRONG {
+        count(counts, 10);
+        return text.len();
+    }
+    count(counts, call);
+    if shown == REFUSED {
+        if call < CALLS {
+            count(counts, call + 5);
+        }
+    }
+    read.next
+}
+
+fn all_turns(text: &[u8], words: &mut [u64], starts: &mut [usize], counts: &mut [u64]) {
+    let mut at: usize = 0;
+    while at < text.len() {
+        let next = turn(text, at, words, starts, counts);
+        if next <= at {
+            return;
+        }
+        at = next;
+    }
+}
+
+fn print_count(name: &[u8], counts: &[u64], at: usize) {
+    io::write_all(STDOUT_FILENO, name);
+    if at < counts.len() {
+        io::print_decimal(STDOUT_FILENO, counts[at]);
+    }
+}
+
+fn print_counts(counts: &[u64]) {
+    print_count(b"build ", counts, 0);
+    print_count(b", refused ", counts, 5);
+    print_count(b"\nrow_sum ", counts, 1);
+    print_count(b", refused ", counts, 6);
+    print_count(b"\nlookup_m_poly ", counts, 2);
+    print_count(b", refused ", counts, 7);
+    print_count(b"\nlookup_h_poly ", counts, 3);
+    print_count(b", refused ", counts, 8);
+    print_count(b"\neq_xy ", counts, 4);
+    print_count(b", refused ", counts, 9);
+    print_count(b"\nnot right ", counts, 10);
+    io::write_all(STDOUT_FILENO, b"\n");
+}
+
 fn main() {
     let mut path = io::buffer();
     let length = os::arg(1, &mut path);
@@ -311,5 +562,9 @@ fn main() {
     let mut text = [0u8; 400000];
     let n = io::read_full(fd, &mut text);
     libc::close(fd);
-    io::print_decimal(STDOUT_FILENO, n as u64);
+    let mut words = [0u64; 8192];
+    let mut starts = [0usize; 9];
+    let mut counts = [0u64; 11];
+    all_turns(&text[..n], &mut words, &mut starts, &mut counts);
+    print_counts(&counts);
 }
