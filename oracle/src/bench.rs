@@ -233,7 +233,7 @@ pub fn field() {
     let mut x = F::from(3);
     println!(
         "multiplication, u128 product, reduced by 2^64 = 2^32 − 1: {:.2} ns",
-        per(n, &mut || (0..n).for_each(|_| x = x * a))
+        per(n, &mut || (0..n).for_each(|_| x = x * black_box(a)))
     );
     let mut w = x.value();
     println!(
@@ -243,7 +243,7 @@ pub fn field() {
     let mut s = x;
     println!(
         "addition:                                                 {:.2} ns",
-        per(n, &mut || (0..n).for_each(|_| s = s + a))
+        per(n, &mut || (0..n).for_each(|_| s = s + black_box(a)))
     );
     let n = 20_000;
     println!(

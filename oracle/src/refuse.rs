@@ -26,8 +26,8 @@ impl Broken {
         let mut words = self.log.sections.words();
         for edit in &self.edits {
             match edit {
-                Edit::Set(at, to) => words[*at] = *to,
-                Edit::Add(at, by) => words[*at] = words[*at].wrapping_add(*by),
+                Edit::Set(at, to) => words.iter_mut().skip(*at).take(1).for_each(|w| *w = *to),
+                Edit::Add(at, by) => words.iter_mut().skip(*at).take(1).for_each(|w| *w = w.wrapping_add(*by)),
                 Edit::Length(n) => words.truncate(*n),
                 Edit::More(word) => words.push(*word),
                 Edit::Less => drop(words.pop()),
