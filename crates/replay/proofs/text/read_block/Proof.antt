@@ -1,14 +1,11 @@
-use Prim.Native.Nat.{_≤_, _-_}
-use mathlib.Core.Path.{_≡_, _∙_}
+-- `replay::read_block` is safe and ends. The lent slices keep their lengths; the measure is what is left. Assumes nothing.
+use Prim.Native.Nat.{_-_}
+use mathlib.Core.Path.{_≡_}
 use borrow.Author.Needs.{needs}
 use native.Mathlib.Omega.{arith}
 use lib.ListN.{length, length-set}
-use Rattle.replay.proofs.read_block.Statement.{statement}
-use Rattle.replay.proofs.read_block.Tie as tie
-use Rattle.replay.proofs.read_block.Reads as reads
-use Rattle.replay.proofs.read_block.Lts as lts
-use Rattle.replay.proofs.bad_line.Reads as bad-line-reads
-use Rattle.replay.proofs.read_line.Reads as read-line-reads
+use Rattle.replay.proofs.text.read_block.Statement.{statement}
+use Rattle.replay.proofs.text.read_block.Tie as tie
 
 abbrev Inv-loop : tie.InvT-loop
 Inv-loop text at lines words₀ starts₀ i₀ from₀ j₀ words starts i from j = (length words ≡ length words₀) × (length starts ≡ length starts₀)
@@ -16,139 +13,105 @@ Inv-loop text at lines words₀ starts₀ i₀ from₀ j₀ words starts i from 
 abbrev μ-loop : tie.MeasureT-loop
 μ-loop text at lines words₀ starts₀ i₀ from₀ j₀ words starts i from j = lines - j
 
--- src/main.rt:112:5
 loop-holds : tie.Need-loop-holds Inv-loop μ-loop
 loop-holds c = search needs
 
--- src/main.rt:113:13
 read-line-requires : tie.Need-read-line-requires Inv-loop μ-loop
 read-line-requires c κs = search needs
 
--- src/main.rt:116:13
 bad-line-requires : tie.Need-bad-line-requires Inv-loop μ-loop
 bad-line-requires c κs = search needs
 
--- src/main.rt:116:13
 same-length : tie.Need-same-length Inv-loop μ-loop
 same-length c = search needs
 
--- src/main.rt:116:13
 same-length-2 : tie.Need-same-length-2 Inv-loop μ-loop
 same-length-2 c = search needs
 
--- src/main.rt:116:13
 returns : tie.Need-returns Inv-loop μ-loop
 returns c = search needs
 
--- src/main.rt:119:13
 bad-line-requires-2 : tie.Need-bad-line-requires-2 Inv-loop μ-loop
 bad-line-requires-2 c κs = search needs
 
--- src/main.rt:119:13
 same-length-3 : tie.Need-same-length-3 Inv-loop μ-loop
 same-length-3 c = search needs
 
--- src/main.rt:119:13
 same-length-4 : tie.Need-same-length-4 Inv-loop μ-loop
 same-length-4 c = search needs
 
--- src/main.rt:119:13
 returns-2 : tie.Need-returns-2 Inv-loop μ-loop
 returns-2 c = search needs
 
--- src/main.rt:122:13
 bad-line-requires-3 : tie.Need-bad-line-requires-3 Inv-loop μ-loop
 bad-line-requires-3 c κs = search needs
 
--- src/main.rt:122:13
 same-length-5 : tie.Need-same-length-5 Inv-loop μ-loop
 same-length-5 c = search needs
 
--- src/main.rt:122:13
 same-length-6 : tie.Need-same-length-6 Inv-loop μ-loop
 same-length-6 c = search needs
 
--- src/main.rt:122:13
 returns-3 : tie.Need-returns-3 Inv-loop μ-loop
 returns-3 c = search needs
 
--- src/main.rt:124:12
 mul-if4 : tie.Need-mul-if4 Inv-loop μ-loop
 mul-if4 c = search needs
 
--- src/main.rt:124:12
 slice-read-if4 : tie.Need-slice-read-if4 Inv-loop μ-loop
 slice-read-if4 c = search needs
 
--- src/main.rt:124:28
 sub-if4 : tie.Need-sub-if4 Inv-loop μ-loop
 sub-if4 c = search needs
 
--- src/main.rt:124:28
 sub-if4-2 : tie.Need-sub-if4-2 Inv-loop μ-loop
 sub-if4-2 c = search needs
 
--- src/main.rt:125:13
 bad-line-requires-4 : tie.Need-bad-line-requires-4 Inv-loop μ-loop
 bad-line-requires-4 c κs = search needs
 
--- src/main.rt:125:13
 same-length-7 : tie.Need-same-length-7 Inv-loop μ-loop
 same-length-7 c = search needs
 
--- src/main.rt:125:13
 same-length-8 : tie.Need-same-length-8 Inv-loop μ-loop
 same-length-8 c = search needs
 
--- src/main.rt:125:13
 returns-4 : tie.Need-returns-4 Inv-loop μ-loop
 returns-4 c = search needs
 
--- src/main.rt:128:13
 bad-line-requires-5 : tie.Need-bad-line-requires-5 Inv-loop μ-loop
 bad-line-requires-5 c κs = search needs
 
--- src/main.rt:128:13
 same-length-9 : tie.Need-same-length-9 Inv-loop μ-loop
 same-length-9 c = search needs
 
--- src/main.rt:128:13
 same-length-10 : tie.Need-same-length-10 Inv-loop μ-loop
 same-length-10 c = search needs
 
--- src/main.rt:128:13
 returns-5 : tie.Need-returns-5 Inv-loop μ-loop
 returns-5 c = search needs
 
--- src/main.rt:130:9
 mul-starts : tie.Need-mul-starts Inv-loop μ-loop
 mul-starts c = search needs
 
--- src/main.rt:130:9
 slice-write-starts : tie.Need-slice-write-starts Inv-loop μ-loop
 slice-write-starts c = search needs
 
--- src/main.rt:133:9
 add-j : tie.Need-add-j Inv-loop μ-loop
 add-j c = search needs
 
--- src/main.rt:112:5
 loop-less : tie.Need-loop-less Inv-loop μ-loop
 loop-less c = search needs
 
--- src/main.rt:112:5
 loop-again : tie.Need-loop-again Inv-loop μ-loop
 loop-again c = simp length-set (omega arith)
 
--- src/main.rt:108:1
 same-length-11 : tie.Need-same-length-11 Inv-loop μ-loop
 same-length-11 c = search needs
 
--- src/main.rt:108:1
 same-length-12 : tie.Need-same-length-12 Inv-loop μ-loop
 same-length-12 c = search needs
 
--- src/main.rt:108:1
 returns-6 : tie.Need-returns-6 Inv-loop μ-loop
 returns-6 c = search needs
 

@@ -1,12 +1,9 @@
+-- `replay::is_line` is safe and ends. The place never falls; the measure is what is left. Assumes nothing.
 use Prim.Native.Nat.{_≤_, _-_}
-use mathlib.Core.Path.{_≡_}
 use borrow.Author.Needs.{needs}
-use native.Mathlib.Omega.{arith}
 use lib.ListN.{length}
-use Rattle.replay.proofs.is_line.Statement.{statement}
-use Rattle.replay.proofs.is_line.Tie as tie
-use Rattle.replay.proofs.is_line.Reads as reads
-use Rattle.replay.proofs.is_line.Lts as lts
+use Rattle.replay.proofs.text.is_line.Statement.{statement}
+use Rattle.replay.proofs.text.is_line.Tie as tie
 
 abbrev Inv-loop : tie.InvT-loop
 Inv-loop text at name i₀ j₀ i j = at ≤ i
@@ -14,51 +11,39 @@ Inv-loop text at name i₀ j₀ i j = at ≤ i
 abbrev μ-loop : tie.MeasureT-loop
 μ-loop text at name i₀ j₀ i j = length name - j
 
--- src/main.rt:249:5
 loop-holds : tie.Need-loop-holds Inv-loop μ-loop
 loop-holds c = search needs
 
--- src/main.rt:251:13
 returns : tie.Need-returns Inv-loop μ-loop
 returns c = search needs
 
--- src/main.rt:253:12
 shared-slice-read-if2 : tie.Need-shared-slice-read-if2 Inv-loop μ-loop
 shared-slice-read-if2 c = search needs
 
--- src/main.rt:253:23
 shared-slice-read-if2-2 : tie.Need-shared-slice-read-if2-2 Inv-loop μ-loop
 shared-slice-read-if2-2 c = search needs
 
--- src/main.rt:254:13
 returns-2 : tie.Need-returns-2 Inv-loop μ-loop
 returns-2 c = search needs
 
--- src/main.rt:256:9
 add-i : tie.Need-add-i Inv-loop μ-loop
 add-i c = search needs
 
--- src/main.rt:257:9
 add-j : tie.Need-add-j Inv-loop μ-loop
 add-j c = search needs
 
--- src/main.rt:249:5
 loop-less : tie.Need-loop-less Inv-loop μ-loop
 loop-less c = search needs
 
--- src/main.rt:249:5
 loop-again : tie.Need-loop-again Inv-loop μ-loop
 loop-again c = search needs
 
--- src/main.rt:260:9
 returns-3 : tie.Need-returns-3 Inv-loop μ-loop
 returns-3 c = search needs
 
--- src/main.rt:262:5
 shared-slice-read-result : tie.Need-shared-slice-read-result Inv-loop μ-loop
 shared-slice-read-result c = search needs
 
--- src/main.rt:246:1
 returns-4 : tie.Need-returns-4 Inv-loop μ-loop
 returns-4 c = search needs
 
