@@ -1,7 +1,7 @@
--- Demand 3's premises hold of the bench circuit words-5 (a constraint, a lookup and a cycle), so its conclusions do. Assumes nothing.
+-- Demand 3's premises hold of a small circuit (a constraint, a lookup and a cycle), so its conclusions do. Assumes nothing.
 use mathlib.Core.Path.{_≡_, refl, sym, ap, _∙_}
 use mathlib.Core.Logic.{_≢_}
-use mathlib.Core.List.{[], _∷_}
+use mathlib.Core.List.{List, [], _∷_}
 use Prim.Native.Nat.{ℕ, zero, suc, _<_}
 use native.Mathlib.Nat.{suc-ne-zero}
 use native.Mathlib.Omega.{arith}
@@ -14,7 +14,10 @@ use Rattle.calls.specs.Demand.{Succeeds}
 use Rattle.calls.proofs.Embeds.{val-zero}
 use Rattle.completeness.proofs.DemandThree.{demand-three}
 use Rattle.examples.specs.Open.{everything}
-use Rattle.examples.specs.Small.{words-5}
+
+-- k = 1: a constraint that is a list with a Lagrange number, a lookup of width 1 and a cycle of two cells
+abbrev circuit : List ℕ
+circuit = 1 ∷ 0 ∷ 20 ∷ 1 ∷ 21 ∷ 1 ∷ 23 ∷ 1 ∷ 25 ∷ 30 ∷ 145 ∷ 1 ∷ 146 ∷ 1 ∷ 147 ∷ 1 ∷ 149 ∷ 1 ∷ 150 ∷ 2 ∷ 1 ∷ 0 ∷ 1 ∷ 1 ∷ 0 ∷ 3 ∷ 0 ∷ 0 ∷ 2147483648 ∷ 5 ∷ 2 ∷ 0 ∷ 2147483648 ∷ 9 ∷ 0 ∷ 1 ∷ 0 ∷ 1 ∷ 0 ∷ 0 ∷ 0 ∷ 2 ∷ 0 ∷ 0 ∷ 0 ∷ 9 ∷ 3 ∷ 4 ∷ 0 ∷ 5 ∷ 0 ∷ 0 ∷ 2147483648 ∷ 5 ∷ 0 ∷ 0 ∷ 2147483648 ∷ 7 ∷ 7 ∷ 0 ∷ 0 ∷ 8 ∷ 6 ∷ 8 ∷ 0 ∷ 5 ∷ 1 ∷ 0 ∷ 2147483648 ∷ 12 ∷ 9 ∷ 0 ∷ 0 ∷ 12 ∷ 5 ∷ 11 ∷ 1 ∷ 11 ∷ 10 ∷ 12 ∷ 0 ∷ 3 ∷ 0 ∷ 0 ∷ 2147483647 ∷ 5 ∷ 0 ∷ 0 ∷ 2147483648 ∷ 5 ∷ 2 ∷ 0 ∷ 2147483648 ∷ 7 ∷ 16 ∷ 0 ∷ 0 ∷ 8 ∷ 15 ∷ 17 ∷ 0 ∷ 9 ∷ 14 ∷ 18 ∷ 0 ∷ 7 ∷ 19 ∷ 0 ∷ 0 ∷ 2 ∷ 0 ∷ 0 ∷ 0 ∷ 1 ∷ 0 ∷ 0 ∷ 3 ∷ 8 ∷ 21 ∷ 22 ∷ 0 ∷ 12 ∷ 20 ∷ 0 ∷ 0 ∷ 12 ∷ 13 ∷ 24 ∷ 1 ∷ 12 ∷ 2 ∷ 25 ∷ 1 ∷ 11 ∷ 23 ∷ 26 ∷ 0 ∷ 5 ∷ 1 ∷ 0 ∷ 2147483648 ∷ 2 ∷ 0 ∷ 0 ∷ 0 ∷ 27 ∷ 1 ∷ 28 ∷ 29 ∷ 2 ∷ 0 ∷ 1 ∷ 2 ∷ 1 ∷ []
 
 same-val : (x y : 𝔾 .F) → val x ≡ val y → x ≡ y
 same-val x y e = sym (el-val x) ∙ ap el e ∙ el-val y
@@ -41,7 +44,7 @@ two Q q r (suc (suc i)) l = absurd (bad l)
     bad l = omega arith
 
 abbrev log : Log 𝔾
-log = logOf words-5 (6 ∷ []) (0 ∷ 6 ∷ []) (5 ∷ 7 ∷ [])
+log = logOf circuit (6 ∷ []) (0 ∷ 6 ∷ []) (5 ∷ 7 ∷ [])
 
 pub premises : Premises 𝔾 log
 unfolding everything cellValue
@@ -59,11 +62,11 @@ premises =
     none l = omega arith
 
 -- questions 1 to 14 are yes, and 15 is not given
-asked : checkBuild words-5 (6 ∷ []) (0 ∷ 6 ∷ []) (5 ∷ 7 ∷ []) (replicate 17 9) (replicate 429 9) ≡ 0
+asked : checkBuild circuit (6 ∷ []) (0 ∷ 6 ∷ []) (5 ∷ 7 ∷ []) (replicate 17 9) (replicate 429 9) ≡ 0
 unfolding everything
 asked = refl
 
-answered : buildOf words-5 (6 ∷ []) (0 ∷ 6 ∷ []) (5 ∷ 7 ∷ []) (replicate 17 9) (replicate 429 9) .answer .number ≢ 15
+answered : buildOf circuit (6 ∷ []) (0 ∷ 6 ∷ []) (5 ∷ 7 ∷ []) (replicate 17 9) (replicate 429 9) .answer .number ≢ 15
 unfolding everything
 answered e = absurd (bad e)
   where
@@ -71,5 +74,5 @@ answered e = absurd (bad e)
     bad e = omega arith
 
 -- so for every α and y the row sum is 0, by demand 3
-pub succeeds : Succeeds words-5 (6 ∷ []) (0 ∷ 6 ∷ []) (5 ∷ 7 ∷ []) (replicate 17 9) (replicate 429 9)
-succeeds = demand-three words-5 (6 ∷ []) (0 ∷ 6 ∷ []) (5 ∷ 7 ∷ []) (replicate 17 9) (replicate 429 9) asked .otherwise premises answered
+pub succeeds : Succeeds circuit (6 ∷ []) (0 ∷ 6 ∷ []) (5 ∷ 7 ∷ []) (replicate 17 9) (replicate 429 9)
+succeeds = demand-three circuit (6 ∷ []) (0 ∷ 6 ∷ []) (5 ∷ 7 ∷ []) (replicate 17 9) (replicate 429 9) asked .otherwise premises answered
