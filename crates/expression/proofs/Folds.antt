@@ -5,9 +5,10 @@ use mathlib.Core.List.{List, [], _∷_, _++_}
 use Prim.Native.Nat.{ℕ, _+_, min, max}
 use native.Mathlib.Omega.{arith}
 use Rattle.util.specs.Lists.{anyOf}
+use Rattle.util.proofs.Tests.{any-append}
 use Rattle.expression.specs.Expr.{Expr, Query, sameQuery, evaluate, degreeOps, degree, queryOps, usedQuery}
 use Rattle.expression.specs.Walks.{capSum, capOps, usedOps}
-use Rattle.expression.proofs.Hom.{Hom, evaluate-hom}
+use Rattle.expression.proofs.Evaluate.{Hom, evaluate-hom}
 
 pub cap : Hom degreeOps capOps (min 1025)
 unfolding degreeOps capOps capSum
@@ -19,24 +20,15 @@ cap =
       eqXYs = λ i. refl;
       polys = λ i r. refl;
       challenges = λ i. refl;
-      negateds = λ a. refl;
+      negations = λ a. refl;
       sums = λ a b. omega arith;
       products = λ a b. omega arith;
-      scaleds = λ a v. refl;
+      scalings = λ a v. refl;
     }
 
 pub capped : (e : Expr) → evaluate capOps e ≡ min 1025 (degree e)
 unfolding degree
 capped e = evaluate-hom degreeOps capOps (min 1025) cap e
-
-or-assoc : (a b c : Bool) → (a || (b || c)) ≡ ((a || b) || c)
-or-assoc true b c = refl
-or-assoc false b c = refl
-
-any-append : {A : Type 0} (p : A → Bool) (xs ys : List A) → anyOf p (xs ++ ys) ≡ (anyOf p xs || anyOf p ys)
-unfolding anyOf
-any-append p [] ys = refl
-any-append p (x ∷ xs) ys = ap (λ (b : Bool). p x || b) (any-append p xs ys) ∙ or-assoc (p x) (anyOf p xs) (anyOf p ys)
 
 or-false : (a : Bool) → (a || false) ≡ a
 or-false true = refl
@@ -52,10 +44,10 @@ uses q =
       eqXYs = λ i. refl;
       polys = λ i r. sym (or-false _);
       challenges = λ i. refl;
-      negateds = λ a. refl;
+      negations = λ a. refl;
       sums = λ a b. sym (any-append (sameQuery q) a b);
       products = λ a b. sym (any-append (sameQuery q) a b);
-      scaleds = λ a v. refl;
+      scalings = λ a v. refl;
     }
 
 pub used : (q : Query) (e : Expr) → evaluate (usedOps q) e ≡ usedQuery e q

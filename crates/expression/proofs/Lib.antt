@@ -6,7 +6,6 @@ pub mod ReadBack
 pub mod Fuel
 pub mod Step
 pub mod Ways
-pub mod Hom
 pub mod Folds
 pub mod Reader
 pub mod Signed
@@ -15,3 +14,4 @@ pub mod Sizes
 pub mod Queries
 pub mod Written
 pub mod Copied
+pub mod Context

@@ -1,6 +1,6 @@
 -- Where an expression is evaluated: a row of the order, over the words that are lent. Assumes nothing.
 use mathlib.Core.Path.{_≡_}
-use mathlib.Core.List.{List, map}
+use mathlib.Core.List.{List, [], _∷_, map}
 use Prim.Native.Nat.{ℕ, _^_, _<_}
 use lib.ListN.{getD}
 use lib.IntN.{ℤ}
@@ -47,6 +47,12 @@ layoutOf c =
       skipped = getD c 10 0;
       rest = getD c 11 0;
     }
+
+abbrev pub contextOf : Layout → Point → List ℕ
+contextOf l p =
+    p .k ∷ p .row ∷ p .place ∷ p .eq ∷ l .rows ∷ l .instances ∷ l .preprocess ∷ l .start ∷ l .witness ∷ l .permutations ∷ l .skipped
+    ∷ l .rest
+    ∷ []
 
 pub record Ready (c : List ℕ) : Type 0 where
   pub layout : Small (layoutOf c)

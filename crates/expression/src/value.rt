@@ -20,7 +20,7 @@ ghost use Rattle.expression.specs.Expr.{evaluate, spread, rest};
 ghost use Rattle.expression.specs.Nodes.{signed, exprOf, itemsOf, under, noExpr};
 ghost use Rattle.expression.specs.Value.{valueAt};
 ghost use Rattle.expression.specs.Reader.{Small};
-ghost use Rattle.expression.specs.Point.{Placed, Ready, pointOf, layoutOf, environmentOf, polyValue, opsOf};
+ghost use Rattle.expression.specs.Point.{Placed, Ready, pointOf, layoutOf, contextOf, environmentOf, polyValue, opsOf};
 
 // Where an expression is evaluated: a row, its place in the order, and EqXY's value there.
 pub struct Point {
@@ -30,7 +30,27 @@ pub struct Point {
     pub eq: u64,
 }
 
-// The value of node n at a point.
+// The point and the layout as the walk hands them down: twelve numbers.
+pub fn context(layout: Layout, point: Point) -> [usize; 12]
+    ensures { λ r. ⌜ r ≡ contextOf layout point ⌝ }
+{
+    [
+        point.k,
+        point.row,
+        point.place,
+        index(point.eq),
+        layout.rows,
+        layout.instances,
+        layout.preprocess,
+        layout.start,
+        layout.witness,
+        layout.permutations,
+        layout.skipped,
+        layout.rest,
+    ]
+}
+
+// The value of node n at a point. For many nodes at one point, `context` once and `node_value` for each.
 pub fn value(
     nodes: &[u64],
     circuit: &[u64],
@@ -44,20 +64,7 @@ pub fn value(
     requires { ⌜ (n * 4 + 4 ≤ length (now nodes)) × (Small layout × Placed point) ⌝ }
     ensures { λ r. ⌜ el r ≡ valueAt 𝔾 (environmentOf (now (circuit .entry)) (now (witness .entry)) (now (columns .entry)) (now (challenges .entry)) layout point) (exprOf (now (nodes .entry)) n) (point .row) ⌝ }
 {
-    let c: [usize; 12] = [
-        point.k,
-        point.row,
-        point.place,
-        index(point.eq),
-        layout.rows,
-        layout.instances,
-        layout.preprocess,
-        layout.start,
-        layout.witness,
-        layout.permutations,
-        layout.skipped,
-        layout.rest,
-    ];
+    let c = context(layout, point);
     node_value(nodes, circuit, witness, columns, challenges, &c, n)
 }
 
@@ -134,7 +141,8 @@ fn query(
     )
 }
 
-fn node_value(
+// The value of node n, at the point and with the layout of the context.
+pub fn node_value(
     nodes: &[u64],
     circuit: &[u64],
     witness: &[u64],

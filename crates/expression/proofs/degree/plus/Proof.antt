@@ -3,33 +3,25 @@ use Rattle.expression.specs.Walks.{capSum}
 use borrow.Author.Needs.{needs}
 use Rattle.expression.proofs.degree.plus.Statement.{statement}
 use Rattle.expression.proofs.degree.plus.Tie as tie
-use Rattle.expression.proofs.degree.plus.Reads as reads
-use Rattle.expression.proofs.degree.plus.Lts as lts
 
--- src/degree.rt:28:9
 returns : tie.Need-returns
 unfolding capSum
 returns c = omega arith
 
--- src/degree.rt:31:9
 returns-2 : tie.Need-returns-2
 unfolding capSum
 returns-2 c = omega arith
 
--- src/degree.rt:33:16
 add-if3 : tie.Need-add-if3
 add-if3 c = search needs
 
--- src/degree.rt:34:9
 returns-3 : tie.Need-returns-3
 unfolding capSum
 returns-3 c = omega arith
 
--- src/degree.rt:36:5
 add-result : tie.Need-add-result
 add-result c = search needs
 
--- src/degree.rt:24:1
 returns-4 : tie.Need-returns-4
 unfolding capSum
 returns-4 c = omega arith

@@ -4,18 +4,13 @@ use native.Mathlib.Omega.{arith}
 use borrow.Author.Needs.{needs}
 use Rattle.expression.proofs.node.shorter.Statement.{statement}
 use Rattle.expression.proofs.node.shorter.Tie as tie
-use Rattle.expression.proofs.node.shorter.Reads as reads
-use Rattle.expression.proofs.node.shorter.Lts as lts
 
--- src/node.rt:70:9
 returns : tie.Need-returns
 returns c = (sym (mod-eq-of-lt (c .if1 .taken)), omega arith)
 
--- src/node.rt:72:5
 rem-result : tie.Need-rem-result
 rem-result c = search needs
 
--- src/node.rt:65:1
 returns-2 : tie.Need-returns-2
 returns-2 c = (refl, omega (arith, mod-lt (c .before .args .d) (c .before .pre .0)))
 

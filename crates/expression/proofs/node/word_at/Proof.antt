@@ -3,22 +3,16 @@ use lib.ListN.{List·getD-eq-default}
 use borrow.Author.Needs.{needs}
 use Rattle.expression.proofs.node.word_at.Statement.{statement}
 use Rattle.expression.proofs.node.word_at.Tie as tie
-use Rattle.expression.proofs.node.word_at.Reads as reads
-use Rattle.expression.proofs.node.word_at.Lts as lts
 
--- src/node.rt:37:16
 mul-result : tie.Need-mul-result
 mul-result c = search needs
 
--- src/node.rt:37:16
 shared-slice-read-result : tie.Need-shared-slice-read-result
 shared-slice-read-result c = search needs
 
--- src/node.rt:37:9
 returns : tie.Need-returns
 returns c = search needs
 
--- src/node.rt:33:1
 returns-2 : tie.Need-returns-2
 returns-2 c = sym (List·getD-eq-default (c .before .args .ws .now) 0 {n = c .before .args .i} (c .if1 .left))
 

@@ -3,27 +3,19 @@ use Rattle.expression.proofs.Reader.{place-small}
 use borrow.Author.Needs.{needs}
 use Rattle.expression.proofs.poly.cell.Statement.{statement}
 use Rattle.expression.proofs.poly.cell.Tie as tie
-use Rattle.expression.proofs.poly.cell.Reads as reads
-use Rattle.expression.proofs.poly.cell.Lts as lts
-use Rattle.expression.proofs.node.word_at.Reads as word-at-reads
 
--- src/poly.rt:29:25
 mul-word-at : tie.Need-mul-word-at
 mul-word-at c = let m = place-small (c .before .args .i) (c .before .args .rows) (c .before .pre .0 .1) (c .before .pre .1 .0) in omega arith
 
--- src/poly.rt:29:17
 add-word-at : tie.Need-add-word-at
 add-word-at c = let m = place-small (c .before .args .i) (c .before .args .rows) (c .before .pre .0 .1) (c .before .pre .1 .0) in omega arith
 
--- src/poly.rt:29:17
 add-word-at-2 : tie.Need-add-word-at-2
 add-word-at-2 c = let m = place-small (c .before .args .i) (c .before .args .rows) (c .before .pre .0 .1) (c .before .pre .1 .0) in omega arith
 
--- src/poly.rt:29:5
 word-at-requires : tie.Need-word-at-requires
 word-at-requires c κs = search needs
 
--- src/poly.rt:25:1
 returns : tie.Need-returns
 returns c = search needs
 

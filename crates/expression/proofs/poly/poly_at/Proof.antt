@@ -7,20 +7,13 @@ use Rattle.expression.proofs.Reader.{reads-instance, reads-preprocess, 
 use borrow.Author.Needs.{needs}
 use Rattle.expression.proofs.poly.poly_at.Statement.{statement}
 use Rattle.expression.proofs.poly.poly_at.Tie as tie
-use Rattle.expression.proofs.poly.poly_at.Reads as reads
-use Rattle.expression.proofs.poly.poly_at.Lts as lts
-use Rattle.expression.proofs.node.index.Reads as index-reads
-use Rattle.expression.proofs.poly.cell.Reads as cell-reads
 
--- src/poly.rt:45:9
 index-requires : tie.Need-index-requires
 index-requires c κs = search needs
 
--- src/poly.rt:47:9
 cell-requires : tie.Need-cell-requires
 cell-requires c κs = search needs
 
--- src/poly.rt:47:9
 returns : tie.Need-returns
 returns c =
     let a = c .before .before .before .before .before .before .args in
@@ -28,11 +21,9 @@ returns c =
     reads-instance (a .layout) (a .circuit .now) (a .witness .now) (a .columns .now) (a .row) (at .result) (c .cell .result) (c .before .if1 .taken) (c .cell .ensures)
     ∙ ap (λ (q : ℕ). polyOf 𝔾 (polysOf (a .layout) (a .circuit .now) (a .witness .now) (a .columns .now)) q (a .row)) (at .ensures)
 
--- src/poly.rt:51:9
 cell-requires-2 : tie.Need-cell-requires-2
 cell-requires-2 c κs = search needs
 
--- src/poly.rt:51:9
 returns-2 : tie.Need-returns-2
 returns-2 c =
     let a = c .before .before .before .before .before .before .before .args in
@@ -40,11 +31,9 @@ returns-2 c =
     reads-preprocess (a .layout) (a .circuit .now) (a .witness .now) (a .columns .now) (a .row) (at .result) (c .cell2 .result) (c .before .before .if1 .left) (c .before .if2 .taken) (c .cell2 .ensures)
     ∙ ap (λ (q : ℕ). polyOf 𝔾 (polysOf (a .layout) (a .circuit .now) (a .witness .now) (a .columns .now)) q (a .row)) (at .ensures)
 
--- src/poly.rt:55:9
 cell-requires-3 : tie.Need-cell-requires-3
 cell-requires-3 c κs = search needs
 
--- src/poly.rt:55:9
 returns-3 : tie.Need-returns-3
 returns-3 c =
     let a = c .before .before .before .before .before .before .before .before .args in
@@ -52,15 +41,12 @@ returns-3 c =
     reads-witness (a .layout) (a .circuit .now) (a .witness .now) (a .columns .now) (a .row) (at .result) (c .cell3 .result) (c .before .before .before .if1 .left) (c .before .before .if2 .left) (c .before .if3 .taken) (c .cell3 .ensures)
     ∙ ap (λ (q : ℕ). polyOf 𝔾 (polysOf (a .layout) (a .circuit .now) (a .witness .now) (a .columns .now)) q (a .row)) (at .ensures)
 
--- src/poly.rt:59:33
 add-cell : tie.Need-add-cell
 add-cell c = search needs
 
--- src/poly.rt:59:9
 cell-requires-4 : tie.Need-cell-requires-4
 cell-requires-4 c κs = search needs
 
--- src/poly.rt:59:9
 returns-4 : tie.Need-returns-4
 returns-4 c =
     let a = c .before .before .before .before .before .before .before .before .before .args in
@@ -68,23 +54,18 @@ returns-4 c =
     reads-permutation (a .layout) (a .circuit .now) (a .witness .now) (a .columns .now) (a .row) (at .result) (c .cell4 .result) (c .before .before .before .before .if1 .left) (c .before .before .before .if2 .left) (c .before .before .if3 .left) (c .before .if4 .taken) (c .cell4 .ensures)
     ∙ ap (λ (q : ℕ). polyOf 𝔾 (polysOf (a .layout) (a .circuit .now) (a .witness .now) (a .columns .now)) q (a .row)) (at .ensures)
 
--- src/poly.rt:63:33
 add-cell-2 : tie.Need-add-cell-2
 add-cell-2 c = search needs
 
--- src/poly.rt:63:33
 add-cell-3 : tie.Need-add-cell-3
 add-cell-3 c = search needs
 
--- src/poly.rt:63:33
 add-cell-4 : tie.Need-add-cell-4
 add-cell-4 c = search needs
 
--- src/poly.rt:63:9
 cell-requires-5 : tie.Need-cell-requires-5
 cell-requires-5 c κs = search needs
 
--- src/poly.rt:63:9
 returns-5 : tie.Need-returns-5
 returns-5 c =
     let a = c .before .before .before .before .before .before .before .before .before .before .args in
@@ -92,7 +73,6 @@ returns-5 c =
     reads-rest (a .layout) (a .circuit .now) (a .witness .now) (a .columns .now) (a .row) (at .result) (c .cell5 .result) (c .before .before .before .before .before .if1 .left) (c .before .before .before .before .if2 .left) (c .before .before .before .if3 .left) (c .before .before .if4 .left) (c .before .if5 .taken) (c .cell5 .ensures)
     ∙ ap (λ (q : ℕ). polyOf 𝔾 (polysOf (a .layout) (a .circuit .now) (a .witness .now) (a .columns .now)) q (a .row)) (at .ensures)
 
--- src/poly.rt:33:1
 returns-6 : tie.Need-returns-6
 returns-6 c =
     let a = c .before .before .before .before .before .before .before .before .before .args in

@@ -12,9 +12,6 @@ use Rattle.expression.proofs.Folds.{used}
 use Rattle.expression.proofs.Queries.{candidate, end-small, count-start, count-yes, count-no}
 use Rattle.expression.proofs.query.count_queries.Statement.{statement}
 use Rattle.expression.proofs.query.count_queries.Tie as tie
-use Rattle.expression.proofs.query.count_queries.Reads as reads
-use Rattle.expression.proofs.query.count_queries.Lts as lts
-use Rattle.expression.proofs.query.node_uses.Reads as node-uses-reads
 
 abbrev Inv-loop : tie.InvT-loop
 Inv-loop ws n polys k wide low end count₀ i₀ count i =
@@ -23,59 +20,46 @@ Inv-loop ws n polys k wide low end count₀ i₀ count i =
 abbrev μ-loop : tie.MeasureT-loop
 μ-loop ws n polys k wide low end count₀ i₀ count i = end - i
 
--- src/query.rt:128:16
 add-wide : tie.Need-add-wide Inv-loop μ-loop
 add-wide c = omega arith
 
--- src/query.rt:128:16
 add-wide-2 : tie.Need-add-wide-2 Inv-loop μ-loop
 add-wide-2 c = omega arith
 
--- src/query.rt:129:15
 sub-low : tie.Need-sub-low Inv-loop μ-loop
 sub-low c = omega arith
 
--- src/query.rt:130:15
 mul-end : tie.Need-mul-end Inv-loop μ-loop
 mul-end c = omega (arith, end-small (c .before .args .polys) (c .before .args .k) (c .before .pre .1 .0) (c .before .pre .1 .1))
 
--- src/query.rt:133:5
 loop-holds : tie.Need-loop-holds Inv-loop μ-loop
 loop-holds c =
     let a = c .before .args in
     (omega arith, omega arith, count-start (usedQuery (exprOf (a .ws .now) (a .n))) (candidate (a .k)))
 
--- src/query.rt:134:30
 div-node-uses : tie.Need-div-node-uses Inv-loop μ-loop
 div-node-uses c = omega arith
 
--- src/query.rt:134:55
 rem-node-uses : tie.Need-rem-node-uses Inv-loop μ-loop
 rem-node-uses c = omega arith
 
--- src/query.rt:134:49
 add-node-uses : tie.Need-add-node-uses Inv-loop μ-loop
 add-node-uses c =
     let k = c .before .before .before .args .k in
     omega (arith, mod-lt (c .before .loop .i) {m = k + k + 1} (omega arith))
 
--- src/query.rt:134:12
 node-uses-requires : tie.Need-node-uses-requires Inv-loop μ-loop
 node-uses-requires c κs = search needs
 
--- src/query.rt:135:13
 add-count : tie.Need-add-count Inv-loop μ-loop
 add-count c = omega (arith, end-small (c .before .before .before .before .before .args .polys) (c .before .before .before .before .before .args .k) (c .before .before .before .before .before .pre .1 .0) (c .before .before .before .before .before .pre .1 .1))
 
--- src/query.rt:137:9
 add-i : tie.Need-add-i Inv-loop μ-loop
 add-i c = omega (arith, end-small (c .before .before .before .before .before .args .polys) (c .before .before .before .before .before .args .k) (c .before .before .before .before .before .pre .1 .0) (c .before .before .before .before .before .pre .1 .1))
 
--- src/query.rt:133:5
 loop-less : tie.Need-loop-less Inv-loop μ-loop
 loop-less c = omega arith
 
--- src/query.rt:133:5
 loop-again : tie.Need-loop-again Inv-loop μ-loop
 loop-again c =
     let a = c .before .before .before .before .before .args in
@@ -89,7 +73,6 @@ loop-again c =
     (λ w. (omega arith, omega arith, w .1 ∙ count-no p f (l .count) (l .i) (t ∙ w .0 .left) (l .inv .2)))
     (c .if1 .came)
 
--- src/query.rt:124:1
 returns : tie.Need-returns Inv-loop μ-loop
 unfolding usedQueries candidates
 returns c =

@@ -3,22 +3,16 @@ use Rattle.expression.specs.Nodes.{signed}
 use Rattle.expression.proofs.Signed.{widens, sum-fits, sum-casts, kept-is, signed-kept}
 use Rattle.expression.proofs.query.kept_word.Statement.{statement}
 use Rattle.expression.proofs.query.kept_word.Tie as tie
-use Rattle.expression.proofs.query.kept_word.Reads as reads
-use Rattle.expression.proofs.query.kept_word.Lts as lts
 
--- src/query.rt:21:7
 cast-result : tie.Need-cast-result
 cast-result c = widens (c .before .args .rotation .0) (record { sfits = c .struct-told .given .0 .1 })
 
--- src/query.rt:21:6
 add-result : tie.Need-add-result
 add-result c = sum-fits (c .before .args .rotation .0) (record { sfits = c .struct-told .given .0 .1 })
 
--- src/query.rt:21:5
 cast-result-2 : tie.Need-cast-result-2
 cast-result-2 c = sum-casts (c .before .args .rotation .0) (record { sfits = c .struct-told .given .0 .1 })
 
--- src/query.rt:17:1
 returns : tie.Need-returns
 returns c =
     let z = c .before .args .rotation .0 in

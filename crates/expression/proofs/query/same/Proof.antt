@@ -4,14 +4,10 @@ use mathlib.Core.Bool.{Bool, _&&_}
 use lib.Dec.{eqb}
 use Rattle.expression.proofs.query.same.Statement.{statement}
 use Rattle.expression.proofs.query.same.Tie as tie
-use Rattle.expression.proofs.query.same.Reads as reads
-use Rattle.expression.proofs.query.same.Lts as lts
 
--- src/query.rt:38:1
 returns : tie.Need-returns
 returns c = sym (ap (λ (t : Bool). t && eqb (c .before .args .b) (c .before .args .y)) (eq-eqb _ _ (c .if1 .taken)))
 
--- src/query.rt:38:1
 returns-2 : tie.Need-returns-2
 returns-2 c = ne-eqb _ _ (c .if1 .left) ∙ sym (ap (λ (t : Bool). t && eqb (c .before .args .b) (c .before .args .y)) (ne-eqb _ _ (c .if1 .left)))
 

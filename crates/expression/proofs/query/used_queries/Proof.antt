@@ -13,10 +13,6 @@ use Rattle.expression.proofs.Folds.{used}
 use Rattle.expression.proofs.Queries.{candidate, end-small, Into, into-start, into-no, into-room, into-yes, into-all, into-none, into-keeps, room-is}
 use Rattle.expression.proofs.query.used_queries.Statement.{statement}
 use Rattle.expression.proofs.query.used_queries.Tie as tie
-use Rattle.expression.proofs.query.used_queries.Reads as reads
-use Rattle.expression.proofs.query.used_queries.Lts as lts
-use Rattle.expression.proofs.query.count_queries.Reads as count-queries-reads
-use Rattle.expression.proofs.query.node_uses.Reads as node-uses-reads
 
 abbrev Inv-loop : tie.InvT-loop
 Inv-loop ws n polys k out₀ count wide low end at₀ i₀ out at i =
@@ -39,11 +35,9 @@ room c =
     (c .before .before .loop-test .taken)
     (room-is (usedQueries e (a .polys) (a .k)) (c .before .before .before .before .before .count-queries .result) (length (a .out .now)) (c .before .before .before .before .before .count-queries .ensures) (c .before .before .before .before .if1 .left))
 
--- src/query.rt:148:9
 count-queries-requires : tie.Need-count-queries-requires Inv-loop μ-loop
 count-queries-requires c κs = search needs
 
--- src/query.rt:150:9
 returns : tie.Need-returns Inv-loop μ-loop
 returns c =
     let a = c .before .before .before .before .args in
@@ -51,79 +45,61 @@ returns c =
     let qs = usedQueries (exprOf (a .ws .now) (a .n)) (a .polys) (a .k) in
     (e, into-none qs (a .out .now) (let z : length (a .out .now) / 2 < length qs = omega (arith, e, c .if1 .taken) in z))
 
--- src/query.rt:152:16
 add-wide : tie.Need-add-wide Inv-loop μ-loop
 add-wide c = omega arith
 
--- src/query.rt:152:16
 add-wide-2 : tie.Need-add-wide-2 Inv-loop μ-loop
 add-wide-2 c = omega arith
 
--- src/query.rt:153:15
 sub-low : tie.Need-sub-low Inv-loop μ-loop
 sub-low c = omega arith
 
--- src/query.rt:154:15
 mul-end : tie.Need-mul-end Inv-loop μ-loop
 mul-end c = omega (arith, end-small (c .before .before .before .before .args .polys) (c .before .before .before .before .args .k) (c .before .before .before .before .pre .1 .0) (c .before .before .before .before .pre .1 .1))
 
--- src/query.rt:157:5
 loop-holds : tie.Need-loop-holds Inv-loop μ-loop
 loop-holds c =
     let a = c .before .before .before .before .args in
     (omega arith, refl, into-start (usedQuery (exprOf (a .ws .now) (a .n))) (candidate (a .k)) (a .out .now))
 
--- src/query.rt:158:27
 div-polynomial : tie.Need-div-polynomial Inv-loop μ-loop
 div-polynomial c = omega arith
 
--- src/query.rt:159:27
 rem-word : tie.Need-rem-word Inv-loop μ-loop
 rem-word c = omega arith
 
--- src/query.rt:159:21
 add-word : tie.Need-add-word Inv-loop μ-loop
 add-word c =
     let k = c .before .before .before .before .before .before .args .k in
     omega (arith, mod-lt (c .before .loop .i) {m = k + k + 1} (omega arith))
 
--- src/query.rt:160:12
 node-uses-requires : tie.Need-node-uses-requires Inv-loop μ-loop
 node-uses-requires c κs = search needs
 
--- src/query.rt:161:13
 mul-out : tie.Need-mul-out Inv-loop μ-loop
 mul-out c = omega (arith, room c, c .before .before .before .loop .inv .1, c .before .before .before .before .before .before .before .before .good .1 .1 .1 .1 .0)
 
--- src/query.rt:161:13
 slice-write-out : tie.Need-slice-write-out Inv-loop μ-loop
 slice-write-out c = omega (arith, room c, c .before .before .before .loop .inv .1, c .before .before .before .before .before .before .before .before .good .1 .1 .1 .1 .0)
 
--- src/query.rt:162:17
 add-out : tie.Need-add-out Inv-loop μ-loop
 add-out c = omega (arith, room c, c .before .before .before .loop .inv .1, c .before .before .before .before .before .before .before .before .good .1 .1 .1 .1 .0)
 
--- src/query.rt:162:13
 mul-out-2 : tie.Need-mul-out-2 Inv-loop μ-loop
 mul-out-2 c = omega (arith, room c, c .before .before .before .loop .inv .1, c .before .before .before .before .before .before .before .before .good .1 .1 .1 .1 .0)
 
--- src/query.rt:162:13
 slice-write-out-2 : tie.Need-slice-write-out-2 Inv-loop μ-loop
 slice-write-out-2 c = simp length-set (room c)
 
--- src/query.rt:163:13
 add-at : tie.Need-add-at Inv-loop μ-loop
 add-at c = omega (arith, room c, c .before .before .before .loop .inv .1, c .before .before .before .before .before .before .before .before .good .1 .1 .1 .1 .0)
 
--- src/query.rt:165:9
 add-i : tie.Need-add-i Inv-loop μ-loop
 add-i c = omega (arith, end-small (c .before .before .before .before .before .before .before .before .args .polys) (c .before .before .before .before .before .before .before .before .args .k) (c .before .before .before .before .before .before .before .before .pre .1 .0) (c .before .before .before .before .before .before .before .before .pre .1 .1))
 
--- src/query.rt:157:5
 loop-less : tie.Need-loop-less Inv-loop μ-loop
 loop-less c = omega arith
 
--- src/query.rt:157:5
 loop-again : tie.Need-loop-again Inv-loop μ-loop
 unfolding usedQueries candidates
 loop-again c =
@@ -144,11 +120,9 @@ loop-again c =
     (omega arith, ap length (w .1) ∙ l .inv .1, (w .1 ∙ y .0, w .2 ∙ y .1)))
     (c .if2 .came)
 
--- src/query.rt:144:1
 same-length : tie.Need-same-length Inv-loop μ-loop
 same-length c = c .before .loop .inv .1
 
--- src/query.rt:144:1
 returns-2 : tie.Need-returns-2 Inv-loop μ-loop
 unfolding usedQueries candidates
 returns-2 c =

@@ -7,20 +7,13 @@ use Rattle.expression.proofs.Folds.{used}
 use borrow.Author.Needs.{needs}
 use Rattle.expression.proofs.query.used_query.Statement.{statement}
 use Rattle.expression.proofs.query.used_query.Tie as tie
-use Rattle.expression.proofs.query.used_query.Reads as reads
-use Rattle.expression.proofs.query.used_query.Lts as lts
-use Rattle.expression.proofs.query.kept_word.Reads as kept-word-reads
-use Rattle.expression.proofs.query.node_uses.Reads as node-uses-reads
 
--- src/query.rt:29:34
 kept-word-requires : tie.Need-kept-word-requires
 kept-word-requires c κs = search needs
 
--- src/query.rt:29:5
 node-uses-requires : tie.Need-node-uses-requires
 node-uses-requires c κs = search needs
 
--- src/query.rt:25:1
 returns : tie.Need-returns
 returns c =
     let a = c .before .before .before .args in

@@ -6,23 +6,16 @@ use Rattle.expression.proofs.Leaves.{lagrange-one, lagrange-zero}
 use borrow.Author.Needs.{needs}
 use Rattle.expression.proofs.value.lagrange.Statement.{statement}
 use Rattle.expression.proofs.value.lagrange.Tie as tie
-use Rattle.expression.proofs.value.lagrange.Reads as reads
-use Rattle.expression.proofs.value.lagrange.Lts as lts
-use Rattle.expression.proofs.node.index.Reads as index-reads
 
--- src/value.rt:55:23
 shl-index : tie.Need-shl-index
 shl-index c = search needs
 
--- src/value.rt:55:22
 sub-index : tie.Need-sub-index
 sub-index c = subst⁻¹ (λ (x : ℕ). 1 ≤ x) (one-shifted (c .args .k) (c .pre .0 .1)) (pow-pos (c .args .k))
 
--- src/value.rt:55:8
 index-requires : tie.Need-index-requires
 index-requires c κs = search needs
 
--- src/value.rt:56:9
 returns : tie.Need-returns
 returns c =
     let a = c .before .before in
@@ -31,7 +24,6 @@ returns c =
     (c .before .index .ensures)
     (c .if1 .taken)
 
--- src/value.rt:51:1
 returns-2 : tie.Need-returns-2
 returns-2 c =
     let a = c .before .before in

@@ -8,28 +8,19 @@ use Rattle.expression.specs.declared.poly.Layout.{Layout}
 use borrow.Author.Needs.{needs}
 use Rattle.expression.proofs.value.query.Statement.{statement}
 use Rattle.expression.proofs.value.query.Tie as tie
-use Rattle.expression.proofs.value.query.Reads as reads
-use Rattle.expression.proofs.value.query.Lts as lts
-use Rattle.expression.proofs.poly.poly_at.Reads as poly-at-reads
-use Rattle.expression.proofs.value.layout_of.Reads as layout-of-reads
-use Rattle.expression.proofs.value.turned.Reads as turned-reads
 
--- src/value.rt:97:40
 layout-of-requires : tie.Need-layout-of-requires
 layout-of-requires c κs = search needs
 
--- src/value.rt:97:66
 turned-requires : tie.Need-turned-requires
 turned-requires c κs = search needs
 
--- src/value.rt:97:5
 poly-at-requires : tie.Need-poly-at-requires
 poly-at-requires c κs = (
   subst⁻¹ Small (c .before .layout-of .ensures) (c .before .before .before .before .before .pre .layout),
   c .turned .ensures .1,
 )
 
--- src/value.rt:93:1
 returns : tie.Need-returns
 unfolding polyValue
 returns c =

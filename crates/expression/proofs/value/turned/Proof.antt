@@ -5,28 +5,19 @@ use Rattle.expression.specs.Point.{pointOf}
 use borrow.Author.Needs.{needs}
 use Rattle.expression.proofs.value.turned.Statement.{statement}
 use Rattle.expression.proofs.value.turned.Tie as tie
-use Rattle.expression.proofs.value.turned.Reads as reads
-use Rattle.expression.proofs.value.turned.Lts as lts
-use Rattle.bh.proofs.rotate.Reads as rotate-reads
-use Rattle.expression.proofs.node.rotation_of.Reads as rotation-of-reads
 
--- src/value.rt:87:13
 element-copy-out-k : tie.Need-element-copy-out-k
 element-copy-out-k c = search needs
 
--- src/value.rt:88:15
 element-copy-out-row : tie.Need-element-copy-out-row
 element-copy-out-row c = search needs
 
--- src/value.rt:89:17
 rotation-of-requires : tie.Need-rotation-of-requires
 rotation-of-requires c κs = search needs
 
--- src/value.rt:89:5
 rotate-requires : tie.Need-rotate-requires
 rotate-requires c κs = search needs
 
--- src/value.rt:83:1
 returns : tie.Need-returns
 returns c =
     let a = c .before .before .before .before in

@@ -1,40 +1,34 @@
-use mathlib.Core.Path.{ap, _∙_}
-use Prim.Native.Nat.{ℕ}
-use Rattle.field.specs.Field.{𝔾}
-use Rattle.expression.specs.Nodes.{exprOf}
-use Rattle.expression.specs.Value.{valueAt}
-use Rattle.expression.specs.Point.{environmentOf, opsOf}
 use borrow.Author.Needs.{needs}
+use mathlib.Core.Path.{ap, _∙_, subst⁻¹}
+use mathlib.Core.List.{List}
+use Prim.Native.Nat.{ℕ}
+use Rattle.expression.specs.Expr.{evaluate}
+use Rattle.expression.specs.Nodes.{exprOf}
+use Rattle.expression.specs.Point.{Ready, opsOf}
+use Rattle.expression.proofs.Context.{ready-context, at-context}
 use Rattle.expression.proofs.value.value.Statement.{statement}
 use Rattle.expression.proofs.value.value.Tie as tie
-use Rattle.expression.proofs.value.value.Reads as reads
-use Rattle.expression.proofs.value.value.Lts as lts
-use Rattle.expression.proofs.node.index.Reads as index-reads
-use Rattle.expression.proofs.value.node_value.Reads as node-value-reads
 
--- src/value.rt:37:9
-index-requires : tie.Need-index-requires
-index-requires c κs = search needs
+context-requires : tie.Need-context-requires
+context-requires c κs = search needs
 
--- src/value.rt:47:5
 node-value-requires : tie.Need-node-value-requires
-node-value-requires c κs = search needs
+node-value-requires c κs =
+    let a = c .before .before .before .before .before .before .before in (
+      a .pre .0,
+      subst⁻¹ Ready (c .before .context .ensures) (ready-context (a .args .layout) (a .args .point) (a .pre .1 .0) (a .pre .1 .1)),
+    )
 
--- src/value.rt:29:1
 returns : tie.Need-returns
-unfolding opsOf valueAt
 returns c =
     let a = c .before .before .before .before .before .before .before .before .args in
-    let p = a .point in
     c .node-value .ensures
     ∙ ap
-    (λ (w : ℕ).
-    valueAt 𝔾
-    (environmentOf (a .circuit .now) (a .witness .now) (a .columns .now) (a .challenges .now) (a .layout)
-    (record { k = p .k; row = p .row; place = p .place; eq = w }))
+    (λ (l : List ℕ).
+    evaluate (opsOf (a .circuit .now) (a .witness .now) (a .columns .now) (a .challenges .now) l) (exprOf (a .nodes .now) (a .n)))
+    (c .before .before .context .ensures)
+    ∙ at-context (a .circuit .now) (a .witness .now) (a .columns .now) (a .challenges .now) (a .layout) (a .point)
     (exprOf (a .nodes .now) (a .n))
-    (p .row))
-    (c .before .before .index .ensures)
 
 pub value-spec : {M : Type 1} → statement M
-value-spec = tie.close (tie.spec index-requires node-value-requires returns)
+value-spec = tie.close (tie.spec context-requires node-value-requires returns)
