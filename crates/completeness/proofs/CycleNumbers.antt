@@ -17,8 +17,8 @@ use Rattle.util.proofs.Places.{Among, get-index, among-below, among-those}
 use Rattle.identities.specs.Cycles as Cycles
 use Rattle.identities.specs.Copies.{atCell}
 use Rattle.expression.specs.Value.{polyOf}
-use Rattle.backend.specs.Circuit.{Circuit, Cell, sameCell, rowsOf, numPoly, copied, numCopied}
-use Rattle.backend.specs.Questions.{q11, goodCell}
+use Rattle.backend.specs.Circuit.{Circuit, Cell, sameCell, rowsOf, numPoly, copiedIn, copied, numCopied}
+use Rattle.backend.specs.Questions.{q11, goodCell, cyclesGood}
 use Rattle.preprocessor.specs.Permutation.{firstLabel}
 use Rattle.prover.specs.Log.{Log}
 use Rattle.prover.specs.Columns.{givenPolys, copiedAt}
@@ -36,7 +36,7 @@ module _ (c : Circuit) where
     row-le : x .row ≤ rowsOf c - 1
     once : countOf (sameCell x) cycle ≤ 1
 
-  fine-of : (cycle : List Cell) (x : Cell) → goodCell c cycle x ≡ true → Fine cycle x
+  fine-of : (cycle : List Cell) (x : Cell) → goodCell (numPoly c) (rowsOf c) cycle x ≡ true → Fine cycle x
   fine-of cycle x e =
       let t1 : Bool = ltb (x .polynomial) (numPoly c) in
       let t2 : Bool = leb 1 (x .row) in
@@ -53,18 +53,18 @@ module _ (c : Circuit) where
 
   module _ (y : q11 c ≡ true) where
     cycle-fine : (j : ℕ) → j < length (c .cycles) → (i : ℕ) → i < length (getD (c .cycles) j []) → Fine (getD (c .cycles) j []) (getD (getD (c .cycles) j []) i noCell)
-    unfolding q11
+    unfolding q11 cyclesGood
     cycle-fine j l i m =
         let cycle : List Cell = getD (c .cycles) j [] in
         fine-of cycle (getD cycle i noCell)
-        (all-each (goodCell c cycle) noCell cycle
-        (and-right (ltb 0 (length cycle)) (allOf (goodCell c cycle) cycle)
-        (all-each (λ cycle. ltb 0 (length cycle) && allOf (goodCell c cycle) cycle) [] (c .cycles) y j l))
+        (all-each (goodCell (numPoly c) (rowsOf c) cycle) noCell cycle
+        (and-right (ltb 0 (length cycle)) (allOf (goodCell (numPoly c) (rowsOf c) cycle) cycle)
+        (all-each (λ cycle. ltb 0 (length cycle) && allOf (goodCell (numPoly c) (rowsOf c) cycle) cycle) [] (c .cycles) y j l))
         i
         m)
 
     cell-among : (j : ℕ) → j < length (c .cycles) → (i : ℕ) → i < length (getD (c .cycles) j []) → Among (getD (getD (c .cycles) j []) i noCell .polynomial) (copied c)
-    unfolding copied
+    unfolding copiedIn copied
     cell-among j l i m =
         let x : Cell = getD (getD (c .cycles) j []) i noCell in
         among-those (λ q. anyOf (λ (x : Cell). eqb (x .polynomial) q) (concat (c .cycles))) (x .polynomial) (below (numPoly c))

@@ -21,6 +21,7 @@ use Rattle.backend.specs.Circuit.{
   numPoly,
   numLookups,
   copied,
+  copiedIn,
   numCopied,
   permNumber,
   mNumber,
@@ -63,7 +64,7 @@ use Rattle.completeness.proofs.Passed.{yes-all, constraints-scoped, loo
 
 -- ---- circuits
 pub copied-below : (c : Circuit) → All (λ q. q < numPoly c) (copied c)
-unfolding copied
+unfolding copiedIn copied
 copied-below c = all-those (λ q. q < numPoly c) _ (below (numPoly c)) (all-column (λ q. q < numPoly c) (λ i. i) (numPoly c) (λ i l. l))
 
 module _ (𝓕 : Field) where

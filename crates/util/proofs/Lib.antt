@@ -6,3 +6,6 @@ pub mod Totals
 pub mod Places
 pub mod First
 pub mod Over
+pub mod Once
+pub mod Searches
+pub mod Walks

@@ -1,0 +1,331 @@
+-- Laws of the bodies: sums of the rounds, the widths and the cycle lengths; 3 and 4 at the bodies; 5, 6 and 9. Assumes nothing.
+use mathlib.Core.Path.{_≡_, refl, sym, ap, ap₂, _∙_}
+use mathlib.Core.Bool.{Bool, true, false, not, _&&_, _||_, and-assoc}
+use mathlib.Core.List.{List, [], _∷_, _++_, map}
+use Prim.Native.Nat.{ℕ, zero, suc, _+_, _-_, _*_, _/_, _%_, _^_, _≤_, _<_, min}
+use native.Mathlib.Omega.{arith, min-cases}
+use native.Mathlib.Nat.{one-mul, mul-one, add-zero, mul-le-mul-right, min-eq-left, min-eq-right}
+use lib.ListN.{length, getD, take, drop, length-map, length-drop}
+use lib.Seq.{take-all, take-at, length-take-le}
+use lib.Dec.{eqb, leb, ltb, leb·suc-suc}
+use lib.Pow.{pow-pos, shl-exact}
+use borrow.Author.Tests.{lt-ltb, le-ltb, le-leb, lt-leb, leb-true, leb-false, ltb-true, ltb-false, eqb-true, eqb-false, eq-eqb, ne-eqb}
+use Rattle.field.specs.Prime.{P}
+use Rattle.util.specs.Lists.{column, below, allOf, total, split, All}
+use Rattle.util.proofs.Tests.{false-true, and-left, and-right, all-true}
+use Rattle.util.proofs.All.{all-weaken}
+use Rattle.util.proofs.Lists.{split-length}
+use Rattle.util.proofs.Columns.{column-length, column-cong, column-of, column-append, map-column}
+use Rattle.util.proofs.Totals.{total-append}
+use Rattle.util.proofs.Walks.{all-map, all-same, all-parts, is-nought, not-nought}
+use Rattle.expression.specs.Nodes.{wordOf, exprOf}
+use Rattle.backend.specs.Circuit.{
+  Section,
+  sectionAt,
+  entry,
+  entries,
+  wordK,
+  wordsIn,
+  bodyOf,
+  word,
+  wordEach,
+  Round,
+  roundAt,
+  Pair,
+  pairAt,
+  Circuit,
+  circuitOf,
+  rowsOf,
+  numWitness,
+  numUser,
+  numPoly,
+}
+use Rattle.backend.specs.Layout.{nodeCount, nodesHold, kindIs}
+use Rattle.backend.specs.Questions.{q3-bodies, q4-bodies, roundsGood, small, smallValue, valuesSmall, q5, q6, q9}
+use Rattle.backend.specs.Laid.{Laid, Counted, partOf, infoOf}
+use Rattle.backend.specs.declared.contents.Part.{Part}
+use Rattle.backend.specs.declared.bodies.Info.{Info}
+use Rattle.backend.proofs.Sections.{Placed, body-part, body-length, part-length}
+
+-- ---- a section's words, entry by entry
+
+-- the first word of each entry
+each-first : (body : List ℕ) (size n : ℕ) → wordEach body size 0 n ≡ column (λ i. word body (i * size)) n
+each-first body size n = column-cong _ _ n (λ i _. ap (word body) (add-zero (i * size)))
+
+-- entries of one word
+each-one : (body : List ℕ) → wordEach body 1 0 (length body) ≡ body
+each-one body =
+    column-cong _ (λ i. getD body i 0) (length body) (λ i _. ap (word body) (add-zero (i * 1) ∙ mul-one i)) ∙ column-of body 0
+
+-- ---- sums
+
+-- a function of a section's part and its count, taken for the body and its entries
+module _ (ws : List ℕ) (p : Part) (s : ℕ) (q : Placed ws s p) where
+  of-section : {A : Type 0} (f : List ℕ → ℕ → A) → f (take (p .end - p .start) (drop (p .start) ws)) (p .count) ≡ f (bodyOf ws (sectionAt s)) (entries ws (sectionAt s))
+  of-section f = ap₂ f (body-part ws s p q) (ap (λ (p : Part). p .count) (q .0))
+
+module _ (ws : List ℕ) (l : Laid ws) (p : Part) where
+  -- the entries lie in the part
+  pub entries-fit : (s : ℕ) → Placed ws s p → (size : ℕ) → entry (wordK ws) (sectionAt s) ≡ size
+      → p .count * size ≤ length (take (p .end - p .start) (drop (p .start) ws))
+  entries-fit s q size e =
+      let n : length (take (p .end - p .start) (drop (p .start) ws)) ≡ p .count * size = part-length ws s p l q ∙ ap (λ (e : ℕ). p .count * e) e in
+      omega arith
+
+  -- there is a round
+  pub some-rounds : Placed ws 2 p → 1 ≤ p .count
+  some-rounds q = let e : p .count ≡ entries ws Section.rounds = ap (λ (p : Part). p .count) (q .0) in let h = l .some-rounds in omega arith
+
+  pub witness-sum : Placed ws 2 p → (limit r : ℕ) → r ≡ min (total (wordEach (take (p .end - p .start) (drop (p .start) ws)) 2 0 (p .count))) limit
+      → r ≡ min (numWitness (circuitOf ws)) limit
+  unfolding numWitness circuitOf
+  witness-sum q limit r e =
+      e
+      ∙ ap (λ (ns : List ℕ). min (total ns) limit)
+      (of-section ws p 2 q (λ body n. wordEach body 2 0 n) ∙ each-first (bodyOf ws Section.rounds) 2 (entries ws Section.rounds)
+      ∙ sym (map-column (λ (r : Round). r .witness) (roundAt (bodyOf ws Section.rounds)) (entries ws Section.rounds)))
+
+  pub user-sum : Placed ws 2 p → (limit r : ℕ) → r ≡ min (total (wordEach (take (p .end - p .start) (drop (p .start) ws)) 2 1 (p .count))) limit
+      → r ≡ min (numUser (circuitOf ws)) limit
+  unfolding numUser circuitOf
+  user-sum q limit r e =
+      e
+      ∙ ap (λ (ns : List ℕ). min (total ns) limit)
+      (of-section ws p 2 q (λ body n. wordEach body 2 1 n)
+      ∙ sym (map-column (λ (r : Round). r .challenges) (roundAt (bodyOf ws Section.rounds)) (entries ws Section.rounds)))
+
+  -- sections of one word an entry
+  part-each : (s : ℕ) → Placed ws s p → entry (wordK ws) (sectionAt s) ≡ 1
+      → wordEach (take (p .end - p .start) (drop (p .start) ws)) 1 0 (p .count) ≡ bodyOf ws (sectionAt s)
+  part-each s q e =
+      of-section ws p s q (λ body n. wordEach body 1 0 n)
+      ∙ ap (wordEach (bodyOf ws (sectionAt s)) 1 0)
+      (sym (body-length ws l (sectionAt s) ∙ ap (λ (e : ℕ). entries ws (sectionAt s) * e) e ∙ mul-one (entries ws (sectionAt s))))
+      ∙ each-one (bodyOf ws (sectionAt s))
+
+  pub plain-sum : (s : ℕ) → Placed ws s p → entry (wordK ws) (sectionAt s) ≡ 1 → (limit r : ℕ)
+      → r ≡ min (total (wordEach (take (p .end - p .start) (drop (p .start) ws)) 1 0 (p .count))) limit
+      → r ≡ min (total (bodyOf ws (sectionAt s))) limit
+  plain-sum s q e limit r h = h ∙ ap (λ (ns : List ℕ). min (total ns) limit) (part-each s q e)
+
+pub fewer-fit : (n len size : ℕ) → n * size ≤ len → (n - 1) * size ≤ len
+fewer-fit n len size h = let m : (n - 1) * size ≤ n * size = mul-le-mul-right size (omega arith) in omega arith
+
+-- as many words as entries
+single-length : (ws : List ℕ) → Laid ws → (s : Section) → entry (wordK ws) s ≡ 1 → length (bodyOf ws s) ≡ entries ws s
+single-length ws l s e = body-length ws l s ∙ ap (λ (e : ℕ). entries ws s * e) e ∙ mul-one (entries ws s)
+
+-- ---- tests
+
+below-leb : (w m : ℕ) → ltb w (suc m) ≡ leb w m
+below-leb w m = leb·suc-suc w m
+
+pub narrow-widths : (ws : List ℕ) (p : Part) → Placed ws 5 p → (r : Bool) → r ≡ allOf (λ w. ltb w 9) (take (p .end - p .start) (drop (p .start) ws))
+    → r ≡ allOf (λ w. leb w 8) (bodyOf ws Section.widths)
+narrow-widths ws p q r e =
+    e ∙ ap (allOf (λ (w : ℕ). ltb w 9)) (body-part ws 5 p q)
+    ∙ all-same (λ (w : ℕ). ltb w 9) (λ (w : ℕ). leb w 8) (λ w. below-leb w 8) (bodyOf ws Section.widths)
+
+-- what 4 compares with, and what it counts, when the sum stops one past it
+leb-min : (n m : ℕ) → leb (min n (m + 1)) m ≡ leb n m
+leb-min n m =
+    min-cases n (m + 1) (leb (min n (m + 1)) m ≡ leb n m) (λ _ e. ap (λ (x : ℕ). leb x m) e)
+    (λ h e. lt-leb (min n (m + 1)) m (omega arith) ∙ sym (lt-leb n m (omega arith)))
+
+eqb-min : (n m : ℕ) → eqb m (min n (m + 1)) ≡ eqb m n
+eqb-min n m =
+    min-cases n (m + 1) (eqb m (min n (m + 1)) ≡ eqb m n) (λ _ e. ap (eqb m) e)
+    (λ h e. ne-eqb m (min n (m + 1)) (λ q. omega arith) ∙ sym (ne-eqb m n (λ q. omega arith)))
+
+pub three-bodies : (ws : List ℕ) (w u s : ℕ) (n : Bool) → w ≡ min (numWitness (circuitOf ws)) 33 → u ≡ min (numUser (circuitOf ws)) 17
+    → n ≡ allOf (λ w. leb w 8) (bodyOf ws Section.widths) → s ≡ min (total (bodyOf ws Section.lengths)) 4097
+    → (leb w 32 && leb u 16 && n && leb s 4096) ≡ q3-bodies ws
+unfolding q3-bodies
+three-bodies ws w u s n a b c d =
+    ap₂ _&&_
+    (ap₂ _&&_
+    (ap₂ _&&_ (ap (λ (x : ℕ). leb x 32) a ∙ leb-min (numWitness (circuitOf ws)) 32)
+    (ap (λ (x : ℕ). leb x 16) b ∙ leb-min (numUser (circuitOf ws)) 16))
+    c)
+    (ap (λ (x : ℕ). leb x 4096) d ∙ leb-min (total (bodyOf ws Section.lengths)) 4096)
+
+pub four-bodies : (ws : List ℕ) (w l : ℕ) → w ≡ min (total (bodyOf ws Section.widths)) (getD ws 15 0 + 1)
+    → l ≡ min (total (bodyOf ws Section.lengths)) (getD ws 19 0 + 1) → (eqb (getD ws 15 0) w && eqb (getD ws 19 0) l) ≡ q4-bodies ws
+unfolding q4-bodies
+four-bodies ws w l a b =
+    ap₂ _&&_ (ap (eqb (getD ws 15 0)) a ∙ eqb-min (total (bodyOf ws Section.widths)) (getD ws 15 0))
+    (ap (eqb (getD ws 19 0)) b ∙ eqb-min (total (bodyOf ws Section.lengths)) (getD ws 19 0))
+
+-- yes to both
+pub counted : (ws : List ℕ) → q3-bodies ws ≡ true → q4-bodies ws ≡ true → Counted ws
+unfolding q3-bodies q4-bodies
+counted ws three four =
+    let w : Bool = leb (numWitness (circuitOf ws)) 32 in
+    let u : Bool = leb (numUser (circuitOf ws)) 16 in
+    let n : Bool = allOf (λ (w : ℕ). leb w 8) (bodyOf ws Section.widths) in
+    let s : Bool = leb (total (bodyOf ws Section.lengths)) 4096 in
+    let p : Bool = eqb (entries ws Section.pairs) (total (bodyOf ws Section.widths)) in
+    let c : Bool = eqb (entries ws Section.cells) (total (bodyOf ws Section.lengths)) in
+    record {
+      few-witness = leb-true (numWitness (circuitOf ws)) 32 (and-left w u (and-left (w && u) n (and-left (w && u && n) s three)));
+      few-user = leb-true (numUser (circuitOf ws)) 16 (and-right w u (and-left (w && u) n (and-left (w && u && n) s three)));
+      narrow =
+          all-weaken (λ (w : ℕ). leb w 8 ≡ true) (λ (w : ℕ). w ≤ 8) (λ w e. leb-true w 8 e) (bodyOf ws Section.widths)
+          (all-true (λ (w : ℕ). leb w 8) (bodyOf ws Section.widths) (and-right (w && u) n (and-left (w && u && n) s three)));
+      few-in-cycles = leb-true (total (bodyOf ws Section.lengths)) 4096 (and-right (w && u && n) s three);
+      pairs-are = eqb-true (entries ws Section.pairs) (total (bodyOf ws Section.widths)) (and-left p c four);
+      cells-are = eqb-true (entries ws Section.cells) (total (bodyOf ws Section.lengths)) (and-right p c four);
+    }
+
+-- ---- 5
+
+take-column : {A : Type 0} (f : ℕ → A) (m n : ℕ) → m ≤ n → take m (column f n) ≡ column f m
+take-column f m n h =
+    let e : n ≡ m + (n - m) = omega arith in
+    ap (λ (n : ℕ). take m (column f n)) e ∙ ap (take m) (column-append f m (n - m)) ∙ take-at (column f m) _ m (column-length f m)
+
+pub rounds-tested : (ws : List ℕ) (p : Part) → Placed ws 2 p → (w u : Bool)
+    → w ≡ allOf (ltb 0) (wordEach (take (p .end - p .start) (drop (p .start) ws)) 2 0 (p .count))
+    → u ≡ allOf (ltb 0) (wordEach (take (p .end - p .start) (drop (p .start) ws)) 2 1 (p .count - 1))
+    → (w && u) ≡ roundsGood (circuitOf ws .rounds)
+unfolding circuitOf
+rounds-tested ws p q w u a b =
+    let body : List ℕ = bodyOf ws Section.rounds in
+    let n : ℕ = entries ws Section.rounds in
+    ap₂ _&&_
+    (a
+    ∙ ap (allOf (ltb 0))
+    (of-section ws p 2 q (λ body n. wordEach body 2 0 n) ∙ each-first body 2 n ∙ sym (map-column (λ (r : Round). r .witness) (roundAt body) n))
+    ∙ all-map (ltb 0) (λ (r : Round). r .witness) (column (roundAt body) n))
+    (b
+    ∙ ap (allOf (ltb 0))
+    (of-section ws p 2 q (λ body n. wordEach body 2 1 (n - 1)) ∙ sym (map-column (λ (r : Round). r .challenges) (roundAt body) (n - 1)))
+    ∙ all-map (ltb 0) (λ (r : Round). r .challenges) (column (roundAt body) (n - 1))
+    ∙ ap (allOf (λ (r : Round). ltb 0 (r .challenges)))
+    (sym (ap (λ (m : ℕ). take (m - 1) (column (roundAt body) n)) (column-length (roundAt body) n) ∙ take-column (roundAt body) (n - 1) n (omega arith))))
+
+below-rows : (n rows : ℕ) → 0 < rows → ltb n rows ≡ leb n (rows - 1)
+below-rows n rows h = let e : rows ≡ suc (rows - 1) = omega arith in ap (ltb n) e ∙ leb·suc-suc n (rows - 1)
+
+pub five : (ws : List ℕ) (p : Part) → Placed ws 0 p → (rows : ℕ) (good short : Bool) → good ≡ roundsGood (circuitOf ws .rounds)
+    → rows ≡ 2 ^ wordK ws → short ≡ allOf (λ w. ltb w rows) (take (p .end - p .start) (drop (p .start) ws)) → (good && short) ≡ q5 (circuitOf ws)
+unfolding q5 circuitOf
+five ws p q rows good short a b e =
+    ap₂ _&&_ a
+    (e ∙ ap (allOf (λ (w : ℕ). ltb w rows)) (body-part ws 0 p q)
+    ∙ ap (λ (rows : ℕ). allOf (λ (w : ℕ). ltb w rows) (bodyOf ws Section.instances)) b
+    ∙ all-same (λ (w : ℕ). ltb w (2 ^ wordK ws)) (λ (w : ℕ). leb w (2 ^ wordK ws - 1)) (λ w. below-rows w (2 ^ wordK ws) (pow-pos (wordK ws)))
+    (bodyOf ws Section.instances))
+
+-- ---- 6
+
+-- a value too large, where it is a Constant's or a scalar
+too-large : (a b : Bool) (v : ℕ) → ((a || b) && leb P v) ≡ true → (not (a || b) || ltb v P) ≡ false
+too-large true b v e = le-ltb v P (leb-true P v e)
+too-large false true v e = le-ltb v P (leb-true P v e)
+too-large false false v e = false-true e
+
+small-or-none : (a b : Bool) (v : ℕ) → ((a || b) && leb P v) ≡ false → (not (a || b) || ltb v P) ≡ true
+small-or-none true b v e = lt-ltb v P (leb-false P v e)
+small-or-none false true v e = lt-ltb v P (leb-false P v e)
+small-or-none false false v e = refl
+
+module _ (nodes : List ℕ) (i : ℕ) where
+  kind-of : getD nodes (i * 4) 0 ≡ wordOf nodes i 0
+  kind-of = ap (λ (n : ℕ). getD nodes n 0) (sym (add-zero (i * 4)))
+
+  pub value-large : ((eqb (getD nodes (i * 4) 0) 1 || eqb (getD nodes (i * 4) 0) 10) && leb P (getD nodes (i * 4 + 3) 0)) ≡ true
+      → smallValue nodes i ≡ false
+  value-large e = too-large (kindIs nodes 1 i) (kindIs nodes 10 i) (wordOf nodes i 3) (rw kind-of at e)
+
+  pub value-small : ((eqb (getD nodes (i * 4) 0) 1 || eqb (getD nodes (i * 4) 0) 10) && leb P (getD nodes (i * 4 + 3) 0)) ≡ false
+      → smallValue nodes i ≡ true
+  value-small e = small-or-none (kindIs nodes 1 i) (kindIs nodes 10 i) (wordOf nodes i 3) (rw kind-of at e)
+
+pub six : (ws : List ℕ) (p s : Part) → Laid ws → Placed ws 1 p → Placed ws 3 s → (given values : Bool)
+    → given ≡ allOf small (take (p .end - p .start) (drop (p .start) ws))
+    → values ≡ valuesSmall (take (s .end - s .start) (drop (s .start) ws)) → (given && values) ≡ q6 (circuitOf ws)
+unfolding q6 circuitOf
+six ws p s l q r given values a b =
+    let body : List ℕ = bodyOf ws Section.preprocess in
+    let len : length body ≡ entries ws Section.preprocess * 2 ^ wordK ws = body-length ws l Section.preprocess in
+    ap₂ _&&_
+    (a ∙ ap (allOf small) (body-part ws 1 p q ∙ sym (take-all (entries ws Section.preprocess * 2 ^ wordK ws) body (omega arith)))
+    ∙ sym (all-parts small (2 ^ wordK ws) body (entries ws Section.preprocess)))
+    (b ∙ ap valuesSmall (body-part ws 3 s r))
+
+-- ---- 9
+
+-- each part as long as asked, where there are enough
+part-lengths : {A : Type 0} (ns : List ℕ) (xs : List A) → total ns ≤ length xs → map (λ ys. length ys) (split ns xs) ≡ ns
+unfolding split total
+part-lengths [] xs h = refl
+part-lengths (n ∷ ns) xs h =
+    ap₂ (λ (m : ℕ) (ms : List ℕ). m ∷ ms) (length-take-le n xs (omega arith))
+    (part-lengths ns (drop n xs) (let d = length-drop n xs in omega arith))
+
+pub nine : (ws : List ℕ) (p : Part) → Laid ws → Counted ws → Placed ws 5 p → (wide : Bool)
+    → wide ≡ allOf (ltb 0) (wordEach (take (p .end - p .start) (drop (p .start) ws)) 1 0 (p .count))
+    → (wide && (ltb 0 (getD ws 11 0) || ltb 0 (getD ws 13 0) || ltb 0 (getD ws 17 0))) ≡ q9 (circuitOf ws)
+unfolding q9 circuitOf
+nine ws p l k q wide a =
+    let widths : List ℕ = bodyOf ws Section.widths in
+    let pairs : List Pair = column (pairAt (bodyOf ws Section.nodes) (bodyOf ws Section.pairs)) (entries ws Section.pairs) in
+    let enough : total widths ≤ length pairs =
+    (let e = column-length (pairAt (bodyOf ws Section.nodes) (bodyOf ws Section.pairs)) (entries ws Section.pairs) in
+    let w = k .pairs-are in
+    omega arith)
+    in
+    ap₂ _&&_
+    (a ∙ ap (allOf (ltb 0)) (part-each ws l p 5 q refl ∙ sym (part-lengths widths pairs enough)) ∙ all-map (ltb 0) (λ (l : List Pair). length l) (split widths pairs))
+    (ap₂ _||_
+    (ap₂ _||_
+    (ap (ltb 0) (sym (length-map (bodyOf ws Section.constraints) (exprOf (bodyOf ws Section.nodes)) ∙ single-length ws l Section.constraints refl)))
+    (ap (ltb 0) (sym (split-length widths pairs ∙ single-length ws l Section.widths refl))))
+    (ap (ltb 0) (sym (split-length (bodyOf ws Section.lengths) _ ∙ single-length ws l Section.lengths refl))))
+
+-- ---- the numbers
+
+pub below-64 : (ws : List ℕ) → Laid ws → wordK ws < 64
+below-64 ws l = let h = l .k-high in omega arith
+
+pub rows-are : (k : ℕ) → k < 64 → 1 * 2 ^ k % 2 ^ 64 ≡ 2 ^ k
+rows-are k h = shl-exact {a = 1} 1 k 64 (omega arith) (omega arith) ∙ one-mul (2 ^ k)
+
+pub not-past : (n limit r : ℕ) → r ≡ min n limit → n ≤ limit → r ≡ n
+not-past n limit r e h = e ∙ min-eq-left h
+
+pub polys : (ws : List ℕ) (w : ℕ) → Laid ws → w ≡ numWitness (circuitOf ws) → getD ws 3 0 + getD ws 5 0 + w ≡ numPoly (circuitOf ws)
+unfolding numPoly circuitOf
+polys ws w l e =
+    ap₂ _+_
+    (ap₂ _+_ (sym (single-length ws l Section.instances refl)) (sym (column-length _ (entries ws Section.preprocess))))
+    e
+
+pub info-is : (ws : List ℕ) (rows witness user polys : ℕ) (instances preprocess rounds nodes constraints widths pairs lengths cells : Part)
+    → rows ≡ 2 ^ wordK ws → instances ≡ partOf ws Section.instances → preprocess ≡ partOf ws Section.preprocess → rounds ≡ partOf ws Section.rounds
+    → nodes ≡ partOf ws Section.nodes → constraints ≡ partOf ws Section.constraints → widths ≡ partOf ws Section.widths
+    → pairs ≡ partOf ws Section.pairs → lengths ≡ partOf ws Section.lengths → cells ≡ partOf ws Section.cells
+    → witness ≡ numWitness (circuitOf ws) → user ≡ numUser (circuitOf ws) → polys ≡ numPoly (circuitOf ws)
+    → _≡_ {A = Info}
+    (record {
+      k = getD ws 0 0;
+      rows = rows;
+      instances = instances;
+      preprocess = preprocess;
+      rounds = rounds;
+      nodes = nodes;
+      constraints = constraints;
+      widths = widths;
+      pairs = pairs;
+      lengths = lengths;
+      cells = cells;
+      witness = witness;
+      user = user;
+      polys = polys;
+    })
+    (infoOf ws)
+unfolding infoOf
+info-is ws rows witness user polys instances preprocess rounds nodes constraints widths pairs lengths cells a b c d e f g h i j k l m =
+    rw (a, b, c, d, e, f, g, h, i, j, k, l, m)

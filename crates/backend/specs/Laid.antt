@@ -1,0 +1,73 @@
+-- What yes to questions 1 to 4 tells: where the sections lie, and their limits. Assumes nothing.
+use mathlib.Core.Path.{_≡_}
+use mathlib.Core.List.{List}
+use Prim.Native.Nat.{ℕ, _+_, _^_, _≤_}
+use lib.ListN.{length, getD}
+use Rattle.backend.specs.Circuit.{Section, contents, wordK, startOf, entries, wordsIn, bodyOf, circuitOf, numWitness, numUser, numPoly}
+use Rattle.util.specs.Lists.{total, All}
+use Rattle.backend.specs.Questions.{largestK}
+use Rattle.backend.specs.declared.contents.Part.{Part}
+use Rattle.backend.specs.declared.bodies.Info.{Info}
+
+-- the word after the last of a section
+abbrev pub endOf : List ℕ → Section → ℕ
+endOf ws s = startOf ws s + wordsIn ws s
+
+-- a section's place and entries, as numbers
+abbrev pub partOf : List ℕ → Section → Part
+partOf ws s = record { start = startOf ws s; end = endOf ws s; count = entries ws s }
+
+-- yes to 1 to 4 at the contents
+pub record Laid (ws : List ℕ) : Type 0 where
+  pub long : contents ≤ length ws
+  pub k-low : 1 ≤ wordK ws
+  pub k-high : wordK ws ≤ largestK
+  pub degree : getD ws 1 0 ≤ 33
+  pub few-instances : entries ws Section.instances ≤ 8
+  pub few-preprocess : entries ws Section.preprocess ≤ 32
+  pub some-rounds : 1 ≤ entries ws Section.rounds
+  pub few-rounds : entries ws Section.rounds ≤ 4
+  pub few-nodes : entries ws Section.nodes ≤ 1024
+  pub few-constraints : entries ws Section.constraints ≤ 32
+  pub few-widths : entries ws Section.widths ≤ 8
+  pub few-lengths : entries ws Section.lengths ≤ 1024
+  pub few-cells : entries ws Section.cells ≤ 4096
+  pub instances-at : startOf ws Section.instances ≡ contents
+  pub preprocess-at : startOf ws Section.preprocess ≡ endOf ws Section.instances
+  pub rounds-at : startOf ws Section.rounds ≡ endOf ws Section.preprocess
+  pub nodes-at : startOf ws Section.nodes ≡ endOf ws Section.rounds
+  pub constraints-at : startOf ws Section.constraints ≡ endOf ws Section.nodes
+  pub widths-at : startOf ws Section.widths ≡ endOf ws Section.constraints
+  pub pairs-at : startOf ws Section.pairs ≡ endOf ws Section.widths
+  pub lengths-at : startOf ws Section.lengths ≡ endOf ws Section.pairs
+  pub cells-at : startOf ws Section.cells ≡ endOf ws Section.lengths
+  pub whole : length ws ≡ endOf ws Section.cells
+
+-- yes to 3 and 4 at the bodies
+pub record Counted (ws : List ℕ) : Type 0 where
+  pub few-witness : numWitness (circuitOf ws) ≤ 32
+  pub few-user : numUser (circuitOf ws) ≤ 16
+  pub narrow : All (λ w. w ≤ 8) (bodyOf ws Section.widths)
+  pub few-in-cycles : total (bodyOf ws Section.lengths) ≤ 4096
+  pub pairs-are : entries ws Section.pairs ≡ total (bodyOf ws Section.widths)
+  pub cells-are : entries ws Section.cells ≡ total (bodyOf ws Section.lengths)
+
+-- the numbers of a circuit
+unfoldable pub infoOf : List ℕ → Info
+infoOf ws =
+    record {
+      k = wordK ws;
+      rows = 2 ^ wordK ws;
+      instances = partOf ws Section.instances;
+      preprocess = partOf ws Section.preprocess;
+      rounds = partOf ws Section.rounds;
+      nodes = partOf ws Section.nodes;
+      constraints = partOf ws Section.constraints;
+      widths = partOf ws Section.widths;
+      pairs = partOf ws Section.pairs;
+      lengths = partOf ws Section.lengths;
+      cells = partOf ws Section.cells;
+      witness = numWitness (circuitOf ws);
+      user = numUser (circuitOf ws);
+      polys = numPoly (circuitOf ws);
+    }
