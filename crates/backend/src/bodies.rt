@@ -43,7 +43,7 @@ pub struct Info {
 }
 
 // Rows: 2^k.
-pub(crate) fn rows(circuit: &[u64]) -> u64
+pub fn rows(circuit: &[u64]) -> u64
     requires { ⌜ Laid (now circuit) ⌝ }
     ensures { λ r. ⌜ r ≡ 2 ^ wordK (now (circuit .entry)) ⌝ }
 {
@@ -208,7 +208,7 @@ pub fn question_9(circuit: &[u64]) -> bool
 }
 
 // Witness columns in all.
-pub(crate) fn num_witness(circuit: &[u64]) -> u64
+pub fn num_witness(circuit: &[u64]) -> u64
     requires { ⌜ Laid (now circuit) × Counted (now circuit) ⌝ }
     ensures { λ r. ⌜ r ≡ numWitness (circuitOf (now (circuit .entry))) ⌝ }
 {
@@ -216,7 +216,7 @@ pub(crate) fn num_witness(circuit: &[u64]) -> u64
 }
 
 // User challenges in all.
-pub(crate) fn num_user(circuit: &[u64]) -> u64
+pub fn num_user(circuit: &[u64]) -> u64
     requires { ⌜ Laid (now circuit) × Counted (now circuit) ⌝ }
     ensures { λ r. ⌜ r ≡ numUser (circuitOf (now (circuit .entry))) ⌝ }
 {

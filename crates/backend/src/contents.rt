@@ -35,7 +35,7 @@ pub struct Part {
 }
 
 // A word, 0 past the last.
-pub(crate) fn word(words: &[u64], i: usize) -> u64
+pub fn word(words: &[u64], i: usize) -> u64
     ensures { λ r. ⌜ r ≡ getD (now (words .entry)) i 0 ⌝ }
 {
     if i < words.len() {

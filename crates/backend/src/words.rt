@@ -7,7 +7,7 @@ ghost use Rattle.util.specs.Lists.{allOf, total};
 ghost use Rattle.backend.specs.Circuit.{wordEach};
 
 // Is every word below the limit?
-pub(crate) fn all_below(words: &[u64], limit: u64) -> bool
+pub fn all_below(words: &[u64], limit: u64) -> bool
     ensures { λ r. ⌜ r ≡ allOf (λ w. ltb w limit) (now (words .entry)) ⌝ }
 {
     let mut i = 0;
@@ -21,7 +21,7 @@ pub(crate) fn all_below(words: &[u64], limit: u64) -> bool
 }
 
 // Is word j of each of n entries of `size` words above 0?
-pub(crate) fn all_positive(words: &[u64], size: usize, j: usize, n: usize) -> bool
+pub fn all_positive(words: &[u64], size: usize, j: usize, n: usize) -> bool
     requires { ⌜ (j < size) × (n * size ≤ length (now words)) ⌝ }
     ensures { λ r. ⌜ r ≡ allOf (ltb 0) (wordEach (now (words .entry)) size j n) ⌝ }
 {
@@ -36,7 +36,7 @@ pub(crate) fn all_positive(words: &[u64], size: usize, j: usize, n: usize) -> bo
 }
 
 // The sum of word j of each of n entries of `size` words, the limit where it is more.
-pub(crate) fn total_to(words: &[u64], size: usize, j: usize, n: usize, limit: u64) -> u64
+pub fn total_to(words: &[u64], size: usize, j: usize, n: usize, limit: u64) -> u64
     requires { ⌜ (j < size) × (n * size ≤ length (now words)) ⌝ }
     ensures { λ r. ⌜ r ≡ min (total (wordEach (now (words .entry)) size j n)) limit ⌝ }
 {

@@ -1,0 +1,178 @@
+// The questions put to circuit words in their order.
+use backend::bodies::num_poly;
+use backend::bodies::num_user;
+use backend::bodies::question_3_bodies;
+use backend::bodies::question_4_bodies;
+use backend::bodies::question_5;
+use backend::bodies::question_6;
+use backend::bodies::question_9;
+use backend::bodies::rows;
+use backend::contents::CELLS;
+use backend::contents::CONSTRAINTS;
+use backend::contents::LENGTHS;
+use backend::contents::NODES;
+use backend::contents::PAIRS;
+use backend::contents::WIDTHS;
+use backend::contents::question_1;
+use backend::contents::question_2;
+use backend::contents::question_3;
+use backend::contents::question_4;
+use backend::contents::section;
+use cycles::cycles_good;
+use degrees::degrees_fit;
+use layout::laid_out;
+use layout::nodes_in_range;
+ghost use mathlib.Core.Path.{_≡_};
+ghost use mathlib.Core.Bool.{true};
+ghost use Rattle.util.specs.Lists.{firstNo};
+ghost use Rattle.backend.specs.Circuit.{circuitOf};
+ghost use Rattle.backend.specs.Questions.{layoutQuestions, bodyQuestions, circuitQuestions, q7, q8, q10, q11};
+ghost use Rattle.backend.specs.Laid.{Laid, Counted};
+
+// "3 and then 4 are put to the contents, then 3 and then 4 to the bodies": the first no of these, 0 if there is none.
+pub fn layout_no(circuit: &[u64]) -> u64
+    ensures { λ r. ⌜ r ≡ firstNo layoutQuestions (now (circuit .entry)) ⌝ }
+{
+    if !question_1(circuit) {
+        return 1;
+    }
+    if !question_2(circuit) {
+        return 2;
+    }
+    if !question_3(circuit) {
+        return 3;
+    }
+    if !question_4(circuit) {
+        return 4;
+    }
+    if !question_3_bodies(circuit) {
+        return 3;
+    }
+    if !question_4_bodies(circuit) {
+        return 4;
+    }
+    0
+}
+
+// Question 7.
+pub fn question_7(circuit: &[u64]) -> bool
+    requires { ⌜ Laid (now circuit) ⌝ }
+    ensures { λ r. ⌜ r ≡ q7 (circuitOf (now (circuit .entry))) ⌝ }
+{
+    let nodes = section(circuit, NODES);
+    let constraints = section(circuit, CONSTRAINTS);
+    let pairs = section(circuit, PAIRS);
+    let nodes_start = nodes.start;
+    let nodes_end = nodes.end;
+    let constraints_start = constraints.start;
+    let constraints_end = constraints.end;
+    let pairs_start = pairs.start;
+    let pairs_end = pairs.end;
+    laid_out(
+        &circuit[nodes_start..nodes_end],
+        &circuit[constraints_start..constraints_end],
+        &circuit[pairs_start..pairs_end],
+    )
+}
+
+// Question 8.
+pub fn question_8(circuit: &[u64]) -> bool
+    requires { ⌜ Laid (now circuit) × Counted (now circuit) ⌝ }
+    ensures { λ r. ⌜ r ≡ q8 (circuitOf (now (circuit .entry))) ⌝ }
+{
+    let polys = num_poly(circuit);
+    let user = num_user(circuit);
+    let k = circuit[0];
+    let nodes = section(circuit, NODES);
+    let start = nodes.start;
+    let end = nodes.end;
+    nodes_in_range(&circuit[start..end], polys, user, k)
+}
+
+// Question 11.
+pub fn question_11(circuit: &[u64]) -> bool
+    requires { ⌜ Laid (now circuit) × Counted (now circuit) ⌝ }
+    ensures { λ r. ⌜ r ≡ q11 (circuitOf (now (circuit .entry))) ⌝ }
+{
+    let polys = num_poly(circuit);
+    let rows = rows(circuit);
+    let lengths = section(circuit, LENGTHS);
+    let cells = section(circuit, CELLS);
+    let lengths_start = lengths.start;
+    let lengths_end = lengths.end;
+    let cells_start = cells.start;
+    let cells_end = cells.end;
+    cycles_good(
+        &circuit[lengths_start..lengths_end],
+        &circuit[cells_start..cells_end],
+        polys,
+        rows,
+    )
+}
+
+// Question 10, once 7 has been answered yes.
+pub fn question_10(circuit: &[u64]) -> bool
+    requires { ⌜ Laid (now circuit) × (Counted (now circuit) × (q7 (circuitOf (now circuit)) ≡ true)) ⌝ }
+    ensures { λ r. ⌜ r ≡ q10 (circuitOf (now (circuit .entry))) ⌝ }
+{
+    let stated = circuit[1];
+    let nodes = section(circuit, NODES);
+    let users = section(circuit, CONSTRAINTS);
+    let widths = section(circuit, WIDTHS);
+    let lookups = section(circuit, PAIRS);
+    let nodes_start = nodes.start;
+    let nodes_end = nodes.end;
+    let users_start = users.start;
+    let users_end = users.end;
+    let widths_start = widths.start;
+    let widths_end = widths.end;
+    let lookups_start = lookups.start;
+    let lookups_end = lookups.end;
+    degrees_fit(
+        &circuit[nodes_start..nodes_end],
+        &circuit[users_start..users_end],
+        &circuit[widths_start..widths_end],
+        &circuit[lookups_start..lookups_end],
+        stated,
+    )
+}
+
+// The first no of 5 to 11, 0 if there is none.
+fn body_no(circuit: &[u64]) -> u64
+    requires { ⌜ Laid (now circuit) × Counted (now circuit) ⌝ }
+    ensures { λ r. ⌜ r ≡ firstNo bodyQuestions (now (circuit .entry)) ⌝ }
+{
+    if !question_5(circuit) {
+        return 5;
+    }
+    if !question_6(circuit) {
+        return 6;
+    }
+    if !question_7(circuit) {
+        return 7;
+    }
+    if !question_8(circuit) {
+        return 8;
+    }
+    if !question_9(circuit) {
+        return 9;
+    }
+    if !question_10(circuit) {
+        return 10;
+    }
+    if !question_11(circuit) {
+        return 11;
+    }
+    0
+}
+
+// "Questions, in this order; the first no gives its number": 0 if 1 to 11 are all answered yes.
+pub fn first_no(circuit: &[u64]) -> u64
+    ensures { λ r. ⌜ r ≡ firstNo circuitQuestions (now (circuit .entry)) ⌝ }
+{
+    let no = layout_no(circuit);
+    if no != 0 {
+        return no;
+    }
+    body_no(circuit)
+}
