@@ -9,3 +9,5 @@ pub mod Over
 pub mod Once
 pub mod Searches
 pub mod Walks
+pub mod Sets
+pub mod Fill

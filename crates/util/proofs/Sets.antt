@@ -1,0 +1,50 @@
+-- One word of a column in a buffer changed. Assumes nothing.
+use mathlib.Core.Path.{_≡_, refl, sym, ap, ap₂, _∙_}
+use mathlib.Core.Logic.{_≢_}
+use mathlib.Core.List.{List, [], _∷_, _++_}
+use Prim.Native.Nat.{ℕ, zero, suc, _+_, _≤_, _<_}
+use native.Mathlib.Nat.{zero-add, suc-add}
+use native.Mathlib.Decide.{ℕ-discrete}
+use native.Mathlib.Omega.{arith}
+use lib.ListN.{length, getD, take, drop, set, length-set}
+use lib.Seq.{set-append-left, length-take-le, getD-set-same, getD-set-other, ext-getD}
+use Rattle.util.specs.Lists.{column, over}
+use Rattle.util.proofs.Columns.{column-length, get-column}
+
+module _ {A : Type 0} where
+  pub set-append-add : (xs ys : List A) (n : ℕ) (v : A) → set (xs ++ ys) (length xs + n) v ≡ xs ++ set ys n v
+  set-append-add [] ys n v = ap (λ (i : ℕ). set ys i v) (zero-add n)
+  set-append-add (x ∷ xs) ys n v =
+      ap (λ (i : ℕ). set (x ∷ (xs ++ ys)) i v) (suc-add (length xs) n) ∙ ap (λ (l : List A). x ∷ l) (set-append-add xs ys n v)
+
+  -- a word of what was written
+  pub over-set : (d : List A) (at : ℕ) (s : List A) (i : ℕ) (v : A) → at ≤ length d → i < length s
+      → set (over d at s) (at + i) v ≡ over d at (set s i v)
+  unfolding over
+  over-set d at s i v h l =
+      ap (λ (n : ℕ). set (take at d ++ (s ++ drop (at + length s) d)) (n + i) v) (sym (length-take-le at d h))
+      ∙ set-append-add (take at d) (s ++ drop (at + length s) d) i v
+      ∙ ap (λ (x : List A). take at d ++ x) (set-append-left s (drop (at + length s) d) i v l)
+      ∙ ap (λ (n : ℕ). take at d ++ (set s i v ++ drop (at + n) d)) (sym (length-set s i v))
+
+  -- two columns that differ at one place
+  pub set-column-to : (f g : ℕ → A) (n a : ℕ) → a < n → ((i : ℕ) → i < n → i ≢ a → f i ≡ g i) → set (column f n) a (g a) ≡ column g n
+  set-column-to f g n a l h =
+      ext-getD (g a) (set (column f n) a (g a)) (column g n)
+      (length-set (column f n) a (g a) ∙ column-length f n ∙ sym (column-length g n))
+      (λ i m. at i (let q = length-set (column f n) a (g a) in let w = column-length f n in omega arith) (ℕ-discrete i a))
+    where
+      at : (i : ℕ) → i < n → Dec (i ≡ a) → getD (set (column f n) a (g a)) i (g a) ≡ getD (column g n) i (g a)
+      at i m (yes e) =
+          ap (λ (j : ℕ). getD (set (column f n) a (g a)) j (g a)) e
+          ∙ getD-set-same (column f n) a (g a) (g a) (let w = column-length f n in omega arith)
+          ∙ sym (get-column g n i (g a) m ∙ ap g e)
+      at i m (no e) =
+          getD-set-other (column f n) a i (g a) (g a) e ∙ get-column f n i (g a) m ∙ h i m e ∙ sym (get-column g n i (g a) m)
+
+-- a word of a column in a buffer: the others stay as they are
+pub over-column-set : (d : List ℕ) (at : ℕ) (f g : ℕ → ℕ) (n a : ℕ) → at ≤ length d → a < n → ((i : ℕ) → i < n → i ≢ a → f i ≡ g i)
+    → set (over d at (column f n)) (at + a) (g a) ≡ over d at (column g n)
+over-column-set d at f g n a h l e =
+    over-set d at (column f n) a (g a) h (let q = column-length f n in omega arith)
+    ∙ ap (over d at) (set-column-to f g n a l e)
