@@ -20,6 +20,7 @@ use Rattle.util.proofs.Over.{length-over, over-before, over-inside, over-again}
 use Rattle.util.proofs.Sets.{over-column-set}
 use Rattle.prover.specs.Lookup.{lastEqual, multiplicity, covered}
 use Rattle.prover.specs.Words.{countWords}
+use Rattle.prover.proofs.Search.{lastRow, row-same}
 
 -- the inputs below i that are counted at row j
 abbrev pub tally : (ℕ → Option ℕ) → ℕ → ℕ → ℕ
@@ -134,6 +135,14 @@ module _ (rows : ℕ) (found : ℕ → Option ℕ) (d : List ℕ) (at : ℕ) (ro
     -- what stands before the column is as it was
     pub counted-before : (j : ℕ) → j < at → getD m j 0 ≡ getD d j 0
     counted-before j l = ap (λ (x : List ℕ). getD x j 0) (inv .now) ∙ over-before d at (column (tally found i) rows) j 0 (omega arith) l
+
+    -- a search in the buffer, of an input and in a table that stand before the column
+    pub counted-rows : (input table : ℕ) → input + rows ≤ at → table + rows ≤ at → (b : ℕ) → b < rows
+        → lastRow (λ r. getD d (table + r) 0) (getD d (input + b) 0) rows
+        ≡ lastRow (λ r. getD m (table + r) 0) (getD m (input + b) 0) rows
+    counted-rows input table h l b lt =
+        row-same (λ r. getD d (table + r) 0) (λ r. getD m (table + r) 0) (getD d (input + b) 0) (getD m (input + b) 0) rows
+        (sym (counted-before (input + b) (omega arith))) (λ r lr. sym (counted-before (table + r) (omega arith)))
 
     -- the words cleared again
     pub counted-cleared : (n : List ℕ) → n ≡ over m at (replicate rows 0) → n ≡ over d at (replicate rows 0)

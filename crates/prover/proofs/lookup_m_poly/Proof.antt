@@ -18,6 +18,7 @@ use Rattle.prover.proofs.Counts.{
   counted-le,
   counted-more,
   counted-before,
+  counted-rows,
   counted-cleared,
   rowFor,
   answer-true,
@@ -45,13 +46,56 @@ Inv-loop columns₀ input table m rows i₀ columns i =
 abbrev μ-loop : tie.MeasureT-loop
 μ-loop columns₀ input table m rows i₀ columns i = rows - i
 
+-- the counts so far, over the buffer at entry
+counted : (c : tie.At-loop Inv-search μ-search Inv-loop μ-loop)
+    → let a = c .before .before .before .before .before .before .args in
+    Counted (a .rows) (rowFor (a .rows) (elementsFrom (a .columns .now) (a .input)) (elementsFrom (a .columns .now) (a .table)))
+    (a .columns .now) (a .m) (c .loop .columns) (c .loop .i)
+counted c =
+    let s = c .before .before .before .before .before .before in
+    c .loop .inv .2 (s .args .columns .now) (s .pre .2) (c .before .before .before .clear .ensures)
+
+-- the row that the buffer has for an input
+abbrev row : (c : tie.At-loop Inv-search μ-search Inv-loop μ-loop) → Option ℕ
+row c =
+    let a = c .before .before .before .before .before .before .args in
+    lastRow (λ r. getD (c .loop .columns) (a .table + r) 0) (getD (c .loop .columns) (a .input + c .loop .i) 0) (a .rows)
+
+-- it is the one that any buffer has in which the counts are written
+row-is : (c : tie.In-loop Inv-search μ-search Inv-loop μ-loop) (d : List ℕ)
+    → let a = c .before .before .before .before .before .before .before .args in
+    a .m + a .rows ≤ length d
+    → Counted (a .rows) (rowFor (a .rows) (elementsFrom d (a .input)) (elementsFrom d (a .table))) d (a .m) (c .before .loop .columns)
+    (c .before .loop .i)
+    → rowFor (a .rows) (elementsFrom d (a .input)) (elementsFrom d (a .table)) (c .before .loop .i) ≡ row (c .before)
+row-is c d h k =
+    let s = c .before .before .before .before .before .before .before in
+    counted-rows _ _ d _ h _ _ k (s .args .input) (s .args .table) (s .pre .0) (s .pre .1) _ (c .loop-test .taken)
+
+-- what the search found, at the way out of its loop
+found-is : (c : tie.Joined1 Inv-search μ-search Inv-loop μ-loop) → row (c .before .before .before .before) ≡ rowOf (c .if1 .found)
+found-is c =
+    let l = c .before .search in
+    ⊎-elim
+    (λ w. l .inv .1 ∙ search-none _ _ (l .j) (w .0 .taken) ∙ sym (ap rowOf (w .2)))
+    (λ w. l .inv .1 ∙ search-hit _ _ (l .j) (w .0 .left) (w .2 .taken) ∙ sym (ap rowOf (w .4)))
+    (c .if1 .came)
+
+at-is : (c : tie.After-found Inv-search μ-search Inv-loop μ-loop)
+    → row (c .before .before .before .before .before .before) ≡ some (c .found .given .0 .0)
+at-is c = found-is (c .before .before) ∙ ap rowOf (c .found .given .1)
+
+at-below : (c : tie.After-found Inv-search μ-search Inv-loop μ-loop)
+    → c .found .given .0 .0 < c .before .before .before .before .before .before .before .before .before .before .before .before .args .rows
+at-below c = row-below _ _ _ _ (at-is c)
+
 -- src/lib.rt:67:5
 clear-requires : tie.Need-clear-requires Inv-search μ-search Inv-loop μ-loop
 clear-requires c κs = search needs
 
 -- src/lib.rt:69:5
 loop-holds : tie.Need-loop-holds Inv-search μ-search Inv-loop μ-loop
-loop-holds c = search needs
+loop-holds c = (refl, omega arith, λ d h e. counted-start _ _ d _ h _ e)
 
 -- src/lib.rt:70:25
 add-v : tie.Need-add-v Inv-search μ-search Inv-loop μ-loop
@@ -91,7 +135,19 @@ search-less c = search needs
 
 -- src/lib.rt:72:13
 search-again : tie.Need-search-again Inv-search μ-search Inv-loop μ-loop
-search-again c = search needs
+search-again c = 
+    let s = c .before .before .before .before .before .before .before .before .before .before .before .before in
+    let l = c .before .before .before .before .before .before in
+    let t = c .before .before .before .search in
+    let lt : t .j - 1 < s .args .rows = omega (arith, c .before .before .if1 .left, t .inv .0) in (
+      omega arith,
+      t .inv .1
+          ∙ search-miss _ _ (t .j) (c .before .before .if1 .left)
+          (rw (counted-before _ _ _ _ (s .pre .2) _ _ (counted l) (s .args .table + (t .j - 1)) (omega (arith, s .pre .1))) (s .pre .4 (t .j - 1) lt))
+          (rw (counted-before _ _ _ _ (s .pre .2) _ _ (counted l) (s .args .input + l .loop .i) (omega (arith, s .pre .0, c .before .before .before .before .before .loop-test .taken)))
+          (s .pre .3 (l .loop .i) (c .before .before .before .before .before .loop-test .taken)))
+          (c .if2 .left),
+    )
 
 -- src/lib.rt:82:23
 enum-known-found : tie.Need-enum-known-found Inv-search μ-search Inv-loop μ-loop
@@ -99,23 +155,30 @@ enum-known-found c = search needs
 
 -- src/lib.rt:83:25
 add-columns : tie.Need-add-columns Inv-search μ-search Inv-loop μ-loop
-add-columns c = search needs
+add-columns c = omega (arith, at-below (c .before), c .before .before .before .before .before .before .before .before .before .before .before .before .before .pre .2, c .before .before .before .before .before .before .before .before .before .before .before .before .before .good)
 
 -- src/lib.rt:83:17
 mul-columns : tie.Need-mul-columns Inv-search μ-search Inv-loop μ-loop
-mul-columns c = search needs
+mul-columns c = omega (arith, at-below (c .before), c .before .before .before .before .before .before .before .before .before .before .before .before .before .pre .2, c .before .before .before .before .before .before .before .before .before .before .before .before .before .good)
 
 -- src/lib.rt:83:17
 slice-read-columns : tie.Need-slice-read-columns Inv-search μ-search Inv-loop μ-loop
-slice-read-columns c = search needs
+slice-read-columns c = omega (arith, at-below (c .before .before), c .before .before .before .before .before .before .before .before .before .before .before .before .before .before .pre .2, c .before .before .before .before .before .before .before .before .loop .inv .0, c .before .before .before .before .before .before .before .before .before .before .before .clear .kept .0)
 
 -- src/lib.rt:83:17
 add-columns-2 : tie.Need-add-columns-2 Inv-search μ-search Inv-loop μ-loop
-add-columns-2 c = search needs
+add-columns-2 c = 
+    omega
+    (
+      arith,
+      counted-le _ _ _ _ (c .before .before .before .before .before .before .before .before .before .before .before .before .before .before .pre .2) _ _ (counted (c .before .before .before .before .before .before .before .before)) _ _ refl (at-below (c .before .before)),
+      c .before .before .before .before .before .before .before .loop-test .taken,
+      c .before .before .before .before .before .before .before .before .before .before .before .before .before .before .fits .rows,
+    )
 
 -- src/lib.rt:83:17
 slice-write-columns : tie.Need-slice-write-columns Inv-search μ-search Inv-loop μ-loop
-slice-write-columns c = search needs
+slice-write-columns c = omega (arith, at-below (c .before .before), c .before .before .before .before .before .before .before .before .before .before .before .before .before .before .pre .2, c .before .before .before .before .before .before .before .before .loop .inv .0, c .before .before .before .before .before .before .before .before .before .before .before .clear .kept .0)
 
 -- src/lib.rt:86:23
 enum-told : tie.Need-enum-told Inv-search μ-search Inv-loop μ-loop
@@ -131,7 +194,12 @@ same-length c = search needs
 
 -- src/lib.rt:87:17
 returns : tie.Need-returns Inv-search μ-search Inv-loop μ-loop
-returns c = search needs
+returns c = 
+    let s = c .before .before .before .before .before .before .before .before .before .before .before .before .before .before .before .before in
+    let l = c .before .before .before .before .before .before .before .before .before .before in
+    answer-false _ _ _ (s .args .columns .now) (s .args .m) _ (l .loop .i) (c .before .before .before .before .before .before .before .before .before .loop-test .taken)
+    (row-is (c .before .before .before .before .before .before .before .before .before) _ (s .pre .2) (counted l) ∙ found-is (c .before .before .before .before .before .before) ∙ ap rowOf (c .before .before .before .before .enum-told .given .1))
+    (counted-cleared _ _ _ _ (s .pre .2) _ _ (counted l) _ (c .before .before .clear2 .ensures))
 
 -- src/lib.rt:90:9
 add-i : tie.Need-add-i Inv-search μ-search Inv-loop μ-loop
@@ -143,7 +211,15 @@ loop-less c = search needs
 
 -- src/lib.rt:69:5
 loop-again : tie.Need-loop-again Inv-search μ-search Inv-loop μ-loop
-loop-again c = search needs
+loop-again c = 
+    let l = c .before .before .before .before .before .before .before .before in (
+      simp length-set (l .loop .inv .0),
+      omega arith,
+      λ d h e.
+          counted-more _ _ d _ h _ _ (l .loop .inv .2 d h e) _ _ refl (at-below (c .before .before))
+          (c .before .before .before .before .before .before .before .loop-test .taken)
+          (row-is (c .before .before .before .before .before .before .before) d h (l .loop .inv .2 d h e) ∙ at-is (c .before .before)),
+    )
 
 -- src/lib.rt:63:1
 same-length-2 : tie.Need-same-length-2 Inv-search μ-search Inv-loop μ-loop
@@ -151,7 +227,7 @@ same-length-2 c = search needs
 
 -- src/lib.rt:63:1
 returns-2 : tie.Need-returns-2 Inv-search μ-search Inv-loop μ-loop
-returns-2 c = search needs
+returns-2 c = answer-true _ _ _ _ _ _ _ (counted (c .before)) (c .loop-test .left)
 
 pub lookup-m-poly-spec : {M : Type 1} → statement M
 lookup-m-poly-spec =
