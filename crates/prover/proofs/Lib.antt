@@ -1,2 +1,4 @@
 pub mod Search
 pub mod Counts
+pub mod Words
+pub mod Instance

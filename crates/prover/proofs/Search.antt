@@ -6,15 +6,13 @@ use mathlib.Core.Option.{Option, none, some}
 use Prim.Native.Nat.{ℕ, zero, suc, _+_, _-_, _≤_, _<_}
 use native.Mathlib.Omega.{arith}
 use Rattle.field.specs.Prime.{P}
-use Rattle.field.specs.Field.{𝔾, el, val, val-el}
+use Rattle.field.specs.Field.{𝔾, el}
+use Rattle.field.proofs.Elements.{el-injective}
 use Rattle.util.specs.Lists.{lastWhere}
 use Rattle.prover.specs.declared.Found.{Found}
 use Rattle.prover.specs.Lookup.{same, lastEqual}
 
 -- words below p are equal exactly when they are in the field
-pub el-once : (a b : ℕ) → a < P → b < P → el a ≡ el b → a ≡ b
-el-once a b h l e = sym (val-el a h) ∙ ap val e ∙ val-el b l
-
 pub same-true : (a b : ℕ) → a ≡ b → same 𝔾 (el a) (el b) ≡ true
 unfolding decide
 same-true a b e = go (𝔾 .decide (el a) (el b))
@@ -28,7 +26,7 @@ unfolding decide
 same-false a b h l n = go (𝔾 .decide (el a) (el b))
   where
     go : (d : Dec (el a ≡ el b)) → decide d ≡ false
-    go (yes p) = absurd (n (el-once a b h l p))
+    go (yes p) = absurd (n (el-injective a b h l p))
     go (no p) = refl
 
 -- the last of the first n is one of them

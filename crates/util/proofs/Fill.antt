@@ -32,6 +32,10 @@ module _ (rows : ℕ) (f : ℕ → ℕ) (d : List ℕ) (at : ℕ) where
               ∙ ap (λ (n : ℕ). over d at (column f n)) (sym (add-one i));
         }
 
+    -- the same, at the word p
+    pub fill-more-at : at + rows ≤ length d → i < rows → (p : ℕ) → p ≡ at + i → (w : ℕ) → w ≡ f i → Filled rows f d at (set m p w) (i + 1)
+    fill-more-at room h p q w e = rw q (fill-more room h w e)
+
     -- what stands before is as it was
     pub fill-before : at ≤ length d → (j : ℕ) → j < at → getD m j 0 ≡ getD d j 0
     fill-before room j l = ap (λ (x : List ℕ). getD x j 0) (inv .now) ∙ over-before d at (column f i) j 0 room l

@@ -1,0 +1,152 @@
+-- The instance columns: a value at its place, and one column after another. Assumes nothing.
+use mathlib.Core.Path.{_≡_, refl, sym, ap, ap₂, _∙_, subst⁻¹}
+use mathlib.Core.Logic.{_≢_}
+use mathlib.Core.List.{List, [], _∷_, _++_, map, map-append}
+use Prim.Native.Nat.{ℕ, zero, suc, _+_, _-_, _*_, _%_, _^_, _≤_, _<_}
+use native.Mathlib.Decide.{decLt}
+use native.Mathlib.Numerals.{add-one}
+use native.Mathlib.Omega.{arith}
+use lib.ListN.{length, getD, take, drop, set, replicate, length-take, length-drop, length-map}
+use lib.Seq.{getD-take, getD-drop, take-all, take-suc, drop-drop, length-take-le}
+use Rattle.field.specs.Prime.{P}
+use Rattle.field.specs.Field.{𝔾, el, val}
+use Rattle.field.proofs.Elements.{val-zero, val-el-mod}
+use Rattle.bh.specs.Rows.{rowAt, placeOf}
+use Rattle.bh.proofs.Order.{row-lt}
+use Rattle.bh.proofs.Place.{row-place, place-row}
+use Rattle.util.specs.Lists.{column, over, split, total}
+use Rattle.util.proofs.Columns.{column-cong, column-replicate}
+use Rattle.util.proofs.Lists.{get-none, get-map, split-length}
+use Rattle.util.proofs.Totals.{total-append}
+use Rattle.util.proofs.Sets.{over-column-set}
+use Rattle.prover.specs.Columns.{instanceAt}
+use Rattle.prover.specs.Words.{wordsOf}
+use Rattle.prover.proofs.Words.{words-none, words-more}
+
+-- the words of the column when the first t values are in place
+abbrev pub placed : ℕ → List ℕ → ℕ → ℕ → ℕ
+placed k vs t b = val (instanceAt 𝔾 k (map el (take t vs)) b)
+
+placed-none : (k : ℕ) (vs : List ℕ) (b : ℕ) → placed k vs 0 b ≡ 0
+unfolding instanceAt
+placed-none k vs b = ap val (nil (placeOf k b)) ∙ val-zero
+  where
+    nil : (p : ℕ) → getD (𝔾 .zero ∷ []) p (𝔾 .zero) ≡ 𝔾 .zero
+    nil zero = refl
+    nil (suc p) = refl
+
+-- one value more is seen at its own place alone
+take-other : (vs : List ℕ) (t p : ℕ) → p ≢ suc t
+    → getD (𝔾 .zero ∷ map el (take t vs)) p (𝔾 .zero) ≡ getD (𝔾 .zero ∷ map el (take (suc t) vs)) p (𝔾 .zero)
+take-other vs t zero h = refl
+take-other vs t (suc q) h = go (decLt q (length vs)) (decLt q t)
+  where
+    past : (n : ℕ) → length (take n vs) ≤ q → getD (map el (take n vs)) q (𝔾 .zero) ≡ 𝔾 .zero
+    past n l = get-none (map el (take n vs)) q (𝔾 .zero) (let e = length-map (take n vs) el in omega arith)
+
+    inside : (n : ℕ) → q < n → q < length vs → getD (map el (take n vs)) q (𝔾 .zero) ≡ el (getD vs q 0)
+    inside n l m =
+        get-map el (take n vs) q 0 (𝔾 .zero) (let e = length-take n vs in omega arith) ∙ ap el (getD-take n vs q 0 l)
+
+    go : Dec (q < length vs) → Dec (q < t) → getD (map el (take t vs)) q (𝔾 .zero) ≡ getD (map el (take (suc t) vs)) q (𝔾 .zero)
+    go (no m) d =
+        past t (let e = length-take t vs in omega arith) ∙ sym (past (suc t) (let e = length-take (suc t) vs in omega arith))
+    go (yes m) (yes l) = inside t l m ∙ sym (inside (suc t) (omega arith) m)
+    go (yes m) (no l) =
+        let n : q ≢ t = λ e. h (ap suc e) in
+        past t (let e = length-take t vs in omega arith) ∙ sym (past (suc t) (let e = length-take (suc t) vs in omega (arith, n)))
+
+module _ (k : ℕ) (hk : 0 < k) (lk : k < 21) (vs : List ℕ) (t : ℕ) where
+  placed-here : t < length vs → suc t < 2 ^ k → placed k vs (suc t) (rowAt k (suc t)) ≡ getD vs t 0 % P
+  unfolding instanceAt
+  placed-here l m =
+      ap (λ (p : ℕ). val (getD (𝔾 .zero ∷ map el (take (suc t) vs)) p (𝔾 .zero))) (place-row k hk lk (suc t) m)
+      ∙ ap val
+      (get-map el (take (suc t) vs) t 0 (𝔾 .zero) (let e = length-take (suc t) vs in omega arith)
+      ∙ ap el (getD-take (suc t) vs t 0 (omega arith)))
+      ∙ val-el-mod (getD vs t 0)
+
+  placed-other : (b : ℕ) → b < 2 ^ k → b ≢ rowAt k (suc t) → placed k vs t b ≡ placed k vs (suc t) b
+  unfolding instanceAt
+  placed-other b l n =
+      ap val (take-other vs t (placeOf k b) (λ e. n (sym (row-place k hk lk b l) ∙ ap (rowAt k) e)))
+
+  -- the next value written at its place
+  pub place-more : (d : List ℕ) (at : ℕ) (m : List ℕ) (row w : ℕ) → row ≡ rowAt k (suc t) → w ≡ getD vs t 0 % P → at ≤ length d
+      → t < length vs → suc t < 2 ^ k → m ≡ over d at (column (placed k vs t) (2 ^ k))
+      → set m (at + row) w ≡ over d at (column (placed k vs (t + 1)) (2 ^ k))
+  place-more d at m row w e q h l r now =
+      let v : w ≡ placed k vs (suc t) (rowAt k (suc t)) = q ∙ sym (placed-here l r) in
+      ap₂ (λ (x : List ℕ) (i : ℕ). set x (at + i) w) now e
+      ∙ ap (λ (y : ℕ). set (over d at (column (placed k vs t) (2 ^ k))) (at + rowAt k (suc t)) y) v
+      ∙ over-column-set d at (placed k vs t) (placed k vs (suc t)) (2 ^ k) (rowAt k (suc t)) h (row-lt k hk lk (suc t))
+      (λ b lb n. placed-other b lb n)
+      ∙ ap (λ (n : ℕ). over d at (column (placed k vs n) (2 ^ k))) (sym (add-one t))
+
+pub place-start : (k : ℕ) (vs d : List ℕ) (at : ℕ) (m : List ℕ) → m ≡ over d at (replicate (2 ^ k) 0)
+    → m ≡ over d at (column (placed k vs 0) (2 ^ k))
+place-start k vs d at m e =
+    e
+    ∙ ap (over d at)
+    (sym (column-replicate 0 (2 ^ k)) ∙ column-cong (λ _. 0) (placed k vs 0) (2 ^ k) (λ b _. sym (placed-none k vs b)))
+
+pub place-end : (k : ℕ) (vs : List ℕ) (t : ℕ) → length vs ≤ t → (d : List ℕ) (at : ℕ)
+    → over d at (column (placed k vs t) (2 ^ k)) ≡ over d at (column (λ b. val (instanceAt 𝔾 k (map el vs) b)) (2 ^ k))
+place-end k vs t l d at =
+    ap (λ (xs : List ℕ). over d at (column (λ b. val (instanceAt 𝔾 k (map el xs) b)) (2 ^ k))) (take-all t vs l)
+
+-- the values of one column
+module _ (xs : List ℕ) (from count : ℕ) (fit : from + count ≤ length xs) where
+  pub part-length : length (take count (drop from xs)) ≡ count
+  part-length = length-take-le count (drop from xs) (let e = length-drop from xs in omega arith)
+
+  pub part-get : (t : ℕ) → t < count → getD (take count (drop from xs)) t 0 ≡ getD xs (from + t) 0
+  part-get t l = getD-take count (drop from xs) t 0 l ∙ getD-drop from xs t 0
+
+-- ---- one column after another
+
+pub split-end : (ns : List ℕ) (n : ℕ) (xs : List ℕ) → split (ns ++ (n ∷ [])) xs ≡ split ns xs ++ (take n (drop (total ns) xs) ∷ [])
+unfolding split total
+split-end [] n xs = refl
+split-end (m ∷ ns) n xs =
+    ap (λ (l : List (List ℕ)). take m xs ∷ l)
+    (split-end ns n (drop m xs) ∙ ap (λ (ys : List ℕ). split ns (drop m xs) ++ (take n ys ∷ [])) (drop-drop (total ns) m xs))
+
+-- the columns of the first i lengths
+abbrev pub polys : ℕ → List ℕ → List ℕ → List (ℕ → 𝔾 .F)
+polys k ns xs = map (λ vs b. instanceAt 𝔾 k (map el vs) b) (split ns xs)
+
+module _ (k : ℕ) (ns xs : List ℕ) (i : ℕ) (lt : i < length ns) where
+  next-length : take (i + 1) ns ≡ take i ns ++ (getD ns i 0 ∷ [])
+  next-length = ap (λ (n : ℕ). take n ns) (add-one i) ∙ take-suc ns i 0 lt
+
+  pub total-more : total (take i ns) + getD ns i 0 ≡ total (take (i + 1) ns)
+  unfolding total
+  total-more = sym (ap total next-length ∙ total-append (take i ns) (getD ns i 0 ∷ []) ∙ omega arith)
+
+  polys-more : polys k (take (i + 1) ns) xs
+      ≡ polys k (take i ns) xs ++ ((λ b. instanceAt 𝔾 k (map el (take (getD ns i 0) (drop (total (take i ns)) xs))) b) ∷ [])
+  polys-more =
+      ap (λ (l : List ℕ). polys k l xs) next-length
+      ∙ ap (map (λ vs b. instanceAt 𝔾 k (map el vs) b)) (split-end (take i ns) (getD ns i 0) xs)
+      ∙ map-append (λ vs b. instanceAt 𝔾 k (map el vs) b) (split (take i ns) xs) (take (getD ns i 0) (drop (total (take i ns)) xs) ∷ [])
+
+  polys-length : length (polys k (take i ns) xs) ≡ i
+  polys-length =
+      length-map (split (take i ns) xs) (λ vs b. instanceAt 𝔾 k (map el vs) b) ∙ split-length (take i ns) xs
+      ∙ length-take-le i ns (omega arith)
+
+  pub instance-more : (d m n : List ℕ) (from at : ℕ) → from ≡ total (take i ns) → at ≡ i * 2 ^ k → at ≤ length d
+      → m ≡ over d 0 (wordsOf (2 ^ k) (polys k (take i ns) xs))
+      → n ≡ over m at (column (λ b. val (instanceAt 𝔾 k (map el (take (getD ns i 0) (drop from xs))) b)) (2 ^ k))
+      → n ≡ over d 0 (wordsOf (2 ^ k) (polys k (take (i + 1) ns) xs))
+  instance-more d m n from at e a h now new =
+      new
+      ∙ ap₂ (λ (x : List ℕ) (f : ℕ). over x at (column (λ b. val (instanceAt 𝔾 k (map el (take (getD ns i 0) (drop f xs))) b)) (2 ^ k))) now e
+      ∙ words-more (2 ^ k) d (polys k (take i ns) xs) (λ b. instanceAt 𝔾 k (map el (take (getD ns i 0) (drop (total (take i ns)) xs))) b) at
+      (a ∙ ap (λ (n : ℕ). n * 2 ^ k) (sym polys-length)) h
+      ∙ ap (λ (ps : List (ℕ → 𝔾 .F)). over d 0 (wordsOf (2 ^ k) ps)) (sym polys-more)
+
+pub instance-start : (k : ℕ) (xs d : List ℕ) → d ≡ over d 0 (wordsOf (2 ^ k) (polys k [] xs))
+unfolding split
+instance-start k xs d = sym (ap (over d 0) (words-none (2 ^ k)) ∙ Rattle.util.proofs.Over.over-none d 0)
