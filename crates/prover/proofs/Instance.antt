@@ -3,10 +3,11 @@ use mathlib.Core.Path.{_≡_, refl, sym, ap, ap₂, _∙_, subst⁻¹}
 use mathlib.Core.Logic.{_≢_}
 use mathlib.Core.List.{List, [], _∷_, _++_, map, map-append}
 use Prim.Native.Nat.{ℕ, zero, suc, _+_, _-_, _*_, _%_, _^_, _≤_, _<_}
+use native.Mathlib.Nat.{suc-mul, mul-le-mul}
 use native.Mathlib.Decide.{decLt}
 use native.Mathlib.Numerals.{add-one}
 use native.Mathlib.Omega.{arith}
-use lib.ListN.{length, getD, take, drop, set, replicate, length-take, length-drop, length-map}
+use lib.ListN.{length, getD, take, drop, set, replicate, length-take, length-drop, length-map, take-append-drop}
 use lib.Seq.{getD-take, getD-drop, take-all, take-suc, drop-drop, length-take-le}
 use Rattle.field.specs.Prime.{P}
 use Rattle.field.specs.Field.{𝔾, el, val}
@@ -150,3 +151,15 @@ module _ (k : ℕ) (ns xs : List ℕ) (i : ℕ) (lt : i < length ns) where
 pub instance-start : (k : ℕ) (xs d : List ℕ) → d ≡ over d 0 (wordsOf (2 ^ k) (polys k [] xs))
 unfolding split
 instance-start k xs d = sym (ap (over d 0) (words-none (2 ^ k)) ∙ Rattle.util.proofs.Over.over-none d 0)
+
+total-front : (n : ℕ) (ns : List ℕ) → total (take n ns) ≤ total ns
+total-front n ns = let e = ap total (sym (take-append-drop n ns)) ∙ total-append (take n ns) (drop n ns) in omega arith
+
+-- the values of column i are there, and its words
+pub values-there : (ns : List ℕ) (i from len : ℕ) → i < length ns → from ≡ total (take i ns) → total ns ≡ len → from + getD ns i 0 ≤ len
+values-there ns i from len l e h = omega (arith, total-more 0 ns [] i l, total-front (i + 1) ns)
+
+pub words-there : (i n r at len : ℕ) → i < n → at ≡ i * r → n * r ≤ len → at + r ≤ len
+words-there i n r at len l e h =
+    let m : suc i * r ≤ n * r = mul-le-mul {m₁ = r} {m₂ = r} l (omega arith) in
+    omega (arith, suc-mul i r)
