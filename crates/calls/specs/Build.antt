@@ -11,6 +11,7 @@ use Rattle.backend.specs.Questions.{circuitQuestions, small}
 use Rattle.preprocessor.specs.Compose.{numZ, composedWords, composedNodes}
 use Rattle.prover.specs.Log.{Log}
 use Rattle.prover.specs.Columns.{allCovered, writtenPolys}
+unfoldable pub use Rattle.prover.specs.Words.{wordsOf}
 use Rattle.calls.specs.declared.Built.{Built}
 
 -- the log that the words are; "challenges (the user's, then β, γ)"
@@ -25,10 +26,6 @@ logOf ws instances witness challenges =
       β = el (getD challenges (numUser (circuitOf ws)) 0);
       γ = el (getD challenges (numUser (circuitOf ws) + 1) 0);
     }
-
--- columns as words, "each 2^k words"
-unfoldable pub wordsOf : ℕ → List (ℕ → 𝔾 .F) → List ℕ
-wordsOf rows ps = concat (map (λ p. column (λ b. val (p b)) rows) ps)
 
 -- the column words needed: instance, permutation, two compressed, m and h for each lookup, z
 unfoldable pub columnWords : Circuit → ℕ

@@ -53,7 +53,7 @@ loop-less c = search needs
 
 -- src/lib.rt:17:5
 loop-again : tie.Need-loop-again Inv-loop μ-loop
-loop-again c = 
+loop-again c =
     let s = c .before .before .before .before .before .args in
     let l = c .before .before .before .loop in (
       omega arith,
@@ -68,7 +68,7 @@ loop-again c =
 
 -- src/lib.rt:10:1
 returns : tie.Need-returns Inv-loop μ-loop
-returns c = 
+returns c =
     let s = c .before .before .before .args in
     let l = c .before .loop in
     let e : l .i ≡ s .k = omega arith in

@@ -49,8 +49,7 @@ sizes c =
     let s = c .before .before .before .before .before .before .before in
     let l = c .before .before .before .before .loop in
     let m = c .before .loop2 in
-    omega
-    (
+    omega (
       arith,
       room (l .i) (s .args .k) (length (s .args .out .now)) (c .before .before .before .loop-test .taken) (s .pre .2),
       c .loop2-test .taken,
@@ -125,7 +124,7 @@ loop2-less c = search needs
 
 -- src/lib.rt:41:9
 loop2-again : tie.Need-loop2-again Inv-loop2 μ-loop2 Inv-loop μ-loop
-loop2-again c = 
+loop2-again c =
     let l = c .before .before .before .before .before .before .before .loop in
     let m = c .before .before .before .before .loop2 in (
       omega arith,
@@ -137,7 +136,7 @@ loop2-again c =
 
 -- src/lib.rt:48:16
 mul-size : tie.Need-mul-size Inv-loop2 μ-loop2 Inv-loop μ-loop
-mul-size c = 
+mul-size c =
     let s = c .before .before .before .before .before .before .before in
     let l = c .before .before .before .before .loop in
     omega (arith, l .inv .1, room (l .i) (s .args .k) (length (s .args .out .now)) (c .before .before .before .loop-test .taken) (s .pre .2), s .good)
@@ -152,7 +151,7 @@ loop-less c = search needs
 
 -- src/lib.rt:38:5
 loop-again : tie.Need-loop-again Inv-loop2 μ-loop2 Inv-loop μ-loop
-loop-again c = 
+loop-again c =
     let s = c .before .before .before .before .before .before .before in
     let l = c .before .before .before .before .loop in
     let m = c .before .loop2 in (
@@ -171,7 +170,7 @@ same-length c = c .before .loop .inv .2 ∙ simp length-set
 
 -- src/lib.rt:31:1
 returns : tie.Need-returns Inv-loop2 μ-loop2 Inv-loop μ-loop
-returns c = 
+returns c =
     let s = c .before .before .before .before in
     let l = c .before .loop in
     let e : l .i ≡ s .args .k = omega arith in

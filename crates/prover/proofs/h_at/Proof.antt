@@ -38,7 +38,7 @@ sub-u64-requires c κs = search needs
 
 -- src/lib.rt:138:1
 returns : tie.Need-returns
-returns c = 
+returns c =
     let s = c .before .before .before .before .before .before .args in
     c .sub-u64 .ensures
     ∙ ap₂ subP (c .before .before .before .before .invert-u64 .ensures ∙ ap invP (c .before .before .before .before .before .add-u64 .ensures))

@@ -74,7 +74,7 @@ loop-less c = search needs
 
 -- src/lib.rt:152:5
 loop-again : tie.Need-loop-again Inv-loop μ-loop
-loop-again c = 
+loop-again c =
     let s = c .before .before .before .before .before .before .before .before .before .before in
     let l = c .before .before .before .before .before .loop in
     fill-more-at _ _ _ 0 _ _ (l .inv) (omega (arith, s .pre .3)) (c .before .before .before .before .loop-test .taken) _ (sym (zero-add (l .b))) _

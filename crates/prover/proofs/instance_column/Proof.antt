@@ -42,7 +42,7 @@ clear-requires c κs = rw (c .rows-of .ensures) (c .before .before .before .befo
 
 -- src/lib.rt:46:5
 loop-holds : tie.Need-loop-holds Inv-loop μ-loop
-loop-holds c = 
+loop-holds c =
     let s = c .before .before .before .before .before .before .before in
     let k = s .args .k in (
       omega arith,
@@ -94,7 +94,7 @@ loop-less c = search needs
 
 -- src/lib.rt:46:5
 loop-again : tie.Need-loop-again Inv-loop μ-loop
-loop-again c = 
+loop-again c =
     let s = c .before .before .before .before .before .before .before .before .before .before .before .before in
     let a = s .args in
     let k = a .k in
@@ -118,7 +118,7 @@ same-length c = c .before .loop .inv .1 ∙ c .before .before .before .before .c
 
 -- src/lib.rt:39:1
 returns : tie.Need-returns Inv-loop μ-loop
-returns c = 
+returns c =
     let s = c .before .before .before .before .before .before .before .before .before in
     let a = s .args in
     let l = c .before .loop in

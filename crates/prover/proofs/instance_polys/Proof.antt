@@ -36,7 +36,7 @@ rows-of-requires c κs = search needs
 
 -- src/lib.rt:62:5
 loop-holds : tie.Need-loop-holds Inv-loop μ-loop
-loop-holds c = 
+loop-holds c =
     let s = c .before .before .before .before .args in
     (omega arith, none (s .lengths .now), sym (zero-mul (2 ^ s .k)), refl, instance-start (s .k) (s .instance .now) (s .columns .now))
 
@@ -78,7 +78,7 @@ loop-less c = search needs
 
 -- src/lib.rt:62:5
 loop-again : tie.Need-loop-again Inv-loop μ-loop
-loop-again c = 
+loop-again c =
     let s = c .before .before .before .before .before .before .before .before .before .before .before in
     let a = s .args in
     let l = c .before .before .before .before .before .before .loop in
@@ -97,7 +97,7 @@ same-length c = c .before .loop .inv .3
 
 -- src/lib.rt:54:1
 returns : tie.Need-returns Inv-loop μ-loop
-returns c = 
+returns c =
     let a = c .before .before .before .before .before .before .args in
     let l = c .before .loop in
     l .inv .4

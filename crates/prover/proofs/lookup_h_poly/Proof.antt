@@ -91,7 +91,7 @@ loop-less c = search needs
 
 -- src/lib.rt:164:5
 loop-again : tie.Need-loop-again Inv-loop μ-loop
-loop-again c = 
+loop-again c =
     let s = c .before .before .before .before .before .before .before in
     let l = c .before .before .before .before .before .loop in
     let d = s .args .columns .now in

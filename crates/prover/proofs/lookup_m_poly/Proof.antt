@@ -135,7 +135,7 @@ search-less c = search needs
 
 -- src/lib.rt:72:13
 search-again : tie.Need-search-again Inv-search μ-search Inv-loop μ-loop
-search-again c = 
+search-again c =
     let s = c .before .before .before .before .before .before .before .before .before .before .before .before in
     let l = c .before .before .before .before .before .before in
     let t = c .before .before .before .search in
@@ -167,9 +167,8 @@ slice-read-columns c = omega (arith, at-below (c .before .before), c .before .be
 
 -- src/lib.rt:83:17
 add-columns-2 : tie.Need-add-columns-2 Inv-search μ-search Inv-loop μ-loop
-add-columns-2 c = 
-    omega
-    (
+add-columns-2 c =
+    omega (
       arith,
       counted-le _ _ _ _ (c .before .before .before .before .before .before .before .before .before .before .before .before .before .before .pre .2) _ _ (counted (c .before .before .before .before .before .before .before .before)) _ _ refl (at-below (c .before .before)),
       c .before .before .before .before .before .before .before .loop-test .taken,
@@ -194,7 +193,7 @@ same-length c = search needs
 
 -- src/lib.rt:87:17
 returns : tie.Need-returns Inv-search μ-search Inv-loop μ-loop
-returns c = 
+returns c =
     let s = c .before .before .before .before .before .before .before .before .before .before .before .before .before .before .before .before in
     let l = c .before .before .before .before .before .before .before .before .before .before in
     answer-false _ _ _ (s .args .columns .now) (s .args .m) _ (l .loop .i) (c .before .before .before .before .before .before .before .before .before .loop-test .taken)
@@ -211,7 +210,7 @@ loop-less c = search needs
 
 -- src/lib.rt:69:5
 loop-again : tie.Need-loop-again Inv-search μ-search Inv-loop μ-loop
-loop-again c = 
+loop-again c =
     let l = c .before .before .before .before .before .before .before .before in (
       simp length-set (l .loop .inv .0),
       omega arith,

@@ -137,10 +137,9 @@ slice-read-m c = omega (arith, at-below (c .before .before), c .before .before .
 
 -- src/lib.rt:50:17
 add-m : tie.Need-add-m Inv-search μ-search Inv-loop μ-loop
-add-m c = 
+add-m c =
     let l = c .before .before .before .before .before .before .before .before in
-    omega
-    (
+    omega (
       arith,
       counted-le _ _ _ _ (omega (arith, c .before .before .before .before .before .before .before .before .before .before .before .before .before .before .before .before .pre .2)) _ _ (counted l) _ _ (sym (zero-add _)) (at-below (c .before .before)),
       c .before .before .before .before .before .before .before .loop-test .taken,
@@ -165,7 +164,7 @@ same-length c = search needs
 
 -- src/lib.rt:54:17
 returns : tie.Need-returns Inv-search μ-search Inv-loop μ-loop
-returns c = 
+returns c =
     let l = c .before .before .before .before .before .before .before .before .before .before in
     let s = c .before .before .before .before .before .before .before .before .before .before .before .before .before .before .before .before .before .before in
     answer-false _ _ _ (s .args .m .now) 0 _ (l .loop .i) (c .before .before .before .before .before .before .before .before .before .loop-test .taken)
@@ -182,7 +181,7 @@ loop-less c = search needs
 
 -- src/lib.rt:36:5
 loop-again : tie.Need-loop-again Inv-search μ-search Inv-loop μ-loop
-loop-again c = 
+loop-again c =
     let l = c .before .before .before .before .before .before .before .before in
     let s = c .before .before .before .before .before .before .before .before .before .before .before .before .before .before .before .before in (
       simp length-set (l .loop .inv .0),
