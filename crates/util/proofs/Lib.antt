@@ -11,3 +11,5 @@ pub mod Searches
 pub mod Walks
 pub mod Sets
 pub mod Fill
+pub mod Rising
+pub mod Parts
