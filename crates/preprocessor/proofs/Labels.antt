@@ -1,0 +1,211 @@
+-- The words of the columns: the word of a cell, one cell's label changed, the first labels, labels exchanged along places, and how large
+-- a label is. Assumes nothing.
+use mathlib.Core.Path.{_≡_, refl, sym, ap, ap₂, _∙_}
+use mathlib.Core.Bool.{Bool, true, false, cond, _&&_}
+use mathlib.Core.List.{List, [], _∷_, _++_, map}
+use Prim.Native.Nat.{ℕ, zero, suc, _+_, _-_, _*_, _/_, _%_, _≤_, _<_}
+use native.Mathlib.Nat.{not-suc-le-zero, suc-mul, mul-zero, mul-le-mul-right, div-add-mod', div-lt-iff-lt-mul}
+use native.Mathlib.Decide.{ℕ-discrete}
+use native.Mathlib.Omega.{arith}
+use lib.ListN.{length, getD, drop, set, drop-of-length-le}
+use lib.Seq.{drop-cons}
+use lib.Dec.{eqb}
+use borrow.Author.Tests.{eq-eqb, ne-eqb, eqb-true}
+use Rattle.util.specs.Lists.{column, below, concat, indexOf, over, All}
+use Rattle.util.proofs.Tests.{and-left, and-right, by-test}
+use Rattle.util.proofs.Columns.{column-cong, columns-length, get-columns, set-column}
+use Rattle.util.proofs.Over.{over-inside, length-over}
+use Rattle.util.proofs.Parts.{div-row, mod-row, over-set, columns-flat}
+use Rattle.util.proofs.Places.{get-index}
+use Rattle.backend.specs.Circuit.{Cell, sameCell}
+use Rattle.preprocessor.specs.Permutation.{
+  lastCell,
+  beforeFrom,
+  before,
+  source,
+  firstLabelIn,
+  cellIn,
+  labelColumns,
+  Placed,
+  Once,
+  Apart,
+  Starts,
+  cellWord,
+  Moved,
+}
+use Rattle.preprocessor.proofs.Cycles.{same-cell, apart-distinct, taken, passed, passed-cycle}
+
+-- ---- labels exchanged: the first place takes v, each after it what the place before it held
+unfoldable pub exchanged : List ℕ → ℕ → List ℕ → List ℕ
+exchanged d v [] = d
+exchanged d v (q ∷ qs) = exchanged (set d q v) (getD d q 0) qs
+
+module _ (ps : List ℕ) (rows : ℕ) where
+  -- the same labels, the same words
+  pub labels-same : (l m : Cell → ℕ) → ((x : Cell) → l x ≡ m x) → labelColumns ps rows l ≡ labelColumns ps rows m
+  unfolding labelColumns
+  labels-same l m h =
+      ap concat (column-cong (λ i. column (λ b. l (cellIn ps i b)) rows) (λ i. column (λ b. m (cellIn ps i b)) rows) (length ps)
+      (λ i w. column-cong (λ b. l (cellIn ps i b)) (λ b. m (cellIn ps i b)) rows (λ b u. h (cellIn ps i b))))
+
+  pub labels-length : (l : Cell → ℕ) → length (labelColumns ps rows l) ≡ length ps * rows
+  unfolding labelColumns
+  labels-length l = columns-length rows (λ i b. l (cellIn ps i b)) (length ps)
+
+  labels-flat : (l : Cell → ℕ) → labelColumns ps rows l ≡ column (λ j. l (cellIn ps (j / rows) (j % rows))) (length ps * rows)
+  unfolding labelColumns
+  labels-flat l = columns-flat rows (λ i b. l (cellIn ps i b)) (length ps)
+
+  -- ---- cells and places
+  pub placed-lt : (x : Cell) → Placed ps rows x → firstLabelIn ps rows x < length ps * rows
+  placed-lt x h =
+      let q : suc (indexOf (x .polynomial) ps) * rows ≤ length ps * rows = mul-le-mul-right rows (h .column-in) in
+      let w = suc-mul (indexOf (x .polynomial) ps) rows in
+      let r = h .row-in in
+      omega arith
+
+  -- the cell at its column and row
+  cell-at : (x : Cell) → Placed ps rows x → cellIn ps (indexOf (x .polynomial) ps) (x .row) ≡ x
+  cell-at x h = ap (λ (q : ℕ). record { polynomial = q; row = x .row }) (get-index (x .polynomial) ps 0 (h .column-in))
+
+  pub label-of : (l : Cell → ℕ) (x : Cell) → Placed ps rows x → getD (labelColumns ps rows l) (firstLabelIn ps rows x) 0 ≡ l x
+  unfolding labelColumns
+  label-of l x h =
+      get-columns rows (λ i b. l (cellIn ps i b)) (length ps) (indexOf (x .polynomial) ps) (x .row) 0 (h .column-in) (h .row-in)
+      ∙ ap l (cell-at x h)
+
+  -- the column of a place
+  place-column : (j : ℕ) → j < length ps * rows → j / rows < length ps
+  place-column j l = div-lt-iff-lt-mul {k = rows} {x = j} {y = length ps} (pos rows l) .1 l
+    where
+      pos : (r : ℕ) → j < length ps * r → 0 < r
+      pos zero w = absurd (not-suc-le-zero (let e = mul-zero (length ps) in omega arith))
+      pos (suc r) w = omega arith
+
+  module _ (once : Once ps) where
+    pub cell-number : (i b : ℕ) → i < length ps → firstLabelIn ps rows (cellIn ps i b) ≡ i * rows + b
+    cell-number i b l = ap (λ (j : ℕ). j * rows + b) (once i l)
+
+    -- the place is a cell's exactly where the cell is the same
+    place-same : (y : Cell) → Placed ps rows y → (j : ℕ) → j < length ps * rows
+        → eqb j (firstLabelIn ps rows y) ≡ sameCell (cellIn ps (j / rows) (j % rows)) y
+    place-same y h j l = go (ℕ-discrete j (firstLabelIn ps rows y))
+      where
+        go : Dec (j ≡ firstLabelIn ps rows y) → eqb j (firstLabelIn ps rows y) ≡ sameCell (cellIn ps (j / rows) (j % rows)) y
+        go (yes e) =
+            eq-eqb j (firstLabelIn ps rows y) e
+            ∙ sym (ap₂ _&&_ (eq-eqb (getD ps (j / rows) 0) (y .polynomial) column-same) (eq-eqb (j % rows) (y .row) row-same))
+          where
+            column-same : getD ps (j / rows) 0 ≡ y .polynomial
+            column-same =
+                ap (λ (n : ℕ). getD ps (n / rows) 0) e
+                ∙ ap (λ (i : ℕ). getD ps i 0) (div-row (indexOf (y .polynomial) ps) rows (y .row) (h .row-in))
+                ∙ get-index (y .polynomial) ps 0 (h .column-in)
+
+            row-same : j % rows ≡ y .row
+            row-same = ap (λ (n : ℕ). n % rows) e ∙ mod-row (indexOf (y .polynomial) ps) rows (y .row) (h .row-in)
+        go (no n) =
+            ne-eqb j (firstLabelIn ps rows y) n
+            ∙ sym (by-test (sameCell (cellIn ps (j / rows) (j % rows)) y) (λ t. absurd (n (number (same-cell (cellIn ps (j / rows) (j % rows)) y t)))) (λ t. t))
+          where
+            number : cellIn ps (j / rows) (j % rows) ≡ y → j ≡ firstLabelIn ps rows y
+            number e =
+                sym (div-add-mod' j rows)
+                ∙ sym (cell-number (j / rows) (j % rows) (place-column j l))
+                ∙ ap (firstLabelIn ps rows) e
+
+    -- one cell's label changed
+    pub label-set : (l : Cell → ℕ) (y : Cell) (v : ℕ) → Placed ps rows y
+        → set (labelColumns ps rows l) (firstLabelIn ps rows y) v ≡ labelColumns ps rows (taken l y v)
+    label-set l y v h =
+        ap (λ (s : List ℕ). set s (firstLabelIn ps rows y) v) (labels-flat l)
+        ∙ set-column (λ j. l (cellIn ps (j / rows) (j % rows))) (length ps * rows) (firstLabelIn ps rows y) v (placed-lt y h)
+        ∙ column-cong (λ j. cond (eqb j (firstLabelIn ps rows y)) v (l (cellIn ps (j / rows) (j % rows))))
+        (λ j. taken l y v (cellIn ps (j / rows) (j % rows)))
+        (length ps * rows)
+        (λ j m. ap (λ (t : Bool). cond t v (l (cellIn ps (j / rows) (j % rows)))) (place-same y h j m))
+        ∙ sym (labels-flat (taken l y v))
+
+    -- "column idx of the sorted list starts as idx × 2^k + row": the words are 0, 1, 2, …
+    pub first-labels : below (length ps * rows) ≡ labelColumns ps rows (firstLabelIn ps rows)
+    first-labels =
+        column-cong (λ j. j) (λ j. firstLabelIn ps rows (cellIn ps (j / rows) (j % rows))) (length ps * rows)
+        (λ j l. sym (div-add-mod' j rows) ∙ sym (cell-number (j / rows) (j % rows) (place-column j l)))
+        ∙ sym (labels-flat (firstLabelIn ps rows))
+
+    -- ---- the columns as a run of a buffer
+    module _ (d : List ℕ) (at : ℕ) (room : at + length ps * rows ≤ length d) where
+      abbrev run : (Cell → ℕ) → List ℕ
+      run l = over d at (labelColumns ps rows l)
+
+      pub run-length : (l : Cell → ℕ) → length (run l) ≡ length d
+      run-length l = length-over d at (labelColumns ps rows l) (let e = labels-length l in omega arith)
+
+      run-get : (l : Cell → ℕ) (x : Cell) → Placed ps rows x → getD (run l) (at + firstLabelIn ps rows x) 0 ≡ l x
+      run-get l x h =
+          over-inside d at (labelColumns ps rows l) (firstLabelIn ps rows x) 0 (omega arith)
+          (let e = labels-length l in let w = placed-lt x h in omega arith)
+          ∙ label-of l x h
+
+      run-set : (l : Cell → ℕ) (y : Cell) (v : ℕ) → Placed ps rows y → set (run l) (at + firstLabelIn ps rows y) v ≡ run (taken l y v)
+      run-set l y v h =
+          over-set d at (labelColumns ps rows l) (firstLabelIn ps rows y) v (let e = labels-length l in omega arith)
+          (let e = labels-length l in let w = placed-lt y h in omega arith)
+          ∙ ap (over d at) (label-set l y v h)
+
+      -- labels exchanged along the places of cells are passed on along the cells
+      run-exchanged : (word : Cell → ℕ) → ((x : Cell) → Placed ps rows x → word x ≡ at + firstLabelIn ps rows x)
+          → (l : Cell → ℕ) (v : ℕ) (ys : List Cell) → All (Placed ps rows) ys
+          → exchanged (run l) v (map word ys) ≡ run (passed l v ys)
+      unfolding exchanged passed
+      run-exchanged word e l v [] a = refl
+      run-exchanged word e l v (y ∷ ys) a =
+          ap₂ (λ (s : List ℕ) (u : ℕ). exchanged s u (map word ys))
+          (ap (λ (j : ℕ). set (run l) j v) (e y (a .0)) ∙ run-set l y v (a .0))
+          (ap (λ (j : ℕ). getD (run l) j 0) (e y (a .0)) ∙ run-get l y (a .0))
+          ∙ run-exchanged word e (taken l y v) (l y) ys (a .1)
+
+  -- the place of the last cell
+  last-word : (word : Cell → ℕ) (y : Cell) (ys : List Cell) → getD (map word (y ∷ ys)) (length ys) 0 ≡ word (lastCell y ys)
+  unfolding lastCell
+  last-word word y [] = refl
+  last-word word y (z ∷ ys) = last-word word z ys
+
+-- one turn of the walk
+pub exchanged-next : (d : List ℕ) (v : ℕ) (qs : List ℕ) (i : ℕ) → i < length qs
+    → exchanged d v (drop i qs) ≡ exchanged (set d (getD qs i 0) v) (getD d (getD qs i 0) 0) (drop (suc i) qs)
+unfolding exchanged
+exchanged-next d v qs i l = ap (exchanged d v) (drop-cons qs i 0 l)
+
+pub exchanged-none : (d : List ℕ) (v : ℕ) (qs : List ℕ) (i : ℕ) → length qs ≤ i → exchanged d v (drop i qs) ≡ d
+unfolding exchanged
+exchanged-none d v qs i l = ap (exchanged d v) (drop-of-length-le qs l)
+
+-- a whole walk
+pub walked : (starts : List ℕ) (cycle : List Cell) (old new : List ℕ) → 0 < length cycle
+    → new ≡ exchanged old (getD old (getD (map (cellWord starts) cycle) (length cycle - 1) 0) 0) (map (cellWord starts) cycle)
+    → Moved starts cycle old new
+walked starts [] old new p e = absurd (not-suc-le-zero p)
+walked starts (y ∷ ys) old new p e ps rows at d l once placed apart words room start =
+    e
+    ∙ ap₂ (λ (s : List ℕ) (v : ℕ). exchanged s v (map (cellWord starts) (y ∷ ys))) start held
+    ∙ run-exchanged ps rows once d at room (cellWord starts) place l (l (lastCell y ys)) (y ∷ ys) placed
+    ∙ ap (over d at)
+    (labels-same ps rows (passed l (l (lastCell y ys)) (y ∷ ys)) (λ x. l (before (y ∷ ys) x))
+    (λ x. passed-cycle l y ys x (apart-distinct (y ∷ ys) apart)))
+  where
+    place : (x : Cell) → Placed ps rows x → cellWord starts x ≡ at + firstLabelIn ps rows x
+    place x h = let q = words (x .polynomial) (h .column-in) in omega arith
+
+    last-placed : (y : Cell) (ys : List Cell) → All (Placed ps rows) (y ∷ ys) → Placed ps rows (lastCell y ys)
+    unfolding lastCell
+    last-placed y [] a = a .0
+    last-placed y (z ∷ ys) a = last-placed z ys (a .1)
+
+    held : getD old (getD (map (cellWord starts) (y ∷ ys)) (length (y ∷ ys) - 1) 0) 0 ≡ l (lastCell y ys)
+    held =
+        let z : Cell = lastCell y ys in
+        let i : length (y ∷ ys) - 1 ≡ length ys = omega arith in
+        ap₂ (λ (s : List ℕ) (n : ℕ). getD s (getD (map (cellWord starts) (y ∷ ys)) n 0) 0) start i
+        ∙ ap (λ (n : ℕ). getD (over d at (labelColumns ps rows l)) n 0) (last-word ps rows (cellWord starts) y ys ∙ place z (last-placed y ys placed))
+        ∙ run-get ps rows once d at room l z (last-placed y ys placed)
