@@ -79,7 +79,7 @@ module _ (ps : List ℕ) (rows : ℕ) where
   place-column j l = div-lt-iff-lt-mul {k = rows} {x = j} {y = length ps} (pos rows l) .1 l
     where
       pos : (r : ℕ) → j < length ps * r → 0 < r
-      pos zero w = absurd (not-suc-le-zero (let e = mul-zero (length ps) in omega arith))
+      pos zero w = let e = mul-zero (length ps) in omega arith
       pos (suc r) w = omega arith
 
   module _ (once : Once ps) where
@@ -165,11 +165,16 @@ module _ (ps : List ℕ) (rows : ℕ) where
           (ap (λ (j : ℕ). getD (run l) j 0) (e y (a .0)) ∙ run-get l y (a .0))
           ∙ run-exchanged word e (taken l y v) (l y) ys (a .1)
 
-  -- the place of the last cell
-  last-word : (word : Cell → ℕ) (y : Cell) (ys : List Cell) → getD (map word (y ∷ ys)) (length ys) 0 ≡ word (lastCell y ys)
-  unfolding lastCell
-  last-word word y [] = refl
-  last-word word y (z ∷ ys) = last-word word z ys
+-- the last cell, its place, and what holds of it
+last-word : (word : Cell → ℕ) (y : Cell) (ys : List Cell) → getD (map word (y ∷ ys)) (length ys) 0 ≡ word (lastCell y ys)
+unfolding lastCell
+last-word word y [] = refl
+last-word word y (z ∷ ys) = last-word word z ys
+
+last-all : (Q : Cell → Type 0) (y : Cell) (ys : List Cell) → All Q (y ∷ ys) → Q (lastCell y ys)
+unfolding lastCell
+last-all Q y [] a = a .0
+last-all Q y (z ∷ ys) a = last-all Q z ys (a .1)
 
 -- one turn of the walk
 pub exchanged-next : (d : List ℕ) (v : ℕ) (qs : List ℕ) (i : ℕ) → i < length qs
@@ -185,7 +190,7 @@ exchanged-none d v qs i l = ap (exchanged d v) (drop-of-length-le qs l)
 pub walked : (starts : List ℕ) (cycle : List Cell) (old new : List ℕ) → 0 < length cycle
     → new ≡ exchanged old (getD old (getD (map (cellWord starts) cycle) (length cycle - 1) 0) 0) (map (cellWord starts) cycle)
     → Moved starts cycle old new
-walked starts [] old new p e = absurd (not-suc-le-zero p)
+walked starts [] old new p e ps rows at d l once placed apart words room start = absurd (not-suc-le-zero p)
 walked starts (y ∷ ys) old new p e ps rows at d l once placed apart words room start =
     e
     ∙ ap₂ (λ (s : List ℕ) (v : ℕ). exchanged s v (map (cellWord starts) (y ∷ ys))) start held
@@ -197,15 +202,13 @@ walked starts (y ∷ ys) old new p e ps rows at d l once placed apart words room
     place : (x : Cell) → Placed ps rows x → cellWord starts x ≡ at + firstLabelIn ps rows x
     place x h = let q = words (x .polynomial) (h .column-in) in omega arith
 
-    last-placed : (y : Cell) (ys : List Cell) → All (Placed ps rows) (y ∷ ys) → Placed ps rows (lastCell y ys)
-    unfolding lastCell
-    last-placed y [] a = a .0
-    last-placed y (z ∷ ys) a = last-placed z ys (a .1)
+    last-placed : Placed ps rows (lastCell y ys)
+    last-placed = last-all (Placed ps rows) y ys placed
 
     held : getD old (getD (map (cellWord starts) (y ∷ ys)) (length (y ∷ ys) - 1) 0) 0 ≡ l (lastCell y ys)
     held =
         let z : Cell = lastCell y ys in
         let i : length (y ∷ ys) - 1 ≡ length ys = omega arith in
         ap₂ (λ (s : List ℕ) (n : ℕ). getD s (getD (map (cellWord starts) (y ∷ ys)) n 0) 0) start i
-        ∙ ap (λ (n : ℕ). getD (over d at (labelColumns ps rows l)) n 0) (last-word ps rows (cellWord starts) y ys ∙ place z (last-placed y ys placed))
-        ∙ run-get ps rows once d at room l z (last-placed y ys placed)
+        ∙ ap (λ (n : ℕ). getD (over d at (labelColumns ps rows l)) n 0) (last-word (cellWord starts) y ys ∙ place z last-placed)
+        ∙ run-get ps rows once d at room l z last-placed

@@ -1,0 +1,157 @@
+-- What holds before each turn of the loops of `permutation_polys`. Assumes nothing.
+use mathlib.Core.Path.{_≡_, refl, sym, ap, ap₂, _∙_, subst}
+use mathlib.Core.List.{List, [], _∷_, _++_, map}
+use Prim.Native.Nat.{ℕ, zero, suc, _+_, _-_, _*_, _/_, _≤_, _<_}
+use native.Mathlib.Nat.{not-suc-le-zero, suc-mul, mul-le-mul-right}
+use native.Mathlib.Numerals.{add-one}
+use native.Mathlib.Decide.{ℕ-discrete}
+use native.Mathlib.Omega.{arith}
+use lib.ListN.{length, getD, take, drop, set, length-set, length-map}
+use lib.Seq.{getD-set-same, getD-set-other}
+use Rattle.util.specs.Lists.{column, below, indexOf, over, All}
+use Rattle.util.proofs.All.{all-get}
+use Rattle.util.proofs.Lists.{get-map}
+use Rattle.util.proofs.Columns.{column-length, get-column}
+use Rattle.util.proofs.Over.{length-over, over-none, over-column}
+use Rattle.util.proofs.Places.{get-index}
+use Rattle.backend.specs.Circuit.{Cell, cellAt, cellsOf}
+use Rattle.preprocessor.specs.Permutation.{Once, Starts, cellWord, Moved}
+use Rattle.preprocessor.proofs.Labels.{exchanged, exchanged-next, exchanged-none, walked}
+
+-- ---- the first labels
+pub record First (d : List ℕ) (at count : ℕ) (columns : List ℕ) (j : ℕ) : Type 0 where
+  pub low : j ≤ count
+  pub long : length columns ≡ length d
+  pub words : columns ≡ over d at (below j)
+
+module _ (d : List ℕ) (at count : ℕ) where
+  pub first-start : First d at count d 0
+  unfolding column
+  first-start = record { low = omega arith; long = refl; words = sym (over-none d at) }
+
+  pub first-next : (columns : List ℕ) (j : ℕ) → at + count ≤ length d → First d at count columns j → j < count
+      → First d at count (set columns (at + j) j) (j + 1)
+  first-next columns j h w l =
+      record {
+        low = omega arith;
+        long = length-set columns (at + j) j ∙ w .long;
+        words =
+            ap (λ (s : List ℕ). set s (at + j) j) (w .words) ∙ over-column d at (λ i. i) j (omega arith)
+            ∙ ap (λ (n : ℕ). over d at (below n)) (sym (add-one j));
+      }
+
+  pub first-end : (columns : List ℕ) (j : ℕ) → First d at count columns j → count ≤ j → columns ≡ over d at (below count)
+  first-end columns j w l =
+      let e : j ≡ count = let q = w .low in omega arith in
+      w .words ∙ ap (λ (n : ℕ). over d at (below n)) e
+
+-- ---- where the columns begin
+pub record Begun (ps : List ℕ) (rows at : ℕ) (starts : List ℕ) (i : ℕ) : Type 0 where
+  pub low : i ≤ length ps
+  pub long : length starts ≡ 72
+  pub words : (j : ℕ) → j < i → getD starts (getD ps j 0) 0 ≡ at + j * rows
+
+module _ (ps : List ℕ) (rows at : ℕ) where
+  pub begun-start : (starts : List ℕ) → length starts ≡ 72 → Begun ps rows at starts 0
+  begun-start starts e = record { low = omega arith; long = e; words = λ j l. absurd (not-suc-le-zero l) }
+
+  pub begun-next : (starts : List ℕ) (i : ℕ) → Once ps → All (λ q. q < 72) ps → Begun ps rows at starts i → i < length ps
+      → Begun ps rows at (set starts (getD ps i 0) (at + i * rows)) (i + 1)
+  begun-next starts i once few w l =
+      record {
+        low = omega arith;
+        long = length-set starts (getD ps i 0) (at + i * rows) ∙ w .long;
+        words = λ j m. go j m (ℕ-discrete j i);
+      }
+    where
+      apart : (j : ℕ) → j < i → (j ≡ i → ⊥) → getD ps j 0 ≡ getD ps i 0 → ⊥
+      apart j m n e = n (sym (once j (omega arith)) ∙ ap (λ (q : ℕ). indexOf q ps) e ∙ once i l)
+
+      go : (j : ℕ) → j < i + 1 → Dec (j ≡ i) → getD (set starts (getD ps i 0) (at + i * rows)) (getD ps j 0) 0 ≡ at + j * rows
+      go j m (yes e) =
+          ap (λ (n : ℕ). getD (set starts (getD ps i 0) (at + i * rows)) (getD ps n 0) 0) e
+          ∙ getD-set-same starts (getD ps i 0) (at + i * rows) 0
+          (let q = all-get (λ q. q < 72) ps few i 0 l in let v = w .long in omega arith)
+          ∙ ap (λ (n : ℕ). at + n * rows) (sym e)
+      go j m (no n) =
+          getD-set-other starts (getD ps i 0) (getD ps j 0) (at + i * rows) 0 (apart j (omega arith) n) ∙ w .words j (omega arith)
+
+  pub begun-end : (starts : List ℕ) (i : ℕ) → Begun ps rows at starts i → length ps ≤ i → Starts starts ps rows at
+  begun-end starts i w l q m =
+      ap (λ (p : ℕ). getD starts p 0) (sym (get-index q ps 0 m)) ∙ w .words (indexOf q ps) (omega arith)
+
+  -- a column's first word is in the buffer
+  pub begins : (i n : ℕ) → i < length ps → at + length ps * rows < n → (i * rows < n) × (at + i * rows < n)
+  begins i n l h =
+      let q : suc i * rows ≤ length ps * rows = mul-le-mul-right rows l in
+      let w = suc-mul i rows in
+      (omega arith, omega arith)
+
+-- ---- along a cycle
+module _ (starts cells : List ℕ) where
+  abbrev pub words : List ℕ
+  words = map (cellWord starts) (cellsOf cells)
+
+  words-length : length words ≡ length cells / 2
+  words-length = length-map (cellsOf cells) (cellWord starts) ∙ column-length (cellAt cells) (length cells / 2)
+
+  pub words-get : (i : ℕ) → i < length cells / 2 → getD words i 0 ≡ cellWord starts (cellAt cells i)
+  words-get i l =
+      get-map (cellWord starts) (cellsOf cells) i (cellAt cells 0) 0 (let e = column-length (cellAt cells) (length cells / 2) in omega arith)
+      ∙ ap (cellWord starts) (get-column (cellAt cells) (length cells / 2) i (cellAt cells 0) l)
+
+  pub record Walking (d : List ℕ) (v : ℕ) (columns : List ℕ) (label i : ℕ) : Type 0 where
+    pub low : i ≤ length cells / 2
+    pub long : length columns ≡ length d
+    pub left : exchanged columns label (drop i words) ≡ exchanged d v words
+
+  pub walking-start : (d : List ℕ) (v : ℕ) → Walking d v d v 0
+  walking-start d v = record { low = omega arith; long = refl; left = refl }
+
+  pub walking-next : (d : List ℕ) (v : ℕ) (columns : List ℕ) (label i word held : ℕ) (after : List ℕ) → Walking d v columns label i → i < length cells / 2
+      → word ≡ cellWord starts (cellAt cells i)
+      → held ≡ getD columns word 0
+      → after ≡ set columns word label
+      → Walking d v after held (i + 1)
+  walking-next d v columns label i word held after w l e h a =
+      record {
+        low = omega arith;
+        long = ap length a ∙ length-set columns word label ∙ w .long;
+        left =
+            ap₂ (λ (s : List ℕ) (u : ℕ). exchanged s u (drop (i + 1) words)) (a ∙ ap (λ (n : ℕ). set columns n label) here) (h ∙ ap (λ (n : ℕ). getD columns n 0) here)
+            ∙ ap (λ (n : ℕ). exchanged (set columns (getD words i 0) label) (getD columns (getD words i 0) 0) (drop n words)) (add-one i)
+            ∙ sym (exchanged-next columns label words i (let q = words-length in omega arith))
+            ∙ w .left;
+      }
+    where
+      here : word ≡ getD words i 0
+      here = e ∙ sym (words-get i l)
+
+  pub walking-end : (d : List ℕ) (last : ℕ) (columns : List ℕ) (label i : ℕ) → 0 < length cells / 2
+      → last ≡ cellWord starts (cellAt cells (length cells / 2 - 1))
+      → Walking d (getD d last 0) columns label i
+      → length cells / 2 ≤ i
+      → Moved starts (cellsOf cells) d columns
+  walking-end d last columns label i p e w l =
+      walked starts (cellsOf cells) d columns (let q = column-length (cellAt cells) (length cells / 2) in omega arith)
+      (sym (exchanged-none columns label words i (let q = words-length in omega arith))
+      ∙ w .left
+      ∙ ap (λ (n : ℕ). exchanged d (getD d n 0) words)
+      (e ∙ sym (words-get (length cells / 2 - 1) (omega arith))
+      ∙ ap (λ (n : ℕ). getD words (n - 1) 0) (sym (column-length (cellAt cells) (length cells / 2)))))
+
+  -- a cell of the cycle, and its word
+  module _ (n i : ℕ) (a : All (λ (x : Cell). (x .polynomial < 72) × (cellWord starts x < n)) (cellsOf cells)) (l : i < length cells / 2) where
+    cell-fits : (cellAt cells i .polynomial < 72) × (cellWord starts (cellAt cells i) < n)
+    cell-fits =
+        subst (λ (x : Cell). (x .polynomial < 72) × (cellWord starts x < n))
+        (get-column (cellAt cells) (length cells / 2) i (cellAt cells 0) l)
+        (all-get (λ (x : Cell). (x .polynomial < 72) × (cellWord starts x < n)) (cellsOf cells) a i (cellAt cells 0)
+        (let e = column-length (cellAt cells) (length cells / 2) in omega arith))
+
+    pub cell-asked : n ≤ 18446744073709551616
+        → (i < length cells / 2) × ((cellAt cells i .polynomial < 72) × (cellWord starts (cellAt cells i) < 18446744073709551616))
+    cell-asked h = let w = cell-fits in (l, (w .0, (let u = w .1 in omega arith)))
+
+    pub word-in : (word : ℕ) → word ≡ cellWord starts (cellAt cells i) → word < n
+    word-in word e = subst (λ (w : ℕ). w < n) (sym e) (cell-fits .1)

@@ -1,0 +1,99 @@
+// `permutation_polys`: the columns of labels of the copied columns, in the one column buffer.
+ghost use mathlib.Core.Path.{_≡_};
+ghost use Prim.Native.Nat.{ℕ, _+_, _*_, _/_, _≤_, _<_};
+ghost use lib.ListN.{length, getD, set};
+ghost use Rattle.util.specs.Lists.{All, below, over, split, total};
+ghost use Rattle.backend.specs.Circuit.{Cell, cellAt, cellsOf};
+ghost use Rattle.preprocessor.specs.Permutation.{Once, Starts, Walkable, Moved, cellWord, permutationColumns};
+
+// Eight instance, 32 preprocess and 32 witness columns at most.
+pub const MAX_POLYS: usize = 72;
+
+// The first labels of `count` cells: column idx of the sorted list starts as idx × 2^k + row, so that the words are 0, 1, 2, …
+fn first_labels(columns: &mut [u64], at: usize, count: usize)
+    requires { ⌜ at + count ≤ length (now columns) ⌝ }
+    ensures { λ r. ⌜ now (columns .exit) ≡ over (now (columns .entry)) at (below count) ⌝ }
+{
+    let mut j = 0;
+    while j < count {
+        columns[at + j] = j as u64;
+        j += 1;
+    }
+}
+
+// Where each copied column begins, by its polynomial.
+fn column_starts(copied: &[u64], rows: usize, at: usize) -> [u64; 72]
+    requires { ⌜ Once (now copied) × All (λ q. q < 72) (now copied) × (at + length (now copied) * rows < 18446744073709551616) ⌝ }
+    ensures { λ r. ⌜ Starts r (now (copied .entry)) rows at ⌝ }
+{
+    let mut starts = [0; 72];
+    let mut i = 0;
+    while i < copied.len() {
+        let q = copied[i] as usize;
+        starts[q] = (at + i * rows) as u64;
+        i += 1;
+    }
+    starts
+}
+
+// The word `at` takes `label`; the label that it held.
+pub fn exchange(columns: &mut [u64], at: usize, label: u64) -> u64
+    requires { ⌜ at < length (now columns) ⌝ }
+    ensures { λ r. ⌜ (r ≡ getD (now (columns .entry)) at 0) × (now (columns .exit) ≡ set (now (columns .entry)) at label) ⌝ }
+{
+    let held = columns[at];
+    columns[at] = label;
+    held
+}
+
+// The word of a cell.
+fn cell_word(starts: &[u64; 72], cells: &[u64], i: usize) -> usize
+    requires { ⌜ i < length (now cells) / 2 ⌝ }
+    requires { ⌜ Cell.polynomial (cellAt (now cells) i) < 72 ⌝ }
+    requires { ⌜ cellWord (now starts) (cellAt (now cells) i) < 18446744073709551616 ⌝ }
+    ensures { λ r. ⌜ r ≡ cellWord (now (starts .entry)) (cellAt (now (cells .entry)) i) ⌝ }
+{
+    let q = cells[i * 2] as usize;
+    starts[q] as usize + cells[i * 2 + 1] as usize
+}
+
+// Along a cycle each cell takes the label that the cell before held when the cycle began, the first that of the last.
+pub fn walk_cycle(columns: &mut [u64], starts: &[u64; 72], cells: &[u64])
+    requires {
+        ⌜ (0 < length (now cells) / 2)
+        × All (λ (x : Cell). (x .polynomial < 72) × (cellWord (now starts) x < length (now columns))) (cellsOf (now cells)) ⌝
+    }
+    ensures { λ r. ⌜ Moved (now (starts .entry)) (cellsOf (now (cells .entry))) (now (columns .entry)) (now (columns .exit)) ⌝ }
+{
+    let count = cells.len() / 2;
+    let last = cell_word(starts, cells, count - 1);
+    let mut label = columns[last];
+    let mut i = 0;
+    while i < count {
+        let word = cell_word(starts, cells, i);
+        label = exchange(columns, word, label);
+        i += 1;
+    }
+}
+
+// The permutation columns of the copied columns, from word `at` on: cycles act one after another.
+pub fn permutation_polys(rows: usize, copied: &[u64], lengths: &[u64], cells: &[u64], columns: &mut [u64], at: usize)
+    requires { ⌜ Walkable (now copied) rows (split (now lengths) (cellsOf (now cells))) ⌝ }
+    requires { ⌜ total (now lengths) ≡ length (now cells) / 2 ⌝ }
+    requires { ⌜ at + length (now copied) * rows ≤ length (now columns) ⌝ }
+    ensures {
+        λ r. ⌜ now (columns .exit)
+        ≡ over (now (columns .entry)) at (permutationColumns (now (copied .entry)) rows (split (now (lengths .entry)) (cellsOf (now (cells .entry))))) ⌝
+    }
+{
+    first_labels(columns, at, copied.len() * rows);
+    let starts = column_starts(copied, rows, at);
+    let mut start: usize = 0;
+    let mut i = 0;
+    while i < lengths.len() {
+        let end = start + lengths[i] as usize * 2;
+        walk_cycle(columns, &starts, &cells[start..end]);
+        start = end;
+        i += 1;
+    }
+}
