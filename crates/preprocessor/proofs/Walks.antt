@@ -2,21 +2,23 @@
 use mathlib.Core.Path.{_≡_, refl, sym, ap, ap₂, _∙_, subst}
 use mathlib.Core.List.{List, [], _∷_, _++_, map}
 use Prim.Native.Nat.{ℕ, zero, suc, _+_, _-_, _*_, _/_, _≤_, _<_}
-use native.Mathlib.Nat.{not-suc-le-zero, suc-mul, mul-le-mul-right}
+use native.Mathlib.Nat.{not-suc-le-zero, suc-mul, mul-le-mul-right, div-mul-le-self, mul-div-cancel}
 use native.Mathlib.Numerals.{add-one}
 use native.Mathlib.Decide.{ℕ-discrete}
 use native.Mathlib.Omega.{arith}
-use lib.ListN.{length, getD, take, drop, set, length-set, length-map}
-use lib.Seq.{getD-set-same, getD-set-other}
-use Rattle.util.specs.Lists.{column, below, indexOf, over, All}
-use Rattle.util.proofs.All.{all-get}
-use Rattle.util.proofs.Lists.{get-map}
-use Rattle.util.proofs.Columns.{column-length, get-column}
-use Rattle.util.proofs.Over.{length-over, over-none, over-column}
+use lib.ListN.{length, getD, take, drop, set, length-set, length-map, length-drop}
+use lib.Seq.{getD-set-same, getD-set-other, getD-take, getD-drop, length-take-le, take-all, take-suc}
+use Rattle.util.specs.Lists.{column, below, indexOf, over, split, total, All}
+use Rattle.util.proofs.All.{all-get, all-weaken}
+use Rattle.util.proofs.Lists.{get-map, split-length}
+use Rattle.util.proofs.Columns.{column-length, column-cong, get-column, below-length}
+use Rattle.util.proofs.Over.{length-over, over-none, over-column, over-again}
+use Rattle.util.proofs.Parts.{total-next, total-within, get-split, column-part}
 use Rattle.util.proofs.Places.{get-index}
 use Rattle.backend.specs.Circuit.{Cell, cellAt, cellsOf}
-use Rattle.preprocessor.specs.Permutation.{Once, Starts, cellWord, Moved}
-use Rattle.preprocessor.proofs.Labels.{exchanged, exchanged-next, exchanged-none, walked}
+use Rattle.preprocessor.specs.Permutation.{source, before, firstLabelIn, labelColumns, permutationColumns, Placed, Once, Apart, Walkable, Starts, cellWord, Moved}
+use Rattle.preprocessor.proofs.Cycles.{source-end}
+use Rattle.preprocessor.proofs.Labels.{labels-same, labels-length, placed-lt, first-labels, run-length, exchanged, exchanged-next, exchanged-none, walked}
 
 -- ---- the first labels
 pub record First (d : List ℕ) (at count : ℕ) (columns : List ℕ) (j : ℕ) : Type 0 where
@@ -155,3 +157,144 @@ module _ (starts cells : List ℕ) where
 
     pub word-in : (word : ℕ) → word ≡ cellWord starts (cellAt cells i) → word < n
     word-in word e = subst (λ (w : ℕ). w < n) (sym e) (cell-fits .1)
+
+-- ---- cycle after cycle
+pub record Turning (rows : ℕ) (ps lengths cells d : List ℕ) (at : ℕ) (columns : List ℕ) (start i : ℕ) : Type 0 where
+  pub low : i ≤ length lengths
+  pub long : length columns ≡ length d
+  pub from : start ≡ total (take i lengths) * 2
+  pub words : columns ≡ over d at (permutationColumns ps rows (take i (split lengths (cellsOf cells))))
+
+module _ (rows : ℕ) (ps lengths cells : List ℕ) (at : ℕ) (walk : Walkable ps rows (split lengths (cellsOf cells))) (sums : total lengths ≡ length cells / 2) where
+  abbrev cycles : List (List Cell)
+  cycles = split lengths (cellsOf cells)
+
+  abbrev labelled : List (List Cell) → List ℕ
+  labelled Cs = permutationColumns ps rows Cs
+
+  first-length : (Cs : List (List Cell)) → length (below (length ps * rows)) ≡ length (labelled Cs)
+  first-length Cs = below-length (length ps * rows) ∙ sym (labels-length ps rows (λ x. firstLabelIn ps rows (source Cs x)))
+
+  module _ (d₀ d : List ℕ) (room : at + length ps * rows ≤ length d₀) (first : d ≡ over d₀ at (below (length ps * rows))) where
+    -- the labels that are written over the first ones
+    again : (Cs : List (List Cell)) → over d at (labelled Cs) ≡ over d₀ at (labelled Cs)
+    again Cs =
+        ap (λ (s : List ℕ). over s at (labelled Cs)) first
+        ∙ over-again d₀ at (below (length ps * rows)) (labelled Cs) (let e = below-length (length ps * rows) in omega arith) (first-length Cs)
+
+    pub turning-room : at + length ps * rows ≤ length d
+    turning-room =
+        let e = below-length (length ps * rows) in
+        let q : length d ≡ length d₀ = ap length first ∙ length-over d₀ at (below (length ps * rows)) (omega arith) in
+        omega arith
+
+    pub turning-start : Turning rows ps lengths cells d at d 0 0
+    unfolding total source
+    turning-start =
+        record {
+          low = omega arith;
+          long = refl;
+          from = refl;
+          words = first ∙ ap (over d₀ at) (first-labels ps rows (walk .once)) ∙ sym (again []);
+        }
+
+    pub turning-end : (columns : List ℕ) (start i : ℕ) → Turning rows ps lengths cells d at columns start i → length lengths ≤ i
+        → columns ≡ over d₀ at (labelled cycles)
+    turning-end columns start i w l =
+        w .words
+        ∙ ap (λ (Cs : List (List Cell)). over d at (labelled Cs)) (take-all i cycles (let e = split-length lengths (cellsOf cells) in omega arith))
+        ∙ again cycles
+
+  module _ (d columns : List ℕ) (start i : ℕ) (w : Turning rows ps lengths cells d at columns start i) (l : i < length lengths) where
+    -- the cycle's words are among the cells'
+    pub turn-fits : start + getD lengths i 0 * 2 ≤ length cells
+    turn-fits =
+        let q = total-within lengths i in
+        let e = w .from in
+        let h = div-mul-le-self (length cells) 2 in
+        omega arith
+
+    abbrev part : List ℕ
+    part = take (start + getD lengths i 0 * 2 - start) (drop start cells)
+
+    part-length : length part ≡ getD lengths i 0 * 2
+    part-length =
+        length-take-le (start + getD lengths i 0 * 2 - start) (drop start cells)
+        (let h = turn-fits in let e = length-drop start cells in omega arith)
+        ∙ (omega arith)
+
+    part-count : length part / 2 ≡ getD lengths i 0
+    part-count = ap (λ (n : ℕ). n / 2) part-length ∙ mul-div-cancel (getD lengths i 0) {n = 2} (omega arith)
+
+    part-get : (j : ℕ) → j < getD lengths i 0 * 2 → getD part j 0 ≡ getD cells (start + j) 0
+    part-get j h = getD-take (start + getD lengths i 0 * 2 - start) (drop start cells) j 0 (omega arith) ∙ getD-drop start cells j 0
+
+    -- they are the cycle
+    pub turn-cycle : cellsOf part ≡ getD cycles i []
+    turn-cycle =
+        ap (column (cellAt part)) part-count
+        ∙ column-cong (cellAt part) (λ j. cellAt cells (total (take i lengths) + j)) (getD lengths i 0) same
+        ∙ sym (column-part (cellAt cells) (length cells / 2) (total (take i lengths)) (getD lengths i 0) (let q = total-within lengths i in omega arith))
+        ∙ sym (get-split lengths (cellsOf cells) i l)
+      where
+        same : (j : ℕ) → j < getD lengths i 0 → cellAt part j ≡ cellAt cells (total (take i lengths) + j)
+        same j h =
+            let e = w .from in
+            let a : start + j * 2 ≡ (total (take i lengths) + j) * 2 = omega arith in
+            let b : start + (j * 2 + 1) ≡ (total (take i lengths) + j) * 2 + 1 = omega arith in
+            ap₂ (λ (q r : ℕ). record { polynomial = q; row = r })
+            (part-get (j * 2) (omega arith) ∙ ap (λ (n : ℕ). getD cells n 0) a)
+            (part-get (j * 2 + 1) (omega arith) ∙ ap (λ (n : ℕ). getD cells n 0) b)
+
+    inside : i < length cycles
+    inside = let e = split-length lengths (cellsOf cells) in omega arith
+
+    here : (Q : List Cell → Type 0) → All Q cycles → Q (cellsOf part)
+    here Q a = subst Q (sym turn-cycle) (all-get Q cycles a i [] inside)
+
+    module _ (starts : List ℕ) (begin : Starts starts ps rows at) (room : at + length ps * rows ≤ length d) where
+      cell-in : (x : Cell) → Placed ps rows x → (x .polynomial < 72) × (cellWord starts x < length columns)
+      cell-in x h =
+          let few : getD ps (indexOf (x .polynomial) ps) 0 < 72 = all-get (λ q. q < 72) ps (walk .few) (indexOf (x .polynomial) ps) 0 (h .column-in) in
+          let e = get-index (x .polynomial) ps 0 (h .column-in) in
+          let p = placed-lt ps rows x h in
+          let b = begin (x .polynomial) (h .column-in) in
+          let q = w .long in
+          (subst (λ (n : ℕ). n < 72) e few, omega arith)
+
+      pub turn-asks : (0 < length part / 2) × All (λ (x : Cell). (x .polynomial < 72) × (cellWord starts x < length columns)) (cellsOf part)
+      turn-asks = (
+        (let s = here (λ cycle. 0 < length cycle) (walk .some) in let e = column-length (cellAt part) (length part / 2) in omega arith),
+        all-weaken (Placed ps rows) (λ (x : Cell). (x .polynomial < 72) × (cellWord starts x < length columns)) cell-in (cellsOf part) (here (All (Placed ps rows)) (walk .placed)),
+      )
+
+      pub turn-next : (after : List ℕ) → Moved starts (cellsOf part) columns after → Turning rows ps lengths cells d at after (start + getD lengths i 0 * 2) (i + 1)
+      turn-next after m =
+          record {
+            low = omega arith;
+            long = ap length moved ∙ run-length ps rows (walk .once) d at room (λ x. firstLabelIn ps rows (source (take i cycles) (before (cellsOf part) x)));
+            from =
+                let e = w .from in
+                let q = total-next lengths i l in
+                let p : total (take (i + 1) lengths) ≡ total (take (suc i) lengths) = ap (λ (n : ℕ). total (take n lengths)) (add-one i) in
+                omega arith;
+            words =
+                moved
+                ∙ ap (over d at)
+                (labels-same ps rows (λ x. firstLabelIn ps rows (source (take i cycles) (before (cellsOf part) x))) (λ x. firstLabelIn ps rows (source (take (i + 1) cycles) x))
+                (λ x. ap (firstLabelIn ps rows) (one-more x)));
+          }
+        where
+          moved : after ≡ over d at (labelColumns ps rows (λ x. firstLabelIn ps rows (source (take i cycles) (before (cellsOf part) x))))
+          moved =
+              m ps rows at d (λ x. firstLabelIn ps rows (source (take i cycles) x)) (walk .once) (here (All (Placed ps rows)) (walk .placed))
+              (here Apart (walk .apart))
+              begin
+              room
+              (w .words)
+
+          one-more : (x : Cell) → source (take i cycles) (before (cellsOf part) x) ≡ source (take (i + 1) cycles) x
+          one-more x =
+              ap (λ (cycle : List Cell). source (take i cycles) (before cycle x)) turn-cycle
+              ∙ sym (source-end (take i cycles) (getD cycles i []) x)
+              ∙ ap (λ (Cs : List (List Cell)). source Cs x) (sym (take-suc cycles i [] inside) ∙ ap (λ (n : ℕ). take n cycles) (sym (add-one i)))

@@ -27,6 +27,20 @@ div-row i rows b l = mul-add-div-right {m = rows} (omega arith) i b ∙ ap (λ (
 pub mod-row : (i rows b : ℕ) → b < rows → (i * rows + b) % rows ≡ b
 mod-row i rows b l = mul-add-mod-self-right i rows b ∙ mod-eq-of-lt l
 
+-- the total of one number more
+pub total-next : (ns : List ℕ) (i : ℕ) → i < length ns → total (take (suc i) ns) ≡ total (take i ns) + getD ns i 0
+unfolding total
+total-next [] i l = absurd (not-suc-le-zero l)
+total-next (n ∷ ns) zero l = omega arith
+total-next (n ∷ ns) (suc i) l = let q = total-next ns i (omega arith) in omega arith
+
+pub total-within : (ns : List ℕ) (i : ℕ) → total (take i ns) + getD ns i 0 ≤ total ns
+unfolding total
+total-within [] zero = omega arith
+total-within [] (suc i) = omega arith
+total-within (n ∷ ns) zero = omega arith
+total-within (n ∷ ns) (suc i) = let q = total-within ns i in omega arith
+
 module _ {A : Type 0} where
   -- a word set in the second list, at a number that is the first's length and i more
   pub set-past : (xs ys : List A) (n i : ℕ) (v : A) → n ≡ length xs + i → set (xs ++ ys) n v ≡ xs ++ set ys i v

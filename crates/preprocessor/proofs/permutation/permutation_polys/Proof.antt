@@ -1,0 +1,112 @@
+use mathlib.Core.Path.{_≡_, sym, subst}
+use Prim.Native.Nat.{ℕ, _+_, _*_, _-_, _/_, _≤_, _<_}
+use native.Mathlib.Omega.{arith}
+use borrow.Author.Needs.{needs}
+use lib.ListN.{length, getD}
+use Rattle.preprocessor.proofs.Walks.{Turning, turning-room, turning-start, turning-end, turn-fits, turn-asks, turn-next}
+use Rattle.preprocessor.proofs.permutation.permutation_polys.Statement.{statement}
+use Rattle.preprocessor.proofs.permutation.permutation_polys.Tie as tie
+use Rattle.preprocessor.proofs.permutation.permutation_polys.Reads as reads
+use Rattle.preprocessor.proofs.permutation.permutation_polys.Lts as lts
+use Rattle.preprocessor.proofs.permutation.column_starts.Reads as column-starts-reads
+use Rattle.preprocessor.proofs.permutation.first_labels.Reads as first-labels-reads
+use Rattle.preprocessor.proofs.permutation.walk_cycle.Reads as walk-cycle-reads
+
+abbrev Inv-loop : tie.InvT-loop
+Inv-loop rows copied lengths cells columns₀ at starts start₀ i₀ columns start i = Turning rows copied lengths cells columns₀ at columns start i
+
+abbrev μ-loop : tie.MeasureT-loop
+μ-loop rows copied lengths cells columns₀ at starts start₀ i₀ columns start i = length lengths - i
+
+-- the words of the cycle at hand are among the cells'
+fits : (c : tie.In-loop Inv-loop μ-loop)
+    → c .before .loop .start + getD (c .before .before .before .before .before .before .before .before .before .before .before .args .lengths .now) (c .before .loop .i) 0 * 2 ≤ length (c .before .before .before .before .before .before .before .before .before .before .before .args .cells .now)
+fits c =
+    turn-fits (c .before .before .before .before .before .before .before .before .before .before .before .args .rows) (c .before .before .before .before .before .before .before .before .before .before .before .args .copied .now) (c .before .before .before .before .before .before .before .before .before .before .before .args .lengths .now) (c .before .before .before .before .before .before .before .before .before .before .before .args .cells .now) (c .before .before .before .before .before .before .before .before .before .before .before .args .at) (c .before .before .before .before .before .before .before .before .before .before .before .pre .0) (c .before .before .before .before .before .before .before .before .before .before .before .pre .1 .0) (c .before .before .before .before .before .first-labels .last .0) (c .before .loop .columns) (c .before .loop .start) (c .before .loop .i) (c .before .loop .inv) (c .loop-test .taken)
+
+mul-first-labels : tie.Need-mul-first-labels Inv-loop μ-loop
+mul-first-labels c = let h = c .before .before .before .before .before .pre .1 .1 in record { fits = omega arith }
+
+first-labels-requires : tie.Need-first-labels-requires Inv-loop μ-loop
+first-labels-requires c κs = search needs
+
+column-starts-requires : tie.Need-column-starts-requires Inv-loop μ-loop
+column-starts-requires c κs = (c .before .before .before .before .before .before .before .before .pre .0 .once, c .before .before .before .before .before .before .before .before .pre .0 .few, (let h = c .before .before .before .before .before .before .before .before .pre .1 .1 in omega arith))
+
+loop-holds : tie.Need-loop-holds Inv-loop μ-loop
+loop-holds c = turning-start (c .before .before .before .before .before .before .before .before .before .args .rows) (c .before .before .before .before .before .before .before .before .before .args .copied .now) (c .before .before .before .before .before .before .before .before .before .args .lengths .now) (c .before .before .before .before .before .before .before .before .before .args .cells .now) (c .before .before .before .before .before .before .before .before .before .args .at) (c .before .before .before .before .before .before .before .before .before .pre .0) (c .before .before .before .before .before .before .before .before .before .pre .1 .0) (c .before .before .before .before .before .before .before .before .before .args .columns .now) (c .before .before .before .first-labels .last .0) (c .before .before .before .before .before .before .before .before .before .pre .1 .1) (c .before .before .before .first-labels .ensures)
+
+mul-end : tie.Need-mul-end Inv-loop μ-loop
+mul-end c = search needs
+
+shared-slice-read-end : tie.Need-shared-slice-read-end Inv-loop μ-loop
+shared-slice-read-end c = search needs
+
+mul-end-2 : tie.Need-mul-end-2 Inv-loop μ-loop
+mul-end-2 c = let h = fits (c .before) in record { fits = omega arith }
+
+add-end : tie.Need-add-end Inv-loop μ-loop
+add-end c = let h = fits (c .before) in record { fits = omega arith }
+
+mul-walk-cycle : tie.Need-mul-walk-cycle Inv-loop μ-loop
+mul-walk-cycle c = let h = fits (c .before .before .before) in record { fits = omega arith }
+
+sub-walk-cycle : tie.Need-sub-walk-cycle Inv-loop μ-loop
+sub-walk-cycle c = search needs
+
+part-walk-cycle-start : tie.Need-part-walk-cycle-start Inv-loop μ-loop
+part-walk-cycle-start c = search needs
+
+part-walk-cycle-end : tie.Need-part-walk-cycle-end Inv-loop μ-loop
+part-walk-cycle-end c = fits (c .before .before .before)
+
+walk-cycle-requires : tie.Need-walk-cycle-requires Inv-loop μ-loop
+walk-cycle-requires c κs = 
+    turn-asks (c .before .before .before .before .before .before .before .before .before .before .before .before .before .before .before .args .rows) (c .before .before .before .before .before .before .before .before .before .before .before .before .before .before .before .args .copied .now) (c .before .before .before .before .before .before .before .before .before .before .before .before .before .before .before .args .lengths .now) (c .before .before .before .before .before .before .before .before .before .before .before .before .before .before .before .args .cells .now) (c .before .before .before .before .before .before .before .before .before .before .before .before .before .before .before .args .at) (c .before .before .before .before .before .before .before .before .before .before .before .before .before .before .before .pre .0) (c .before .before .before .before .before .before .before .before .before .before .before .before .before .before .before .pre .1 .0) (c .before .before .before .before .before .before .before .before .before .first-labels .last .0) (c .before .before .before .before .before .loop .columns) (c .before .before .before .before .before .loop .start) (c .before .before .before .before .before .loop .i) (c .before .before .before .before .before .loop .inv) (c .before .before .before .before .loop-test .taken)
+    (c .before .before .before .before .before .before .column-starts .result) (c .before .before .before .before .before .before .column-starts .ensures)
+    (turning-room (c .before .before .before .before .before .before .before .before .before .before .before .before .before .before .before .args .rows) (c .before .before .before .before .before .before .before .before .before .before .before .before .before .before .before .args .copied .now) (c .before .before .before .before .before .before .before .before .before .before .before .before .before .before .before .args .lengths .now) (c .before .before .before .before .before .before .before .before .before .before .before .before .before .before .before .args .cells .now) (c .before .before .before .before .before .before .before .before .before .before .before .before .before .before .before .args .at) (c .before .before .before .before .before .before .before .before .before .before .before .before .before .before .before .pre .0) (c .before .before .before .before .before .before .before .before .before .before .before .before .before .before .before .pre .1 .0) (c .before .before .before .before .before .before .before .before .before .before .before .before .before .before .before .args .columns .now) (c .before .before .before .before .before .before .before .before .before .first-labels .last .0) (c .before .before .before .before .before .before .before .before .before .before .before .before .before .before .before .pre .1 .1) (c .before .before .before .before .before .before .before .before .before .first-labels .ensures))
+
+add-i : tie.Need-add-i Inv-loop μ-loop
+add-i c = search needs
+
+loop-less : tie.Need-loop-less Inv-loop μ-loop
+loop-less c = search needs
+
+loop-again : tie.Need-loop-again Inv-loop μ-loop
+loop-again c = 
+    turn-next (c .before .before .before .before .before .before .before .before .before .before .before .before .before .before .before .before .before .before .args .rows) (c .before .before .before .before .before .before .before .before .before .before .before .before .before .before .before .before .before .before .args .copied .now) (c .before .before .before .before .before .before .before .before .before .before .before .before .before .before .before .before .before .before .args .lengths .now) (c .before .before .before .before .before .before .before .before .before .before .before .before .before .before .before .before .before .before .args .cells .now) (c .before .before .before .before .before .before .before .before .before .before .before .before .before .before .before .before .before .before .args .at) (c .before .before .before .before .before .before .before .before .before .before .before .before .before .before .before .before .before .before .pre .0) (c .before .before .before .before .before .before .before .before .before .before .before .before .before .before .before .before .before .before .pre .1 .0) (c .before .before .before .before .before .before .before .before .before .before .before .before .first-labels .last .0) (c .before .before .before .before .before .before .before .before .loop .columns) (c .before .before .before .before .before .before .before .before .loop .start) (c .before .before .before .before .before .before .before .before .loop .i) (c .before .before .before .before .before .before .before .before .loop .inv) (c .before .before .before .before .before .before .before .loop-test .taken)
+    (c .before .before .before .before .before .before .before .before .before .column-starts .result) (c .before .before .before .before .before .before .before .before .before .column-starts .ensures)
+    (turning-room (c .before .before .before .before .before .before .before .before .before .before .before .before .before .before .before .before .before .before .args .rows) (c .before .before .before .before .before .before .before .before .before .before .before .before .before .before .before .before .before .before .args .copied .now) (c .before .before .before .before .before .before .before .before .before .before .before .before .before .before .before .before .before .before .args .lengths .now) (c .before .before .before .before .before .before .before .before .before .before .before .before .before .before .before .before .before .before .args .cells .now) (c .before .before .before .before .before .before .before .before .before .before .before .before .before .before .before .before .before .before .args .at) (c .before .before .before .before .before .before .before .before .before .before .before .before .before .before .before .before .before .before .pre .0) (c .before .before .before .before .before .before .before .before .before .before .before .before .before .before .before .before .before .before .pre .1 .0) (c .before .before .before .before .before .before .before .before .before .before .before .before .before .before .before .before .before .before .args .columns .now) (c .before .before .before .before .before .before .before .before .before .before .before .before .first-labels .last .0) (c .before .before .before .before .before .before .before .before .before .before .before .before .before .before .before .before .before .before .pre .1 .1) (c .before .before .before .before .before .before .before .before .before .before .before .before .first-labels .ensures))
+    (c .before .before .walk-cycle .last .0) (c .before .before .walk-cycle .ensures)
+
+same-length : tie.Need-same-length Inv-loop μ-loop
+same-length c = search needs
+
+returns : tie.Need-returns Inv-loop μ-loop
+returns c = 
+    turning-end (c .before .before .before .before .before .before .before .before .before .before .before .args .rows) (c .before .before .before .before .before .before .before .before .before .before .before .args .copied .now) (c .before .before .before .before .before .before .before .before .before .before .before .args .lengths .now) (c .before .before .before .before .before .before .before .before .before .before .before .args .cells .now) (c .before .before .before .before .before .before .before .before .before .before .before .args .at) (c .before .before .before .before .before .before .before .before .before .before .before .pre .0) (c .before .before .before .before .before .before .before .before .before .before .before .pre .1 .0) (c .before .before .before .before .before .before .before .before .before .before .before .args .columns .now) (c .before .before .before .before .before .first-labels .last .0) (c .before .before .before .before .before .before .before .before .before .before .before .pre .1 .1) (c .before .before .before .before .before .first-labels .ensures) (c .before .loop .columns) (c .before .loop .start) (c .before .loop .i) (c .before .loop .inv) (c .loop-test .left)
+
+pub permutation-polys-spec : {M : Type 1} → statement M
+permutation-polys-spec =
+    tie.close
+    (tie.spec
+    Inv-loop
+    μ-loop
+    mul-first-labels
+    first-labels-requires
+    column-starts-requires
+    loop-holds
+    mul-end
+    shared-slice-read-end
+    mul-end-2
+    add-end
+    mul-walk-cycle
+    sub-walk-cycle
+    part-walk-cycle-start
+    part-walk-cycle-end
+    walk-cycle-requires
+    add-i
+    loop-less
+    loop-again
+    same-length
+    returns)
