@@ -115,3 +115,29 @@ module _ {L : Type 0} where
   pub passed-cycle : (l : Cell → L) (y : Cell) (ys : List Cell) (x : Cell) → Distinct (y ∷ ys) → passed l (l (lastCell y ys)) (y ∷ ys) x ≡ l (before (y ∷ ys) x)
   unfolding before
   passed-cycle l y ys x u = passed-from l l (lastCell y ys) (y ∷ ys) x u (all-any (λ z. l z ≡ l z) (λ z. refl) (y ∷ ys)) refl
+
+-- ---- what the cells of cycles have, the cell whose label x holds has
+module _ (Q : Cell → Type 0) where
+  pub last-all : (y : Cell) (ys : List Cell) → All Q (y ∷ ys) → Q (lastCell y ys)
+  unfolding lastCell
+  last-all y [] a = a .0
+  last-all y (z ∷ ys) a = last-all z ys (a .1)
+
+  from-all : (p : Cell) (ys : List Cell) (x : Cell) → Q p → All Q ys → Q x → Q (beforeFrom p ys x)
+  unfolding beforeFrom
+  from-all p [] x h a q = q
+  from-all p (y ∷ ys) x h a q = go (sameCell x y) (from-all y ys x (a .0) (a .1) q)
+    where
+      go : (t : Bool) → Q (beforeFrom y ys x) → Q (cond t p (beforeFrom y ys x))
+      go true r = h
+      go false r = r
+
+  pub before-all : (ys : List Cell) (x : Cell) → All Q ys → Q x → Q (before ys x)
+  unfolding before
+  before-all [] x a q = q
+  before-all (y ∷ ys) x a q = from-all (lastCell y ys) (y ∷ ys) x (last-all y ys a) a q
+
+  pub source-all : (cycles : List (List Cell)) (x : Cell) → All (All Q) cycles → Q x → Q (source cycles x)
+  unfolding source
+  source-all [] x a q = q
+  source-all (y ∷ ys) x a q = before-all y (source ys x) (a .0) (source-all ys x (a .1) q)

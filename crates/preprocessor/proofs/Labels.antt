@@ -20,11 +20,11 @@ use Rattle.util.proofs.Places.{get-index}
 use Rattle.backend.specs.Circuit.{Cell, sameCell}
 use Rattle.preprocessor.specs.Permutation.{
   lastCell,
-  beforeFrom,
   before,
   source,
   firstLabelIn,
   cellIn,
+  labelIn,
   labelColumns,
   Placed,
   Once,
@@ -33,7 +33,7 @@ use Rattle.preprocessor.specs.Permutation.{
   cellWord,
   Moved,
 }
-use Rattle.preprocessor.proofs.Cycles.{same-cell, apart-distinct, taken, passed, passed-cycle}
+use Rattle.preprocessor.proofs.Cycles.{last-all, source-all, same-cell, apart-distinct, taken, passed, passed-cycle}
 
 -- ---- labels exchanged: the first place takes v, each after it what the place before it held
 unfoldable pub exchanged : List ℕ → ℕ → List ℕ → List ℕ
@@ -85,6 +85,15 @@ module _ (ps : List ℕ) (rows : ℕ) where
   module _ (once : Once ps) where
     pub cell-number : (i b : ℕ) → i < length ps → firstLabelIn ps rows (cellIn ps i b) ≡ i * rows + b
     cell-number i b l = ap (λ (j : ℕ). j * rows + b) (once i l)
+
+    cell-placed : (i b : ℕ) → i < length ps → b < rows → Placed ps rows (cellIn ps i b)
+    cell-placed i b l m = record { column-in = (let e = once i l in omega arith); row-in = m }
+
+    -- a label is the place of a cell
+    pub label-lt : (cycles : List (List Cell)) → All (All (Placed ps rows)) cycles → (i b : ℕ) → i < length ps → b < rows
+        → labelIn ps rows cycles i b < length ps * rows
+    label-lt cycles a i b l m =
+        placed-lt (source cycles (cellIn ps i b)) (source-all (Placed ps rows) cycles (cellIn ps i b) a (cell-placed i b l m))
 
     -- the place is a cell's exactly where the cell is the same
     place-same : (y : Cell) → Placed ps rows y → (j : ℕ) → j < length ps * rows
@@ -165,16 +174,11 @@ module _ (ps : List ℕ) (rows : ℕ) where
           (ap (λ (j : ℕ). getD (run l) j 0) (e y (a .0)) ∙ run-get l y (a .0))
           ∙ run-exchanged word e (taken l y v) (l y) ys (a .1)
 
--- the last cell, its place, and what holds of it
+-- the place of the last cell
 last-word : (word : Cell → ℕ) (y : Cell) (ys : List Cell) → getD (map word (y ∷ ys)) (length ys) 0 ≡ word (lastCell y ys)
 unfolding lastCell
 last-word word y [] = refl
 last-word word y (z ∷ ys) = last-word word z ys
-
-last-all : (Q : Cell → Type 0) (y : Cell) (ys : List Cell) → All Q (y ∷ ys) → Q (lastCell y ys)
-unfolding lastCell
-last-all Q y [] a = a .0
-last-all Q y (z ∷ ys) a = last-all Q z ys (a .1)
 
 -- one turn of the walk
 pub exchanged-next : (d : List ℕ) (v : ℕ) (qs : List ℕ) (i : ℕ) → i < length qs

@@ -1,3 +1,4 @@
 pub mod Cycles
 pub mod Labels
 pub mod Walks
+pub mod Copied

@@ -47,6 +47,12 @@ module _ (d : List ℕ) (at count : ℕ) where
       let e : j ≡ count = let q = w .low in omega arith in
       w .words ∙ ap (λ (n : ℕ). over d at (below n)) e
 
+pub first-room : (d₀ d : List ℕ) (at count : ℕ) → at + count ≤ length d₀ → d ≡ over d₀ at (below count) → at + count ≤ length d
+first-room d₀ d at count h e =
+    let n = below-length count in
+    let q : length d ≡ length d₀ = ap length e ∙ length-over d₀ at (below count) (omega arith) in
+    omega arith
+
 -- ---- where the columns begin
 pub record Begun (ps : List ℕ) (rows at : ℕ) (starts : List ℕ) (i : ℕ) : Type 0 where
   pub low : i ≤ length ps
@@ -181,12 +187,6 @@ module _ (rows : ℕ) (ps lengths cells : List ℕ) (at : ℕ) (walk : Walkable 
     again Cs =
         ap (λ (s : List ℕ). over s at (labelled Cs)) first
         ∙ over-again d₀ at (below (length ps * rows)) (labelled Cs) (let e = below-length (length ps * rows) in omega arith) (first-length Cs)
-
-    pub turning-room : at + length ps * rows ≤ length d
-    turning-room =
-        let e = below-length (length ps * rows) in
-        let q : length d ≡ length d₀ = ap length first ∙ length-over d₀ at (below (length ps * rows)) (omega arith) in
-        omega arith
 
     pub turning-start : Turning rows ps lengths cells d at d 0 0
     unfolding total source

@@ -59,10 +59,8 @@ fn cell_word(starts: &[u64; 72], cells: &[u64], i: usize) -> usize
 
 // Along a cycle each cell takes the label that the cell before held when the cycle began, the first that of the last.
 pub fn walk_cycle(columns: &mut [u64], starts: &[u64; 72], cells: &[u64])
-    requires {
-        ⌜ (0 < length (now cells) / 2)
-        × All (λ (x : Cell). (x .polynomial < 72) × (cellWord (now starts) x < length (now columns))) (cellsOf (now cells)) ⌝
-    }
+    requires { ⌜ (0 < length (now cells) / 2)
+        × All (λ (x : Cell). (x .polynomial < 72) × (cellWord (now starts) x < length (now columns))) (cellsOf (now cells)) ⌝ }
     ensures { λ r. ⌜ Moved (now (starts .entry)) (cellsOf (now (cells .entry))) (now (columns .entry)) (now (columns .exit)) ⌝ }
 {
     let count = cells.len() / 2;
@@ -77,14 +75,19 @@ pub fn walk_cycle(columns: &mut [u64], starts: &[u64; 72], cells: &[u64])
 }
 
 // The permutation columns of the copied columns, from word `at` on: cycles act one after another.
-pub fn permutation_polys(rows: usize, copied: &[u64], lengths: &[u64], cells: &[u64], columns: &mut [u64], at: usize)
+pub fn permutation_polys(
+    rows: usize,
+    copied: &[u64],
+    lengths: &[u64],
+    cells: &[u64],
+    columns: &mut [u64],
+    at: usize,
+)
     requires { ⌜ Walkable (now copied) rows (split (now lengths) (cellsOf (now cells))) ⌝ }
     requires { ⌜ total (now lengths) ≡ length (now cells) / 2 ⌝ }
     requires { ⌜ at + length (now copied) * rows ≤ length (now columns) ⌝ }
-    ensures {
-        λ r. ⌜ now (columns .exit)
-        ≡ over (now (columns .entry)) at (permutationColumns (now (copied .entry)) rows (split (now (lengths .entry)) (cellsOf (now (cells .entry))))) ⌝
-    }
+    ensures { λ r. ⌜ now (columns .exit)
+        ≡ over (now (columns .entry)) at (permutationColumns (now (copied .entry)) rows (split (now (lengths .entry)) (cellsOf (now (cells .entry))))) ⌝ }
 {
     first_labels(columns, at, copied.len() * rows);
     let starts = column_starts(copied, rows, at);

@@ -32,7 +32,7 @@ add-starts : tie.Need-add-starts Inv-loop μ-loop
 add-starts c = record { fits = begins (c .before .before .before .args .copied .now) (c .before .before .before .args .rows) (c .before .before .before .args .at) (c .before .before .loop .i) (2 ^ 64) (search needs) (c .before .before .before .pre .2) .1 }
 
 mul-starts-2 : tie.Need-mul-starts-2 Inv-loop μ-loop
-mul-starts-2 c = 
+mul-starts-2 c =
     let q : getD (c .before .before .before .args .copied .now) (c .before .before .loop .i) 0 < 72 =
     all-get (λ q. q < 72) (c .before .before .before .args .copied .now) (c .before .before .before .pre .1) (c .before .before .loop .i) 0 (search needs) in
     record { fits = omega arith }

@@ -1,9 +1,10 @@
 use mathlib.Core.Path.{_≡_, sym, subst}
+use mathlib.Core.List.{List}
 use Prim.Native.Nat.{ℕ, _+_, _*_, _-_, _/_, _≤_, _<_}
 use native.Mathlib.Omega.{arith}
 use borrow.Author.Needs.{needs}
 use lib.ListN.{length, getD}
-use Rattle.preprocessor.proofs.Walks.{Turning, turning-room, turning-start, turning-end, turn-fits, turn-asks, turn-next}
+use Rattle.preprocessor.proofs.Walks.{Turning, first-room, turning-start, turning-end, turn-fits, turn-asks, turn-next}
 use Rattle.preprocessor.proofs.permutation.permutation_polys.Statement.{statement}
 use Rattle.preprocessor.proofs.permutation.permutation_polys.Tie as tie
 use Rattle.preprocessor.proofs.permutation.permutation_polys.Reads as reads
@@ -18,11 +19,21 @@ Inv-loop rows copied lengths cells columns₀ at starts start₀ i₀ columns st
 abbrev μ-loop : tie.MeasureT-loop
 μ-loop rows copied lengths cells columns₀ at starts start₀ i₀ columns start i = length lengths - i
 
+-- the function's entry, and what the first labels left, from the loop's head
+abbrev entry : tie.At-loop Inv-loop μ-loop → tie.Start Inv-loop μ-loop
+entry c = c .before .before .before .before .before .before .before .before .before .before
+
+abbrev first : tie.At-loop Inv-loop μ-loop → List ℕ
+first c = c .before .before .before .before .first-labels .last .0
+
+room : (c : tie.At-loop Inv-loop μ-loop) → entry c .args .at + length (entry c .args .copied .now) * entry c .args .rows ≤ length (first c)
+room c = first-room _ _ _ _ (entry c .pre .1 .1) (c .before .before .before .before .first-labels .ensures)
+
 -- the words of the cycle at hand are among the cells'
 fits : (c : tie.In-loop Inv-loop μ-loop)
-    → c .before .loop .start + getD (c .before .before .before .before .before .before .before .before .before .before .before .args .lengths .now) (c .before .loop .i) 0 * 2 ≤ length (c .before .before .before .before .before .before .before .before .before .before .before .args .cells .now)
+    → c .before .loop .start + getD (entry (c .before) .args .lengths .now) (c .before .loop .i) 0 * 2 ≤ length (entry (c .before) .args .cells .now)
 fits c =
-    turn-fits (c .before .before .before .before .before .before .before .before .before .before .before .args .rows) (c .before .before .before .before .before .before .before .before .before .before .before .args .copied .now) (c .before .before .before .before .before .before .before .before .before .before .before .args .lengths .now) (c .before .before .before .before .before .before .before .before .before .before .before .args .cells .now) (c .before .before .before .before .before .before .before .before .before .before .before .args .at) (c .before .before .before .before .before .before .before .before .before .before .before .pre .0) (c .before .before .before .before .before .before .before .before .before .before .before .pre .1 .0) (c .before .before .before .before .before .first-labels .last .0) (c .before .loop .columns) (c .before .loop .start) (c .before .loop .i) (c .before .loop .inv) (c .loop-test .taken)
+    turn-fits _ _ _ _ _ (entry (c .before) .pre .0) (entry (c .before) .pre .1 .0) _ _ _ _ (c .before .loop .inv) (c .loop-test .taken)
 
 mul-first-labels : tie.Need-mul-first-labels Inv-loop μ-loop
 mul-first-labels c = let h = c .before .before .before .before .before .pre .1 .1 in record { fits = omega arith }
@@ -31,10 +42,14 @@ first-labels-requires : tie.Need-first-labels-requires Inv-loop μ-loop
 first-labels-requires c κs = search needs
 
 column-starts-requires : tie.Need-column-starts-requires Inv-loop μ-loop
-column-starts-requires c κs = (c .before .before .before .before .before .before .before .before .pre .0 .once, c .before .before .before .before .before .before .before .before .pre .0 .few, (let h = c .before .before .before .before .before .before .before .before .pre .1 .1 in omega arith))
+column-starts-requires c κs = 
+    let s = c .before .before .before .before .before .before .before .before in
+    (s .pre .0 .once, s .pre .0 .few, (let h = s .pre .1 .1 in omega arith))
 
 loop-holds : tie.Need-loop-holds Inv-loop μ-loop
-loop-holds c = turning-start (c .before .before .before .before .before .before .before .before .before .args .rows) (c .before .before .before .before .before .before .before .before .before .args .copied .now) (c .before .before .before .before .before .before .before .before .before .args .lengths .now) (c .before .before .before .before .before .before .before .before .before .args .cells .now) (c .before .before .before .before .before .before .before .before .before .args .at) (c .before .before .before .before .before .before .before .before .before .pre .0) (c .before .before .before .before .before .before .before .before .before .pre .1 .0) (c .before .before .before .before .before .before .before .before .before .args .columns .now) (c .before .before .before .first-labels .last .0) (c .before .before .before .before .before .before .before .before .before .pre .1 .1) (c .before .before .before .first-labels .ensures)
+loop-holds c = 
+    let s = c .before .before .before .before .before .before .before .before .before in
+    turning-start _ _ _ _ _ (s .pre .0) (s .pre .1 .0) _ _ (s .pre .1 .1) (c .before .before .before .first-labels .ensures)
 
 mul-end : tie.Need-mul-end Inv-loop μ-loop
 mul-end c = search needs
@@ -62,9 +77,8 @@ part-walk-cycle-end c = fits (c .before .before .before)
 
 walk-cycle-requires : tie.Need-walk-cycle-requires Inv-loop μ-loop
 walk-cycle-requires c κs = 
-    turn-asks (c .before .before .before .before .before .before .before .before .before .before .before .before .before .before .before .args .rows) (c .before .before .before .before .before .before .before .before .before .before .before .before .before .before .before .args .copied .now) (c .before .before .before .before .before .before .before .before .before .before .before .before .before .before .before .args .lengths .now) (c .before .before .before .before .before .before .before .before .before .before .before .before .before .before .before .args .cells .now) (c .before .before .before .before .before .before .before .before .before .before .before .before .before .before .before .args .at) (c .before .before .before .before .before .before .before .before .before .before .before .before .before .before .before .pre .0) (c .before .before .before .before .before .before .before .before .before .before .before .before .before .before .before .pre .1 .0) (c .before .before .before .before .before .before .before .before .before .first-labels .last .0) (c .before .before .before .before .before .loop .columns) (c .before .before .before .before .before .loop .start) (c .before .before .before .before .before .loop .i) (c .before .before .before .before .before .loop .inv) (c .before .before .before .before .loop-test .taken)
-    (c .before .before .before .before .before .before .column-starts .result) (c .before .before .before .before .before .before .column-starts .ensures)
-    (turning-room (c .before .before .before .before .before .before .before .before .before .before .before .before .before .before .before .args .rows) (c .before .before .before .before .before .before .before .before .before .before .before .before .before .before .before .args .copied .now) (c .before .before .before .before .before .before .before .before .before .before .before .before .before .before .before .args .lengths .now) (c .before .before .before .before .before .before .before .before .before .before .before .before .before .before .before .args .cells .now) (c .before .before .before .before .before .before .before .before .before .before .before .before .before .before .before .args .at) (c .before .before .before .before .before .before .before .before .before .before .before .before .before .before .before .pre .0) (c .before .before .before .before .before .before .before .before .before .before .before .before .before .before .before .pre .1 .0) (c .before .before .before .before .before .before .before .before .before .before .before .before .before .before .before .args .columns .now) (c .before .before .before .before .before .before .before .before .before .first-labels .last .0) (c .before .before .before .before .before .before .before .before .before .before .before .before .before .before .before .pre .1 .1) (c .before .before .before .before .before .before .before .before .before .first-labels .ensures))
+    let h : tie.At-loop Inv-loop μ-loop = c .before .before .before .before .before in
+    turn-asks _ _ _ _ _ (entry h .pre .0) (entry h .pre .1 .0) _ _ _ _ (h .loop .inv) (c .before .before .before .before .loop-test .taken) (h .before .column-starts .result) (h .before .column-starts .ensures) (room h)
 
 add-i : tie.Need-add-i Inv-loop μ-loop
 add-i c = search needs
@@ -74,17 +88,16 @@ loop-less c = search needs
 
 loop-again : tie.Need-loop-again Inv-loop μ-loop
 loop-again c = 
-    turn-next (c .before .before .before .before .before .before .before .before .before .before .before .before .before .before .before .before .before .before .args .rows) (c .before .before .before .before .before .before .before .before .before .before .before .before .before .before .before .before .before .before .args .copied .now) (c .before .before .before .before .before .before .before .before .before .before .before .before .before .before .before .before .before .before .args .lengths .now) (c .before .before .before .before .before .before .before .before .before .before .before .before .before .before .before .before .before .before .args .cells .now) (c .before .before .before .before .before .before .before .before .before .before .before .before .before .before .before .before .before .before .args .at) (c .before .before .before .before .before .before .before .before .before .before .before .before .before .before .before .before .before .before .pre .0) (c .before .before .before .before .before .before .before .before .before .before .before .before .before .before .before .before .before .before .pre .1 .0) (c .before .before .before .before .before .before .before .before .before .before .before .before .first-labels .last .0) (c .before .before .before .before .before .before .before .before .loop .columns) (c .before .before .before .before .before .before .before .before .loop .start) (c .before .before .before .before .before .before .before .before .loop .i) (c .before .before .before .before .before .before .before .before .loop .inv) (c .before .before .before .before .before .before .before .loop-test .taken)
-    (c .before .before .before .before .before .before .before .before .before .column-starts .result) (c .before .before .before .before .before .before .before .before .before .column-starts .ensures)
-    (turning-room (c .before .before .before .before .before .before .before .before .before .before .before .before .before .before .before .before .before .before .args .rows) (c .before .before .before .before .before .before .before .before .before .before .before .before .before .before .before .before .before .before .args .copied .now) (c .before .before .before .before .before .before .before .before .before .before .before .before .before .before .before .before .before .before .args .lengths .now) (c .before .before .before .before .before .before .before .before .before .before .before .before .before .before .before .before .before .before .args .cells .now) (c .before .before .before .before .before .before .before .before .before .before .before .before .before .before .before .before .before .before .args .at) (c .before .before .before .before .before .before .before .before .before .before .before .before .before .before .before .before .before .before .pre .0) (c .before .before .before .before .before .before .before .before .before .before .before .before .before .before .before .before .before .before .pre .1 .0) (c .before .before .before .before .before .before .before .before .before .before .before .before .before .before .before .before .before .before .args .columns .now) (c .before .before .before .before .before .before .before .before .before .before .before .before .first-labels .last .0) (c .before .before .before .before .before .before .before .before .before .before .before .before .before .before .before .before .before .before .pre .1 .1) (c .before .before .before .before .before .before .before .before .before .before .before .before .first-labels .ensures))
-    (c .before .before .walk-cycle .last .0) (c .before .before .walk-cycle .ensures)
+    let h : tie.At-loop Inv-loop μ-loop = c .before .before .before .before .before .before .before .before in
+    turn-next _ _ _ _ _ (entry h .pre .0) (entry h .pre .1 .0) _ _ _ _ (h .loop .inv) (c .before .before .before .before .before .before .before .loop-test .taken) (h .before .column-starts .result) (h .before .column-starts .ensures) (room h) _ (c .before .before .walk-cycle .ensures)
 
 same-length : tie.Need-same-length Inv-loop μ-loop
 same-length c = search needs
 
 returns : tie.Need-returns Inv-loop μ-loop
 returns c = 
-    turning-end (c .before .before .before .before .before .before .before .before .before .before .before .args .rows) (c .before .before .before .before .before .before .before .before .before .before .before .args .copied .now) (c .before .before .before .before .before .before .before .before .before .before .before .args .lengths .now) (c .before .before .before .before .before .before .before .before .before .before .before .args .cells .now) (c .before .before .before .before .before .before .before .before .before .before .before .args .at) (c .before .before .before .before .before .before .before .before .before .before .before .pre .0) (c .before .before .before .before .before .before .before .before .before .before .before .pre .1 .0) (c .before .before .before .before .before .before .before .before .before .before .before .args .columns .now) (c .before .before .before .before .before .first-labels .last .0) (c .before .before .before .before .before .before .before .before .before .before .before .pre .1 .1) (c .before .before .before .before .before .first-labels .ensures) (c .before .loop .columns) (c .before .loop .start) (c .before .loop .i) (c .before .loop .inv) (c .loop-test .left)
+    let h : tie.At-loop Inv-loop μ-loop = c .before in
+    turning-end _ _ _ _ _ (entry h .pre .0) (entry h .pre .1 .0) _ _ (entry h .pre .1 .1) (h .before .before .before .before .first-labels .ensures) _ _ _ (h .loop .inv) (c .loop-test .left)
 
 pub permutation-polys-spec : {M : Type 1} → statement M
 permutation-polys-spec =

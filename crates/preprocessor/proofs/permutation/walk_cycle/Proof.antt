@@ -22,29 +22,33 @@ sub-cell-word c = search needs
 
 cell-word-requires : tie.Need-cell-word-requires Inv-loop μ-loop
 cell-word-requires c κs = 
-    cell-asked (c .before .before .args .starts .now) (c .before .before .args .cells .now) (length (c .before .before .args .columns .now)) (length (c .before .before .args .cells .now) / 2 - 1) (c .before .before .pre .1) (let p = c .before .before .pre .0 in omega arith) (omega arith)
+    let s = c .before .before in
+    cell-asked (s .args .starts .now) (s .args .cells .now) (length (s .args .columns .now)) (length (s .args .cells .now) / 2 - 1) (s .pre .1) (let p = s .pre .0 in omega arith) (omega arith)
 
 mul-label : tie.Need-mul-label Inv-loop μ-loop
 mul-label c = 
-    let w : c .cell-word .result < length (c .before .before .before .args .columns .now) = word-in (c .before .before .before .args .starts .now) (c .before .before .before .args .cells .now) (length (c .before .before .before .args .columns .now)) (length (c .before .before .before .args .cells .now) / 2 - 1) (c .before .before .before .pre .1) (let p = c .before .before .before .pre .0 in omega arith) _ (c .cell-word .ensures) in
+    let s = c .before .before .before in
+    let w : c .cell-word .result < length (s .args .columns .now) = word-in (s .args .starts .now) (s .args .cells .now) (length (s .args .columns .now)) (length (s .args .cells .now) / 2 - 1) (s .pre .1) (let p = s .pre .0 in omega arith) _ (c .cell-word .ensures) in
     record { fits = omega arith }
 
 slice-read-label : tie.Need-slice-read-label Inv-loop μ-loop
 slice-read-label c = 
-    word-in (c .before .before .before .before .args .starts .now) (c .before .before .before .before .args .cells .now) (length (c .before .before .before .before .args .columns .now)) (length (c .before .before .before .before .args .cells .now) / 2 - 1) (c .before .before .before .before .pre .1) (let p = c .before .before .before .before .pre .0 in omega arith) _ (c .before .cell-word .ensures)
+    let s = c .before .before .before .before in
+    word-in (s .args .starts .now) (s .args .cells .now) (length (s .args .columns .now)) (length (s .args .cells .now) / 2 - 1) (s .pre .1) (let p = s .pre .0 in omega arith) _ (c .before .cell-word .ensures)
 
 loop-holds : tie.Need-loop-holds Inv-loop μ-loop
 loop-holds c = walking-start _ _ _ _
 
 cell-word-requires-2 : tie.Need-cell-word-requires-2 Inv-loop μ-loop
 cell-word-requires-2 c κs = 
-    cell-asked (c .before .before .before .before .before .before .args .starts .now) (c .before .before .before .before .before .before .args .cells .now) (length (c .before .before .before .before .before .before .args .columns .now)) (c .before .loop .i) (c .before .before .before .before .before .before .pre .1) (c .loop-test .taken) (omega arith)
+    let s = c .before .before .before .before .before .before in
+    cell-asked (s .args .starts .now) (s .args .cells .now) (length (s .args .columns .now)) _ (s .pre .1) (c .loop-test .taken) (omega arith)
 
 exchange-requires : tie.Need-exchange-requires Inv-loop μ-loop
 exchange-requires c κs = 
-    let w : c .before .cell-word2 .result < length (c .before .before .before .before .before .before .before .before .args .columns .now) = word-in (c .before .before .before .before .before .before .before .before .args .starts .now) (c .before .before .before .before .before .before .before .before .args .cells .now) (length (c .before .before .before .before .before .before .before .before .args .columns .now)) (c .before .before .before .loop .i) (c .before .before .before .before .before .before .before .before .pre .1) (c .before .before .loop-test .taken) _ (c .before .cell-word2 .ensures) in
-    let l : length (c .before .before .before .loop .columns) ≡ length (c .before .before .before .before .before .before .before .before .args .columns .now) = c .before .before .before .loop .inv .long in
-    subst (λ (n : ℕ). c .before .cell-word2 .result < n) (sym l) w
+    let s = c .before .before .before .before .before .before .before .before in
+    subst (λ (n : ℕ). c .before .cell-word2 .result < n) (sym (c .before .before .before .loop .inv .long))
+    (word-in (s .args .starts .now) (s .args .cells .now) (length (s .args .columns .now)) _ (s .pre .1) (c .before .before .loop-test .taken) _ (c .before .cell-word2 .ensures))
 
 add-i : tie.Need-add-i Inv-loop μ-loop
 add-i c = search needs
@@ -53,7 +57,7 @@ loop-less : tie.Need-loop-less Inv-loop μ-loop
 loop-less c = search needs
 
 loop-again : tie.Need-loop-again Inv-loop μ-loop
-loop-again c = 
+loop-again c =
     walking-next _ _ _ _ _ _ _ _ _ _ (c .before .before .before .before .before .before .loop .inv)
     (c .before .before .before .before .before .loop-test .taken)
     (c .before .before .before .before .cell-word2 .ensures)
@@ -66,7 +70,7 @@ same-length c = search needs
 returns : tie.Need-returns Inv-loop μ-loop
 returns c = 
     let s = c .before .before .before .before .before .before in
-    walking-end (s .args .starts .now) (s .args .cells .now) (s .args .columns .now) (c .before .before .before .cell-word .result) (c .before .loop .columns) (c .before .loop .label) (c .before .loop .i) (s .pre .0) (c .before .before .before .cell-word .ensures) (c .before .loop .inv) (c .loop-test .left)
+    walking-end _ _ _ _ _ _ _ (s .pre .0) (c .before .before .before .cell-word .ensures) (c .before .loop .inv) (c .loop-test .left)
 
 pub walk-cycle-spec : {M : Type 1} → statement M
 walk-cycle-spec =
