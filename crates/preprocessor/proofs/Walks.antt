@@ -116,15 +116,14 @@ module _ (starts cells : List ℕ) where
   pub walking-start : (d : List ℕ) (v : ℕ) → Walking d v d v 0
   walking-start d v = record { low = omega arith; long = refl; left = refl }
 
-  pub walking-next : (d : List ℕ) (v : ℕ) (columns : List ℕ) (label i word held : ℕ) (after : List ℕ) → Walking d v columns label i → i < length cells / 2
-      → word ≡ cellWord starts (cellAt cells i)
-      → held ≡ getD columns word 0
-      → after ≡ set columns word label
+  pub walking-next : (d : List ℕ) (v : ℕ) (columns : List ℕ) (label i held : ℕ) (after : List ℕ) → Walking d v columns label i → i < length cells / 2
+      → held ≡ getD columns (cellWord starts (cellAt cells i)) 0
+      → after ≡ set columns (cellWord starts (cellAt cells i)) label
       → Walking d v after held (i + 1)
-  walking-next d v columns label i word held after w l e h a =
+  walking-next d v columns label i held after w l h a =
       record {
         low = omega arith;
-        long = ap length a ∙ length-set columns word label ∙ w .long;
+        long = ap length a ∙ length-set columns (cellWord starts (cellAt cells i)) label ∙ w .long;
         left =
             ap₂ (λ (s : List ℕ) (u : ℕ). exchanged s u (drop (i + 1) words)) (a ∙ ap (λ (n : ℕ). set columns n label) here) (h ∙ ap (λ (n : ℕ). getD columns n 0) here)
             ∙ ap (λ (n : ℕ). exchanged (set columns (getD words i 0) label) (getD columns (getD words i 0) 0) (drop n words)) (add-one i)
@@ -132,37 +131,41 @@ module _ (starts cells : List ℕ) where
             ∙ w .left;
       }
     where
-      here : word ≡ getD words i 0
-      here = e ∙ sym (words-get i l)
+      here : cellWord starts (cellAt cells i) ≡ getD words i 0
+      here = sym (words-get i l)
 
-  pub walking-end : (d : List ℕ) (last : ℕ) (columns : List ℕ) (label i : ℕ) → 0 < length cells / 2
-      → last ≡ cellWord starts (cellAt cells (length cells / 2 - 1))
-      → Walking d (getD d last 0) columns label i
+  pub walking-end : (d : List ℕ) (v : ℕ) (columns : List ℕ) (label i : ℕ) → 0 < length cells / 2
+      → v ≡ getD d (cellWord starts (cellAt cells (length cells / 2 - 1))) 0
+      → Walking d v columns label i
       → length cells / 2 ≤ i
       → Moved starts (cellsOf cells) d columns
-  walking-end d last columns label i p e w l =
+  walking-end d v columns label i p e w l =
       walked starts (cellsOf cells) d columns (let q = column-length (cellAt cells) (length cells / 2) in omega arith)
       (sym (exchanged-none columns label words i (let q = words-length in omega arith))
       ∙ w .left
-      ∙ ap (λ (n : ℕ). exchanged d (getD d n 0) words)
-      (e ∙ sym (words-get (length cells / 2 - 1) (omega arith))
-      ∙ ap (λ (n : ℕ). getD words (n - 1) 0) (sym (column-length (cellAt cells) (length cells / 2)))))
+      ∙ ap (λ (u : ℕ). exchanged d u words)
+      (e
+      ∙ ap (λ (n : ℕ). getD d n 0)
+      (sym (words-get (length cells / 2 - 1) (omega arith))
+      ∙ ap (λ (n : ℕ). getD words (n - 1) 0) (sym (column-length (cellAt cells) (length cells / 2))))))
 
   -- a cell of the cycle, and its word
-  module _ (n i : ℕ) (a : All (λ (x : Cell). (x .polynomial < 72) × (cellWord starts x < n)) (cellsOf cells)) (l : i < length cells / 2) where
-    cell-fits : (cellAt cells i .polynomial < 72) × (cellWord starts (cellAt cells i) < n)
-    cell-fits =
-        subst (λ (x : Cell). (x .polynomial < 72) × (cellWord starts x < n))
-        (get-column (cellAt cells) (length cells / 2) i (cellAt cells 0) l)
-        (all-get (λ (x : Cell). (x .polynomial < 72) × (cellWord starts x < n)) (cellsOf cells) a i (cellAt cells 0)
-        (let e = column-length (cellAt cells) (length cells / 2) in omega arith))
+  pub cell-fits : (n i : ℕ) → All (λ (x : Cell). (x .polynomial < 72) × (cellWord starts x < n)) (cellsOf cells) → i < length cells / 2
+      → (cellAt cells i .polynomial < 72) × (cellWord starts (cellAt cells i) < n)
+  cell-fits n i a l =
+      subst (λ (x : Cell). (x .polynomial < 72) × (cellWord starts x < n))
+      (get-column (cellAt cells) (length cells / 2) i (cellAt cells 0) l)
+      (all-get (λ (x : Cell). (x .polynomial < 72) × (cellWord starts x < n)) (cellsOf cells) a i (cellAt cells 0)
+      (let e = column-length (cellAt cells) (length cells / 2) in omega arith))
 
-    pub cell-asked : n ≤ 18446744073709551616
-        → (i < length cells / 2) × ((cellAt cells i .polynomial < 72) × (cellWord starts (cellAt cells i) < 18446744073709551616))
-    cell-asked h = let w = cell-fits in (l, (w .0, (let u = w .1 in omega arith)))
-
-    pub word-in : (word : ℕ) → word ≡ cellWord starts (cellAt cells i) → word < n
-    word-in word e = subst (λ (w : ℕ). w < n) (sym e) (cell-fits .1)
+  pub walking-fits : (d : List ℕ) (v : ℕ) (columns : List ℕ) (label i : ℕ) → Walking d v columns label i
+      → All (λ (x : Cell). (x .polynomial < 72) × (cellWord starts x < length d)) (cellsOf cells)
+      → i < length cells / 2
+      → (cellAt cells i .polynomial < 72) × (cellWord starts (cellAt cells i) < length columns)
+  walking-fits d v columns label i w a l =
+      cell-fits (length columns) i
+      (subst (λ (n : ℕ). All (λ (x : Cell). (x .polynomial < 72) × (cellWord starts x < n)) (cellsOf cells)) (sym (w .long)) a)
+      l
 
 -- ---- cycle after cycle
 pub record Turning (rows : ℕ) (ps lengths cells d : List ℕ) (at : ℕ) (columns : List ℕ) (start i : ℕ) : Type 0 where

@@ -1,13 +1,10 @@
 // `permutation_polys`: the columns of labels of the copied columns, in the one column buffer.
 ghost use mathlib.Core.Path.{_≡_};
-ghost use Prim.Native.Nat.{ℕ, _+_, _*_, _/_, _≤_, _<_};
+ghost use Prim.Native.Nat.{ℕ, _+_, _*_, _/_, _^_, _≤_, _<_};
 ghost use lib.ListN.{length, getD, set};
 ghost use Rattle.util.specs.Lists.{All, below, over, split, total};
-ghost use Rattle.backend.specs.Circuit.{Cell, cellAt, cellsOf};
+ghost use Rattle.backend.specs.Circuit.{Cell, cellsOf};
 ghost use Rattle.preprocessor.specs.Permutation.{Once, Starts, Walkable, Moved, cellWord, permutationColumns};
-
-// Eight instance, 32 preprocess and 32 witness columns at most.
-pub const MAX_POLYS: usize = 72;
 
 // The first labels of `count` cells: column idx of the sorted list starts as idx × 2^k + row, so that the words are 0, 1, 2, …
 fn first_labels(columns: &mut [u64], at: usize, count: usize)
@@ -21,9 +18,9 @@ fn first_labels(columns: &mut [u64], at: usize, count: usize)
     }
 }
 
-// Where each copied column begins, by its polynomial.
+// Where each copied column begins, by its polynomial: 8 instance, 32 preprocess and 32 witness columns at most.
 fn column_starts(copied: &[u64], rows: usize, at: usize) -> [u64; 72]
-    requires { ⌜ Once (now copied) × All (λ q. q < 72) (now copied) × (at + length (now copied) * rows < 18446744073709551616) ⌝ }
+    requires { ⌜ Once (now copied) × All (λ q. q < 72) (now copied) × (at + length (now copied) * rows < 2 ^ 64) ⌝ }
     ensures { λ r. ⌜ Starts r (now (copied .entry)) rows at ⌝ }
 {
     let mut starts = [0; 72];
@@ -36,40 +33,44 @@ fn column_starts(copied: &[u64], rows: usize, at: usize) -> [u64; 72]
     starts
 }
 
-// The word `at` takes `label`; the label that it held.
-pub fn exchange(columns: &mut [u64], at: usize, label: u64) -> u64
-    requires { ⌜ at < length (now columns) ⌝ }
-    ensures { λ r. ⌜ (r ≡ getD (now (columns .entry)) at 0) × (now (columns .exit) ≡ set (now (columns .entry)) at label) ⌝ }
+// The label that a cell holds.
+pub fn cell_label(columns: &[u64], starts: &[u64; 72], polynomial: u64, row: u64) -> u64
+    requires { ⌜ (polynomial < 72) × (cellWord (now starts) (record { polynomial = polynomial; row = row }) < length (now columns)) ⌝ }
+    ensures { λ r. ⌜ r ≡ getD (now (columns .entry)) (cellWord (now (starts .entry)) (record { polynomial = polynomial; row = row })) 0 ⌝ }
 {
-    let held = columns[at];
-    columns[at] = label;
-    held
+    let q = polynomial as usize;
+    let word = starts[q] as usize + row as usize;
+    columns[word]
 }
 
-// The word of a cell.
-fn cell_word(starts: &[u64; 72], cells: &[u64], i: usize) -> usize
-    requires { ⌜ i < length (now cells) / 2 ⌝ }
-    requires { ⌜ Cell.polynomial (cellAt (now cells) i) < 72 ⌝ }
-    requires { ⌜ cellWord (now starts) (cellAt (now cells) i) < 18446744073709551616 ⌝ }
-    ensures { λ r. ⌜ r ≡ cellWord (now (starts .entry)) (cellAt (now (cells .entry)) i) ⌝ }
+// A cell takes `label`; the label that it held.
+pub fn exchange(columns: &mut [u64], starts: &[u64; 72], polynomial: u64, row: u64, label: u64) -> u64
+    requires { ⌜ (polynomial < 72) × (cellWord (now starts) (record { polynomial = polynomial; row = row }) < length (now columns)) ⌝ }
+    ensures { λ r. ⌜ r ≡ getD (now (columns .entry)) (cellWord (now (starts .entry)) (record { polynomial = polynomial; row = row })) 0 ⌝ }
+    ensures {
+        λ r. ⌜ now (columns .exit)
+        ≡ set (now (columns .entry)) (cellWord (now (starts .entry)) (record { polynomial = polynomial; row = row })) label ⌝
+    }
 {
-    let q = cells[i * 2] as usize;
-    starts[q] as usize + cells[i * 2 + 1] as usize
+    let q = polynomial as usize;
+    let word = starts[q] as usize + row as usize;
+    let held = columns[word];
+    columns[word] = label;
+    held
 }
 
 // Along a cycle each cell takes the label that the cell before held when the cycle began, the first that of the last.
 pub fn walk_cycle(columns: &mut [u64], starts: &[u64; 72], cells: &[u64])
-    requires { ⌜ (0 < length (now cells) / 2)
-        × All (λ (x : Cell). (x .polynomial < 72) × (cellWord (now starts) x < length (now columns))) (cellsOf (now cells)) ⌝ }
+    requires { ⌜ 0 < length (now cells) / 2 ⌝ }
+    requires { ⌜ All (λ (x : Cell). (x .polynomial < 72) × (cellWord (now starts) x < length (now columns))) (cellsOf (now cells)) ⌝ }
     ensures { λ r. ⌜ Moved (now (starts .entry)) (cellsOf (now (cells .entry))) (now (columns .entry)) (now (columns .exit)) ⌝ }
 {
     let count = cells.len() / 2;
-    let last = cell_word(starts, cells, count - 1);
-    let mut label = columns[last];
+    let last = count - 1;
+    let mut label = cell_label(columns, starts, cells[last * 2], cells[last * 2 + 1]);
     let mut i = 0;
     while i < count {
-        let word = cell_word(starts, cells, i);
-        label = exchange(columns, word, label);
+        label = exchange(columns, starts, cells[i * 2], cells[i * 2 + 1], label);
         i += 1;
     }
 }

@@ -42,12 +42,12 @@ first-labels-requires : tie.Need-first-labels-requires Inv-loop μ-loop
 first-labels-requires c κs = search needs
 
 column-starts-requires : tie.Need-column-starts-requires Inv-loop μ-loop
-column-starts-requires c κs = 
+column-starts-requires c κs =
     let s = c .before .before .before .before .before .before .before .before in
     (s .pre .0 .once, s .pre .0 .few, (let h = s .pre .1 .1 in omega arith))
 
 loop-holds : tie.Need-loop-holds Inv-loop μ-loop
-loop-holds c = 
+loop-holds c =
     let s = c .before .before .before .before .before .before .before .before .before in
     turning-start _ _ _ _ _ (s .pre .0) (s .pre .1 .0) _ _ (s .pre .1 .1) (c .before .before .before .first-labels .ensures)
 
@@ -76,7 +76,7 @@ part-walk-cycle-end : tie.Need-part-walk-cycle-end Inv-loop μ-loop
 part-walk-cycle-end c = fits (c .before .before .before)
 
 walk-cycle-requires : tie.Need-walk-cycle-requires Inv-loop μ-loop
-walk-cycle-requires c κs = 
+walk-cycle-requires c κs =
     let h : tie.At-loop Inv-loop μ-loop = c .before .before .before .before .before in
     turn-asks _ _ _ _ _ (entry h .pre .0) (entry h .pre .1 .0) _ _ _ _ (h .loop .inv) (c .before .before .before .before .loop-test .taken) (h .before .column-starts .result) (h .before .column-starts .ensures) (room h)
 
@@ -87,7 +87,7 @@ loop-less : tie.Need-loop-less Inv-loop μ-loop
 loop-less c = search needs
 
 loop-again : tie.Need-loop-again Inv-loop μ-loop
-loop-again c = 
+loop-again c =
     let h : tie.At-loop Inv-loop μ-loop = c .before .before .before .before .before .before .before .before in
     turn-next _ _ _ _ _ (entry h .pre .0) (entry h .pre .1 .0) _ _ _ _ (h .loop .inv) (c .before .before .before .before .before .before .before .loop-test .taken) (h .before .column-starts .result) (h .before .column-starts .ensures) (room h) _ (c .before .before .walk-cycle .ensures)
 
@@ -95,7 +95,7 @@ same-length : tie.Need-same-length Inv-loop μ-loop
 same-length c = search needs
 
 returns : tie.Need-returns Inv-loop μ-loop
-returns c = 
+returns c =
     let h : tie.At-loop Inv-loop μ-loop = c .before in
     turning-end _ _ _ _ _ (entry h .pre .0) (entry h .pre .1 .0) _ _ (entry h .pre .1 .1) (h .before .before .before .before .first-labels .ensures) _ _ _ (h .loop .inv) (c .loop-test .left)
 

@@ -1,14 +1,13 @@
-use mathlib.Core.Path.{_≡_, sym, subst}
-use Prim.Native.Nat.{ℕ, _+_, _*_, _-_, _/_, _≤_, _<_}
+use Prim.Native.Nat.{_-_, _/_}
 use native.Mathlib.Omega.{arith}
 use borrow.Author.Needs.{needs}
 use lib.ListN.{length}
-use Rattle.preprocessor.proofs.Walks.{Walking, walking-start, walking-next, walking-end, cell-asked, word-in}
+use Rattle.preprocessor.proofs.Walks.{Walking, walking-start, walking-next, walking-end, cell-fits, walking-fits}
 use Rattle.preprocessor.proofs.permutation.walk_cycle.Statement.{statement}
 use Rattle.preprocessor.proofs.permutation.walk_cycle.Tie as tie
 use Rattle.preprocessor.proofs.permutation.walk_cycle.Reads as reads
 use Rattle.preprocessor.proofs.permutation.walk_cycle.Lts as lts
-use Rattle.preprocessor.proofs.permutation.cell_word.Reads as cell-word-reads
+use Rattle.preprocessor.proofs.permutation.cell_label.Reads as cell-label-reads
 use Rattle.preprocessor.proofs.permutation.exchange.Reads as exchange-reads
 
 abbrev Inv-loop : tie.InvT-loop
@@ -17,38 +16,63 @@ Inv-loop columns₀ starts cells count last label₀ i₀ columns label i = Walk
 abbrev μ-loop : tie.MeasureT-loop
 μ-loop columns₀ starts cells count last label₀ i₀ columns label i = count - i
 
-sub-cell-word : tie.Need-sub-cell-word Inv-loop μ-loop
-sub-cell-word c = search needs
+sub-last : tie.Need-sub-last Inv-loop μ-loop
+sub-last c = search needs
 
-cell-word-requires : tie.Need-cell-word-requires Inv-loop μ-loop
-cell-word-requires c κs = 
-    let s = c .before .before in
-    cell-asked (s .args .starts .now) (s .args .cells .now) (length (s .args .columns .now)) (length (s .args .cells .now) / 2 - 1) (s .pre .1) (let p = s .pre .0 in omega arith) (omega arith)
+mul-cell-label : tie.Need-mul-cell-label Inv-loop μ-loop
+mul-cell-label c = search needs
 
-mul-label : tie.Need-mul-label Inv-loop μ-loop
-mul-label c = 
-    let s = c .before .before .before in
-    let w : c .cell-word .result < length (s .args .columns .now) = word-in (s .args .starts .now) (s .args .cells .now) (length (s .args .columns .now)) (length (s .args .cells .now) / 2 - 1) (s .pre .1) (let p = s .pre .0 in omega arith) _ (c .cell-word .ensures) in
-    record { fits = omega arith }
+mul-cell-label-2 : tie.Need-mul-cell-label-2 Inv-loop μ-loop
+mul-cell-label-2 c = search needs
 
-slice-read-label : tie.Need-slice-read-label Inv-loop μ-loop
-slice-read-label c = 
-    let s = c .before .before .before .before in
-    word-in (s .args .starts .now) (s .args .cells .now) (length (s .args .columns .now)) (length (s .args .cells .now) / 2 - 1) (s .pre .1) (let p = s .pre .0 in omega arith) _ (c .before .cell-word .ensures)
+shared-slice-read-cell-label : tie.Need-shared-slice-read-cell-label Inv-loop μ-loop
+shared-slice-read-cell-label c = search needs
+
+mul-cell-label-3 : tie.Need-mul-cell-label-3 Inv-loop μ-loop
+mul-cell-label-3 c = search needs
+
+add-cell-label : tie.Need-add-cell-label Inv-loop μ-loop
+add-cell-label c = search needs
+
+mul-cell-label-4 : tie.Need-mul-cell-label-4 Inv-loop μ-loop
+mul-cell-label-4 c = search needs
+
+shared-slice-read-cell-label-2 : tie.Need-shared-slice-read-cell-label-2 Inv-loop μ-loop
+shared-slice-read-cell-label-2 c = search needs
+
+cell-label-requires : tie.Need-cell-label-requires Inv-loop μ-loop
+cell-label-requires c κs =
+    let s = c .before .before .before .before .before in
+    cell-fits (s .args .starts .now) (s .args .cells .now) (length (s .args .columns .now)) (length (s .args .cells .now) / 2 - 1) (s .pre .1)
+    (let p = s .pre .0 in omega arith)
 
 loop-holds : tie.Need-loop-holds Inv-loop μ-loop
 loop-holds c = walking-start _ _ _ _
 
-cell-word-requires-2 : tie.Need-cell-word-requires-2 Inv-loop μ-loop
-cell-word-requires-2 c κs = 
-    let s = c .before .before .before .before .before .before in
-    cell-asked (s .args .starts .now) (s .args .cells .now) (length (s .args .columns .now)) _ (s .pre .1) (c .loop-test .taken) (omega arith)
+mul-exchange : tie.Need-mul-exchange Inv-loop μ-loop
+mul-exchange c = search needs
+
+mul-exchange-2 : tie.Need-mul-exchange-2 Inv-loop μ-loop
+mul-exchange-2 c = search needs
+
+shared-slice-read-exchange : tie.Need-shared-slice-read-exchange Inv-loop μ-loop
+shared-slice-read-exchange c = search needs
+
+mul-exchange-3 : tie.Need-mul-exchange-3 Inv-loop μ-loop
+mul-exchange-3 c = search needs
+
+add-exchange : tie.Need-add-exchange Inv-loop μ-loop
+add-exchange c = search needs
+
+mul-exchange-4 : tie.Need-mul-exchange-4 Inv-loop μ-loop
+mul-exchange-4 c = search needs
+
+shared-slice-read-exchange-2 : tie.Need-shared-slice-read-exchange-2 Inv-loop μ-loop
+shared-slice-read-exchange-2 c = search needs
 
 exchange-requires : tie.Need-exchange-requires Inv-loop μ-loop
-exchange-requires c κs = 
-    let s = c .before .before .before .before .before .before .before .before in
-    subst (λ (n : ℕ). c .before .cell-word2 .result < n) (sym (c .before .before .before .loop .inv .long))
-    (word-in (s .args .starts .now) (s .args .cells .now) (length (s .args .columns .now)) _ (s .pre .1) (c .before .before .loop-test .taken) _ (c .before .cell-word2 .ensures))
+exchange-requires c κs =
+    walking-fits _ _ _ _ _ _ _ (c .before .before .before .before .loop .inv) (c .before .before .before .before .before .before .before .before .before .before .before .pre .1) (c .before .before .before .loop-test .taken)
 
 add-i : tie.Need-add-i Inv-loop μ-loop
 add-i c = search needs
@@ -58,19 +82,15 @@ loop-less c = search needs
 
 loop-again : tie.Need-loop-again Inv-loop μ-loop
 loop-again c =
-    walking-next _ _ _ _ _ _ _ _ _ _ (c .before .before .before .before .before .before .loop .inv)
-    (c .before .before .before .before .before .loop-test .taken)
-    (c .before .before .before .before .cell-word2 .ensures)
-    (c .before .before .exchange .ensures .0)
+    walking-next _ _ _ _ _ _ _ _ _ (c .before .before .before .before .before .before .before .loop .inv) (c .before .before .before .before .before .before .loop-test .taken) (c .before .before .exchange .ensures .0)
     (c .before .before .exchange .ensures .1)
 
 same-length : tie.Need-same-length Inv-loop μ-loop
 same-length c = search needs
 
 returns : tie.Need-returns Inv-loop μ-loop
-returns c = 
-    let s = c .before .before .before .before .before .before in
-    walking-end _ _ _ _ _ _ _ (s .pre .0) (c .before .before .before .cell-word .ensures) (c .before .loop .inv) (c .loop-test .left)
+returns c =
+    walking-end _ _ _ _ _ _ _ (c .before .before .before .before .before .before .before .before .pre .0) (c .before .before .cell-label .ensures) (c .before .loop .inv) (c .loop-test .left)
 
 pub walk-cycle-spec : {M : Type 1} → statement M
 walk-cycle-spec =
@@ -78,12 +98,23 @@ walk-cycle-spec =
     (tie.spec
     Inv-loop
     μ-loop
-    sub-cell-word
-    cell-word-requires
-    mul-label
-    slice-read-label
+    sub-last
+    mul-cell-label
+    mul-cell-label-2
+    shared-slice-read-cell-label
+    mul-cell-label-3
+    add-cell-label
+    mul-cell-label-4
+    shared-slice-read-cell-label-2
+    cell-label-requires
     loop-holds
-    cell-word-requires-2
+    mul-exchange
+    mul-exchange-2
+    shared-slice-read-exchange
+    mul-exchange-3
+    add-exchange
+    mul-exchange-4
+    shared-slice-read-exchange-2
     exchange-requires
     add-i
     loop-less
