@@ -8,14 +8,14 @@ use native.Mathlib.Omega.{arith}
 use lib.ListN.{length, getD}
 use lib.Dec.{eqb, ltb, leb}
 use borrow.Author.Tests.{eq-eqb, eqb-true, ltb-true, leb-true}
-use Rattle.util.specs.Lists.{column, below, allOf, anyOf, those, countOf, concat, indexOf, within, All}
+use Rattle.util.specs.Lists.{column, below, allOf, anyOf, those, countOf, concat, within, All}
 use Rattle.util.proofs.Tests.{and-left, and-right, all-true, any-at, any-concat}
 use Rattle.util.proofs.All.{all-get, all-from, all-those, all-column, all-weaken}
 use Rattle.util.proofs.Places.{Among, among-below, among-those}
 use Rattle.util.proofs.Rising.{rising-below, rising-those, rising-index}
 use Rattle.backend.specs.Circuit.{Circuit, Cell, cellAt, cellsOf, sameCell, rowsOf, numPoly, copied, numCopied}
 use Rattle.backend.specs.Questions.{q11}
-use Rattle.preprocessor.specs.Permutation.{firstLabel, label, labelColumns, permutationColumns, Placed, Once, Apart, Walkable}
+use Rattle.preprocessor.specs.Permutation.{label, labelColumns, permutationColumns, Placed, Apart, Walkable}
 use Rattle.preprocessor.proofs.Labels as Labels
 
 module _ (polys rows : ℕ) (cycles : List (List Cell)) where

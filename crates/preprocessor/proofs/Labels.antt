@@ -1,8 +1,8 @@
 -- The words of the columns: the word of a cell, one cell's label changed, the first labels, labels exchanged along places, and how large
 -- a label is. Assumes nothing.
 use mathlib.Core.Path.{_≡_, refl, sym, ap, ap₂, _∙_}
-use mathlib.Core.Bool.{Bool, true, false, cond, _&&_}
-use mathlib.Core.List.{List, [], _∷_, _++_, map}
+use mathlib.Core.Bool.{Bool, cond, _&&_}
+use mathlib.Core.List.{List, [], _∷_, map}
 use Prim.Native.Nat.{ℕ, zero, suc, _+_, _-_, _*_, _/_, _%_, _≤_, _<_}
 use native.Mathlib.Nat.{not-suc-le-zero, suc-mul, mul-zero, mul-le-mul-right, div-add-mod', div-lt-iff-lt-mul}
 use native.Mathlib.Decide.{ℕ-discrete}
@@ -10,29 +10,15 @@ use native.Mathlib.Omega.{arith}
 use lib.ListN.{length, getD, drop, set, drop-of-length-le}
 use lib.Seq.{drop-cons}
 use lib.Dec.{eqb}
-use borrow.Author.Tests.{eq-eqb, ne-eqb, eqb-true}
+use borrow.Author.Tests.{eq-eqb, ne-eqb}
 use Rattle.util.specs.Lists.{column, below, concat, indexOf, over, All}
-use Rattle.util.proofs.Tests.{and-left, and-right, by-test}
+use Rattle.util.proofs.Tests.{by-test}
 use Rattle.util.proofs.Columns.{column-cong, columns-length, get-columns, set-column}
 use Rattle.util.proofs.Over.{over-inside, length-over}
 use Rattle.util.proofs.Parts.{div-row, mod-row, over-set, columns-flat}
 use Rattle.util.proofs.Places.{get-index}
 use Rattle.backend.specs.Circuit.{Cell, sameCell}
-use Rattle.preprocessor.specs.Permutation.{
-  lastCell,
-  before,
-  source,
-  firstLabelIn,
-  cellIn,
-  labelIn,
-  labelColumns,
-  Placed,
-  Once,
-  Apart,
-  Starts,
-  cellWord,
-  Moved,
-}
+use Rattle.preprocessor.specs.Permutation.{lastCell, before, source, firstLabelIn, cellIn, labelIn, labelColumns, Placed, Once, cellWord, Moved}
 use Rattle.preprocessor.proofs.Cycles.{last-all, source-all, same-cell, apart-distinct, taken, passed, passed-cycle}
 
 -- ---- labels exchanged: the first place takes v, each after it what the place before it held

@@ -1,6 +1,6 @@
 // `permutation_polys`: the columns of labels of the copied columns, in the one column buffer.
 ghost use mathlib.Core.Path.{_≡_};
-ghost use Prim.Native.Nat.{ℕ, _+_, _*_, _/_, _^_, _≤_, _<_};
+ghost use Prim.Native.Nat.{_+_, _*_, _/_, _^_, _≤_, _<_};
 ghost use lib.ListN.{length, getD, set};
 ghost use Rattle.util.specs.Lists.{All, below, over, split, total};
 ghost use Rattle.backend.specs.Circuit.{Cell, cellsOf};
@@ -44,13 +44,17 @@ pub fn cell_label(columns: &[u64], starts: &[u64; 72], polynomial: u64, row: u64
 }
 
 // A cell takes `label`; the label that it held.
-pub fn exchange(columns: &mut [u64], starts: &[u64; 72], polynomial: u64, row: u64, label: u64) -> u64
+pub fn exchange(
+    columns: &mut [u64],
+    starts: &[u64; 72],
+    polynomial: u64,
+    row: u64,
+    label: u64,
+) -> u64
     requires { ⌜ (polynomial < 72) × (cellWord (now starts) (record { polynomial = polynomial; row = row }) < length (now columns)) ⌝ }
     ensures { λ r. ⌜ r ≡ getD (now (columns .entry)) (cellWord (now (starts .entry)) (record { polynomial = polynomial; row = row })) 0 ⌝ }
-    ensures {
-        λ r. ⌜ now (columns .exit)
-        ≡ set (now (columns .entry)) (cellWord (now (starts .entry)) (record { polynomial = polynomial; row = row })) label ⌝
-    }
+    ensures { λ r. ⌜ now (columns .exit)
+        ≡ set (now (columns .entry)) (cellWord (now (starts .entry)) (record { polynomial = polynomial; row = row })) label ⌝ }
 {
     let q = polynomial as usize;
     let word = starts[q] as usize + row as usize;

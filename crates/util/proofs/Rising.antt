@@ -1,5 +1,5 @@
 -- Lists by rising number: each number stands once. Assumes nothing.
-use mathlib.Core.Path.{_≡_, refl, sym, ap, _∙_}
+use mathlib.Core.Path.{_≡_, refl, ap, _∙_}
 use mathlib.Core.Bool.{Bool, true, false, cond}
 use mathlib.Core.List.{List, [], _∷_, _++_}
 use Prim.Native.Nat.{ℕ, zero, suc, _<_}
@@ -7,7 +7,7 @@ use native.Mathlib.Nat.{not-suc-le-zero}
 use native.Mathlib.Omega.{arith}
 use lib.ListN.{length, getD}
 use Rattle.util.specs.Lists.{column, below, those, indexOf, All}
-use Rattle.util.proofs.All.{all-get, all-join, all-left, all-those, all-column, all-weaken}
+use Rattle.util.proofs.All.{all-get, all-join, all-those, all-column}
 use Rattle.util.proofs.Places.{index-here, index-cons}
 
 -- each is less than those after it

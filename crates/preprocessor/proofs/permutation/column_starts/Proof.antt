@@ -1,5 +1,6 @@
+-- The columns passed have their first words. Assumes nothing.
 use mathlib.Core.Path.{refl}
-use Prim.Native.Nat.{_+_, _*_, _-_, _^_, _≤_, _<_}
+use Prim.Native.Nat.{_-_, _^_, _<_}
 use native.Mathlib.Omega.{arith}
 use borrow.Author.Needs.{needs}
 use lib.ListN.{length, getD}
@@ -7,8 +8,6 @@ use Rattle.util.proofs.All.{all-get}
 use Rattle.preprocessor.proofs.Walks.{Begun, begun-start, begun-next, begun-end, begins}
 use Rattle.preprocessor.proofs.permutation.column_starts.Statement.{statement}
 use Rattle.preprocessor.proofs.permutation.column_starts.Tie as tie
-use Rattle.preprocessor.proofs.permutation.column_starts.Reads as reads
-use Rattle.preprocessor.proofs.permutation.column_starts.Lts as lts
 
 abbrev Inv-loop : tie.InvT-loop
 Inv-loop copied rows at starts₀ i₀ starts i = Begun copied rows at starts i

@@ -1,12 +1,9 @@
-use Prim.Native.Nat.{_+_, _*_, _-_, _≤_, _<_}
-use native.Mathlib.Omega.{arith}
+-- The first j words are 0, 1, …, j - 1. Assumes nothing.
+use Prim.Native.Nat.{_-_}
 use borrow.Author.Needs.{needs}
-use lib.ListN.{length}
 use Rattle.preprocessor.proofs.Walks.{First, first-start, first-next, first-end}
 use Rattle.preprocessor.proofs.permutation.first_labels.Statement.{statement}
 use Rattle.preprocessor.proofs.permutation.first_labels.Tie as tie
-use Rattle.preprocessor.proofs.permutation.first_labels.Reads as reads
-use Rattle.preprocessor.proofs.permutation.first_labels.Lts as lts
 
 abbrev Inv-loop : tie.InvT-loop
 Inv-loop columns₀ at count j₀ columns j = First columns₀ at count columns j

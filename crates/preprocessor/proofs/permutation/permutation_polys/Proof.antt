@@ -1,17 +1,12 @@
-use mathlib.Core.Path.{_≡_, sym, subst}
+-- After i cycles the columns hold the labels of the first i cycles. Assumes nothing.
 use mathlib.Core.List.{List}
-use Prim.Native.Nat.{ℕ, _+_, _*_, _-_, _/_, _≤_, _<_}
+use Prim.Native.Nat.{ℕ, _+_, _*_, _-_, _≤_}
 use native.Mathlib.Omega.{arith}
 use borrow.Author.Needs.{needs}
 use lib.ListN.{length, getD}
 use Rattle.preprocessor.proofs.Walks.{Turning, first-room, turning-start, turning-end, turn-fits, turn-asks, turn-next}
 use Rattle.preprocessor.proofs.permutation.permutation_polys.Statement.{statement}
 use Rattle.preprocessor.proofs.permutation.permutation_polys.Tie as tie
-use Rattle.preprocessor.proofs.permutation.permutation_polys.Reads as reads
-use Rattle.preprocessor.proofs.permutation.permutation_polys.Lts as lts
-use Rattle.preprocessor.proofs.permutation.column_starts.Reads as column-starts-reads
-use Rattle.preprocessor.proofs.permutation.first_labels.Reads as first-labels-reads
-use Rattle.preprocessor.proofs.permutation.walk_cycle.Reads as walk-cycle-reads
 
 abbrev Inv-loop : tie.InvT-loop
 Inv-loop rows copied lengths cells columns₀ at starts start₀ i₀ columns start i = Turning rows copied lengths cells columns₀ at columns start i

@@ -1,3 +1,4 @@
+-- The places left to walk, with the label at hand, give what all of them gave at first. Assumes nothing.
 use Prim.Native.Nat.{_-_, _/_}
 use native.Mathlib.Omega.{arith}
 use borrow.Author.Needs.{needs}
@@ -5,10 +6,6 @@ use lib.ListN.{length}
 use Rattle.preprocessor.proofs.Walks.{Walking, walking-start, walking-next, walking-end, cell-fits, walking-fits}
 use Rattle.preprocessor.proofs.permutation.walk_cycle.Statement.{statement}
 use Rattle.preprocessor.proofs.permutation.walk_cycle.Tie as tie
-use Rattle.preprocessor.proofs.permutation.walk_cycle.Reads as reads
-use Rattle.preprocessor.proofs.permutation.walk_cycle.Lts as lts
-use Rattle.preprocessor.proofs.permutation.cell_label.Reads as cell-label-reads
-use Rattle.preprocessor.proofs.permutation.exchange.Reads as exchange-reads
 
 abbrev Inv-loop : tie.InvT-loop
 Inv-loop columns₀ starts cells count last label₀ i₀ columns label i = Walking starts cells columns₀ label₀ columns label i
