@@ -15,7 +15,7 @@ use Rattle.util.proofs.Places.{Among, among-below, among-those}
 use Rattle.util.proofs.Rising.{rising-below, rising-those, rising-index}
 use Rattle.backend.specs.Circuit.{Circuit, Cell, cellAt, cellsOf, sameCell, rowsOf, numPoly, copied, numCopied}
 use Rattle.backend.specs.Questions.{q11}
-use Rattle.preprocessor.specs.Permutation.{label, labelColumns, permutationColumns, Placed, Apart, Walkable}
+use Rattle.preprocessor.specs.Permutation.{firstLabel, label, labelColumns, permutationColumns, Placed, Apart, Walkable}
 use Rattle.preprocessor.proofs.Labels as Labels
 
 module _ (polys rows : ℕ) (cycles : List (List Cell)) where
@@ -103,13 +103,13 @@ module _ (c : Circuit) (yes-11 : q11 c ≡ true) (few : numPoly c ≤ 72) where
 
   -- so that a label, taken as an element, is itself
   pub label-lt : (i b : ℕ) → i < numCopied c → b < rowsOf c → label c i b < numCopied c * rowsOf c
-  unfolding label
+  unfolding label firstLabel
   label-lt i b l m = Labels.label-lt (copied c) (rowsOf c) (walkable .once) (c .cycles) (walkable .placed) i b l m
 
 -- the words are the labels of the columns
 pub label-columns : (c : Circuit)
     → permutationColumns (copied c) (rowsOf c) (c .cycles) ≡ concat (column (λ i. column (label c i) (rowsOf c)) (numCopied c))
-unfolding labelColumns label
+unfolding labelColumns label firstLabel
 label-columns c = refl
 
 -- the cells of a body, by their number
