@@ -13,8 +13,8 @@ use Rattle.util.proofs.Tests.{and-left, and-right, all-true, any-at, any-concat
 use Rattle.util.proofs.All.{all-get, all-from, all-those, all-column, all-weaken}
 use Rattle.util.proofs.Places.{Among, among-below, among-those}
 use Rattle.util.proofs.Rising.{rising-below, rising-those, rising-index}
-use Rattle.backend.specs.Circuit.{Circuit, Cell, cellAt, cellsOf, sameCell, rowsOf, numPoly, copied, numCopied}
-use Rattle.backend.specs.Questions.{q11}
+use Rattle.backend.specs.Circuit.{Circuit, Cell, cellAt, cellsOf, sameCell, rowsOf, numPoly, copied, copiedIn, numCopied}
+use Rattle.backend.specs.Questions.{q11, cyclesGood}
 use Rattle.preprocessor.specs.Permutation.{firstLabel, label, labelColumns, permutationColumns, Placed, Apart, Walkable}
 use Rattle.preprocessor.proofs.Labels as Labels
 
@@ -98,7 +98,7 @@ module _ (polys rows : ℕ) (cycles : List (List Cell)) where
 
 module _ (c : Circuit) (yes-11 : q11 c ≡ true) (few : numPoly c ≤ 72) where
   pub walkable : Walkable (copied c) (rowsOf c) (c .cycles)
-  unfolding q11 copied
+  unfolding q11 cyclesGood copiedIn copied
   walkable = good-walkable (numPoly c) (rowsOf c) (c .cycles) yes-11 few
 
   -- so that a label, taken as an element, is itself
