@@ -18,7 +18,7 @@ use Rattle.bh.proofs.Place.{row-place, place-row}
 use Rattle.util.specs.Lists.{column, over, split, total}
 use Rattle.util.proofs.Columns.{column-cong, column-replicate}
 use Rattle.util.proofs.Lists.{get-none, get-map, split-length}
-use Rattle.util.proofs.Totals.{total-append}
+use Rattle.util.proofs.Splits.{split-more}
 use Rattle.util.proofs.Sets.{over-column-set}
 use Rattle.prover.specs.Columns.{instanceAt}
 use Rattle.prover.specs.Words.{wordsOf}
@@ -106,30 +106,15 @@ module _ (xs : List ℕ) (from count : ℕ) (fit : from + count ≤ length xs) w
 
 -- ---- one column after another
 
-pub split-end : (ns : List ℕ) (n : ℕ) (xs : List ℕ) → split (ns ++ (n ∷ [])) xs ≡ split ns xs ++ (take n (drop (total ns) xs) ∷ [])
-unfolding split total
-split-end [] n xs = refl
-split-end (m ∷ ns) n xs =
-    ap (λ (l : List (List ℕ)). take m xs ∷ l)
-    (split-end ns n (drop m xs) ∙ ap (λ (ys : List ℕ). split ns (drop m xs) ++ (take n ys ∷ [])) (drop-drop (total ns) m xs))
-
 -- the columns of the first i lengths
 abbrev pub polys : ℕ → List ℕ → List ℕ → List (ℕ → 𝔾 .F)
 polys k ns xs = map (λ vs b. instanceAt 𝔾 k (map el vs) b) (split ns xs)
 
 module _ (k : ℕ) (ns xs : List ℕ) (i : ℕ) (lt : i < length ns) where
-  next-length : take (i + 1) ns ≡ take i ns ++ (getD ns i 0 ∷ [])
-  next-length = ap (λ (n : ℕ). take n ns) (add-one i) ∙ take-suc ns i 0 lt
-
-  pub total-more : total (take i ns) + getD ns i 0 ≡ total (take (i + 1) ns)
-  unfolding total
-  total-more = sym (ap total next-length ∙ total-append (take i ns) (getD ns i 0 ∷ []) ∙ omega arith)
-
   polys-more : polys k (take (i + 1) ns) xs
       ≡ polys k (take i ns) xs ++ ((λ b. instanceAt 𝔾 k (map el (take (getD ns i 0) (drop (total (take i ns)) xs))) b) ∷ [])
   polys-more =
-      ap (λ (l : List ℕ). polys k l xs) next-length
-      ∙ ap (map (λ vs b. instanceAt 𝔾 k (map el vs) b)) (split-end (take i ns) (getD ns i 0) xs)
+      ap (map (λ vs b. instanceAt 𝔾 k (map el vs) b)) (split-more ns i lt xs)
       ∙ map-append (λ vs b. instanceAt 𝔾 k (map el vs) b) (split (take i ns) xs) (take (getD ns i 0) (drop (total (take i ns)) xs) ∷ [])
 
   polys-length : length (polys k (take i ns) xs) ≡ i
@@ -152,13 +137,7 @@ pub instance-start : (k : ℕ) (xs d : List ℕ) → d ≡ over d 0 (wordsOf (2 
 unfolding split
 instance-start k xs d = sym (ap (over d 0) (words-none (2 ^ k)) ∙ Rattle.util.proofs.Over.over-none d 0)
 
-total-front : (n : ℕ) (ns : List ℕ) → total (take n ns) ≤ total ns
-total-front n ns = let e = ap total (sym (take-append-drop n ns)) ∙ total-append (take n ns) (drop n ns) in omega arith
-
--- the values of column i are there, and its words
-pub values-there : (ns : List ℕ) (i from len : ℕ) → i < length ns → from ≡ total (take i ns) → total ns ≡ len → from + getD ns i 0 ≤ len
-values-there ns i from len l e h = omega (arith, total-more 0 ns [] i l, total-front (i + 1) ns)
-
+-- the words of column i are there
 pub words-there : (i n r at len : ℕ) → i < n → at ≡ i * r → n * r ≤ len → at + r ≤ len
 words-there i n r at len l e h =
     let m : suc i * r ≤ n * r = mul-le-mul {m₁ = r} {m₂ = r} l (omega arith) in

@@ -13,3 +13,4 @@ pub mod Sets
 pub mod Fill
 pub mod Rising
 pub mod Parts
+pub mod Splits

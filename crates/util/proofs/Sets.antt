@@ -6,10 +6,10 @@ use Prim.Native.Nat.{ℕ, zero, suc, _+_, _≤_, _<_}
 use native.Mathlib.Nat.{zero-add, suc-add}
 use native.Mathlib.Decide.{ℕ-discrete}
 use native.Mathlib.Omega.{arith}
-use lib.ListN.{length, getD, take, drop, set, length-set}
-use lib.Seq.{set-append-left, length-take-le, getD-set-same, getD-set-other, ext-getD}
+use lib.ListN.{length, getD, take, drop, set, length-set, length-drop, take-append-drop}
+use lib.Seq.{set-append-left, length-take-le, getD-set-same, getD-set-other, getD-drop, drop-drop, ext-getD}
 use Rattle.util.specs.Lists.{column, over}
-use Rattle.util.proofs.Columns.{column-length, get-column}
+use Rattle.util.proofs.Columns.{column-length, get-column, column-cong, column-take}
 
 module _ {A : Type 0} where
   pub set-append-add : (xs ys : List A) (n : ℕ) (v : A) → set (xs ++ ys) (length xs + n) v ≡ xs ++ set ys n v
@@ -48,3 +48,16 @@ pub over-column-set : (d : List ℕ) (at : ℕ) (f g : ℕ → ℕ) (n a : ℕ) 
 over-column-set d at f g n a h l e =
     over-set d at (column f n) a (g a) h (let q = column-length f n in omega arith)
     ∙ ap (over d at) (set-column-to f g n a l e)
+
+-- words written where they stand
+pub over-self : (d : List ℕ) (at n : ℕ) → at + n ≤ length d → over d at (column (λ i. getD d (at + i) 0) n) ≡ d
+unfolding over
+over-self d at n h =
+    let part : column (λ i. getD d (at + i) 0) n ≡ take n (drop at d) =
+    column-cong (λ i. getD d (at + i) 0) (λ i. getD (drop at d) i 0) n (λ i _. sym (getD-drop at d i 0))
+    ∙ column-take (drop at d) 0 n (let q = length-drop at d in omega arith) in
+    let rest : drop (at + length (column (λ i. getD d (at + i) 0) n)) d ≡ drop n (drop at d) =
+    ap (λ (m : ℕ). drop (at + m) d) (column-length (λ i. getD d (at + i) 0) n) ∙ sym (drop-drop n at d) in
+    ap₂ (λ (x y : List ℕ). take at d ++ (x ++ y)) part rest
+    ∙ ap (λ (x : List ℕ). take at d ++ x) (take-append-drop n (drop at d))
+    ∙ take-append-drop at d

@@ -10,7 +10,8 @@ use lib.ListN.{length, getD, take}
 use lib.Seq.{take-all}
 use Rattle.util.specs.Lists.{over, total}
 use Rattle.prover.specs.Words.{wordsOf}
-use Rattle.prover.proofs.Instance.{polys, instance-start, instance-more, total-more, values-there, words-there}
+use Rattle.prover.proofs.Instance.{polys, instance-start, instance-more, words-there}
+use Rattle.util.proofs.Splits.{total-more, part-there}
 use Rattle.prover.proofs.instance_polys.Statement.{statement}
 use Rattle.prover.proofs.instance_polys.Tie as tie
 use Rattle.prover.proofs.instance_polys.Reads as reads
@@ -56,13 +57,13 @@ instance-column-requires c κs =
       s .pre .0,
       s .pre .1,
       s .pre .2 (l .i) (c .before .before .loop-test .taken),
-      values-there (c .before .before .before .before .before .before .before .before .args .lengths .now) (c .before .before .before .loop .i) (c .before .before .before .loop .from) _ (c .before .before .loop-test .taken) (c .before .before .before .loop .inv .1) (c .before .before .before .before .before .before .before .before .pre .3),
+      part-there (c .before .before .before .before .before .before .before .before .args .lengths .now) (c .before .before .before .loop .i) (c .before .before .loop-test .taken) (c .before .before .before .loop .from) (length (c .before .before .before .before .before .before .before .before .args .instance .now)) (c .before .before .before .loop .inv .1) (omega (arith, c .before .before .before .before .before .before .before .before .pre .3)),
       rw (l .inv .3) (words-there (c .before .before .before .loop .i) _ _ (c .before .before .before .loop .at) _ (c .before .before .loop-test .taken) (c .before .before .before .loop .inv .2) (c .before .before .before .before .before .before .before .before .pre .4)),
     )
 
 -- src/lib.rt:65:9
 add-from : tie.Need-add-from Inv-loop μ-loop
-add-from c = omega (arith, values-there (c .before .before .before .before .before .before .before .before .before .before .before .args .lengths .now) (c .before .before .before .before .before .before .loop .i) (c .before .before .before .before .before .before .loop .from) _ (c .before .before .before .before .before .loop-test .taken) (c .before .before .before .before .before .before .loop .inv .1) (c .before .before .before .before .before .before .before .before .before .before .before .pre .3), c .before .before .before .before .before .before .before .rows-of .ensures, c .before .before .before .before .before .before .before .before .before .before .before .good)
+add-from c = omega (arith, part-there (c .before .before .before .before .before .before .before .before .before .before .before .args .lengths .now) (c .before .before .before .before .before .before .loop .i) (c .before .before .before .before .before .loop-test .taken) (c .before .before .before .before .before .before .loop .from) (length (c .before .before .before .before .before .before .before .before .before .before .before .args .instance .now)) (c .before .before .before .before .before .before .loop .inv .1) (omega (arith, c .before .before .before .before .before .before .before .before .before .before .before .pre .3)), c .before .before .before .before .before .before .before .rows-of .ensures, c .before .before .before .before .before .before .before .before .before .before .before .good)
 
 -- src/lib.rt:66:9
 add-at : tie.Need-add-at Inv-loop μ-loop
@@ -84,7 +85,7 @@ loop-again c =
     let l = c .before .before .before .before .before .before .loop in
     let lt = c .before .before .before .before .before .loop-test .taken in (
       omega arith,
-      ap (λ (x : ℕ). x + getD (a .lengths .now) (l .i) 0) (l .inv .1) ∙ total-more (a .k) (a .lengths .now) (a .instance .now) (l .i) lt,
+      ap (λ (x : ℕ). x + getD (a .lengths .now) (l .i) 0) (l .inv .1) ∙ total-more (a .lengths .now) (l .i) lt,
       ap₂ _+_ (l .inv .2) (c .before .before .before .before .before .before .before .rows-of .ensures) ∙ sym (suc-mul (l .i) (2 ^ a .k)) ∙ ap (λ (x : ℕ). x * 2 ^ a .k) (sym (add-one (l .i))),
       c .before .before .instance-column .kept .1 .1 .1 .1 .0 ∙ l .inv .3,
       instance-more (a .k) (a .lengths .now) (a .instance .now) (l .i) lt (a .columns .now) (l .columns) _ (l .from) (l .at) (l .inv .1) (l .inv .2)
