@@ -10,6 +10,7 @@ pub mod Once
 pub mod Searches
 pub mod Walks
 pub mod Sets
+pub mod Turns
 pub mod Fill
 pub mod Rising
 pub mod Parts

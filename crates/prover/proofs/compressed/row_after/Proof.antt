@@ -1,0 +1,27 @@
+-- `row_after` meets its contract. Assumes nothing.
+use mathlib.Core.Path.{_≡_, sym, ap, _∙_}
+use Prim.Native.Nat.{ℕ, _^_, _<_}
+use native.Mathlib.Omega.{arith}
+use Rattle.bh.specs.Rows.{rowAt, nextRow}
+use Rattle.bh.proofs.Order.{row-lt}
+use Rattle.prover.proofs.Rows.{row-first, row-on, one-row}
+use Rattle.prover.proofs.compressed.row_after.Statement.{statement}
+use Rattle.prover.proofs.compressed.row_after.Tie as tie
+
+returns : tie.Need-returns
+returns c = (row-first (c .before .args .k) (c .before .args .place) (c .if1 .taken), one-row (c .before .args .k) (c .before .pre .0))
+
+next-requires : tie.Need-next-requires
+next-requires c κs = (omega (arith, c .before .pre .1), rw (c .before .pre .2) (row-lt (c .before .args .k) (c .before .pre .0) (c .before .pre .1) (c .before .args .place)))
+
+returns-2 : tie.Need-returns-2
+returns-2 c = 
+    (c .next .ensures .0 ∙ ap (nextRow (c .before .before .args .k)) (c .before .before .pre .2) ∙ row-on (c .before .before .args .k) (c .before .before .args .place) (omega (arith, c .before .if1 .left)), c .next .ensures .1)
+
+pub row-after-spec : {M : Type 1} → statement M
+row-after-spec =
+    tie.close
+    (tie.spec
+    returns
+    next-requires
+    returns-2)
