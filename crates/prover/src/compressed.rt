@@ -44,7 +44,16 @@ fn value_of_root(
 {
     let n = index(root);
     if n < nodes.len() / 4 {
-        return value(nodes, circuit, witness, columns, challenges, layout, point, n);
+        return value(
+            nodes,
+            circuit,
+            witness,
+            columns,
+            challenges,
+            layout,
+            point,
+            n,
+        );
     }
     0
 }

@@ -21,22 +21,34 @@ loop-holds : tie.Need-loop-holds Inv-loop μ-loop
 loop-holds c = (omega arith, sum-start _ _)
 
 add-root : tie.Need-add-root Inv-loop μ-loop
-add-root c = omega (arith, c .before .before .before .before .before .before .before .before .before .before .pre .2, c .before .before .before .before .before .before .before .before .before .before .pre .3, c .before .if1 .taken, c .before .before .before .before .before .before .before .before .before .before .good, c .before .before .before .loop .inv .0)
+add-root c =
+    let pre = c .before .before .before .before .before .before .before .before .before .before .pre in
+    omega (arith, pre .2, pre .3, c .before .if1 .taken, c .before .before .before .before .before .before .before .before .before .before .good, c .before .before .before .loop .inv .0)
 
 mul-root : tie.Need-mul-root Inv-loop μ-loop
-mul-root c = omega (arith, c .before .before .before .before .before .before .before .before .before .before .pre .2, c .before .before .before .before .before .before .before .before .before .before .pre .3, c .before .if1 .taken, c .before .before .before .before .before .before .before .before .before .before .good, c .before .before .before .loop .inv .0)
+mul-root c =
+    let pre = c .before .before .before .before .before .before .before .before .before .before .pre in
+    omega (arith, pre .2, pre .3, c .before .if1 .taken, c .before .before .before .before .before .before .before .before .before .before .good, c .before .before .before .loop .inv .0)
 
 add-root-2 : tie.Need-add-root-2 Inv-loop μ-loop
-add-root-2 c = omega (arith, c .before .before .before .before .before .before .before .before .before .before .before .pre .2, c .before .before .before .before .before .before .before .before .before .before .before .pre .3, c .before .before .if1 .taken, c .before .before .before .before .before .before .before .before .before .before .before .good, c .before .before .before .before .loop .inv .0)
+add-root-2 c =
+    let pre = c .before .before .before .before .before .before .before .before .before .before .before .pre in
+    omega (arith, pre .2, pre .3, c .before .before .if1 .taken, c .before .before .before .before .before .before .before .before .before .before .before .good, c .before .before .before .before .loop .inv .0)
 
 mul-root-2 : tie.Need-mul-root-2 Inv-loop μ-loop
-mul-root-2 c = omega (arith, c .before .before .before .before .before .before .before .before .before .before .before .pre .2, c .before .before .before .before .before .before .before .before .before .before .before .pre .3, c .before .before .if1 .taken, c .before .before .before .before .before .before .before .before .before .before .before .good, c .before .before .before .before .loop .inv .0)
+mul-root-2 c =
+    let pre = c .before .before .before .before .before .before .before .before .before .before .before .pre in
+    omega (arith, pre .2, pre .3, c .before .before .if1 .taken, c .before .before .before .before .before .before .before .before .before .before .before .good, c .before .before .before .before .loop .inv .0)
 
 shared-slice-read-root : tie.Need-shared-slice-read-root Inv-loop μ-loop
-shared-slice-read-root c = omega (arith, c .before .before .before .before .before .before .before .before .before .before .before .before .pre .2, c .before .before .before .before .before .before .before .before .before .before .before .before .pre .3, c .before .before .before .if1 .taken, c .before .before .before .before .before .before .before .before .before .before .before .before .good, c .before .before .before .before .before .loop .inv .0)
+shared-slice-read-root c =
+    let pre = c .before .before .before .before .before .before .before .before .before .before .before .before .pre in
+    omega (arith, pre .2, pre .3, c .before .before .before .if1 .taken, c .before .before .before .before .before .before .before .before .before .before .before .before .good, c .before .before .before .before .before .loop .inv .0)
 
 value-of-root-requires : tie.Need-value-of-root-requires Inv-loop μ-loop
-value-of-root-requires c κs = (c .before .before .before .before .before .before .before .before .before .before .before .before .pre .0, c .before .before .before .before .before .before .before .before .before .before .before .before .pre .1)
+value-of-root-requires c κs =
+    let pre = c .before .before .before .before .before .before .before .before .before .before .before .before .pre in
+    (pre .0, pre .1)
 
 mul-u64-requires : tie.Need-mul-u64-requires Inv-loop μ-loop
 mul-u64-requires c κs = search needs
@@ -48,19 +60,25 @@ mul-u64-requires-2 : tie.Need-mul-u64-requires-2 Inv-loop μ-loop
 mul-u64-requires-2 c κs = search needs
 
 add-i : tie.Need-add-i Inv-loop μ-loop
-add-i c = omega (arith, c .before .before .before .before .before .before .before .before .before .before .before .before .before .before .before .before .pre .2, c .before .before .before .before .before .before .before .before .before .before .before .before .before .before .before .before .pre .3, c .before .before .before .before .before .before .before .if1 .taken, c .before .before .before .before .before .before .before .before .before .before .before .before .before .before .before .before .good, c .before .before .before .before .before .before .before .before .before .loop .inv .0)
+add-i c =
+    let pre = c .before .before .before .before .before .before .before .before .before .before .before .before .before .before .before .before .pre in
+    omega (arith, pre .2, pre .3, c .before .before .before .before .before .before .before .if1 .taken, c .before .before .before .before .before .before .before .before .before .before .before .before .before .before .before .before .good, c .before .before .before .before .before .before .before .before .before .loop .inv .0)
 
 loop-less : tie.Need-loop-less Inv-loop μ-loop
 loop-less c = omega (arith, c .before .before .before .before .before .before .before .if1 .taken)
 
 loop-again : tie.Need-loop-again Inv-loop μ-loop
-loop-again c = 
-    (omega (arith, c .before .before .before .before .before .before .before .if1 .taken),
-    sum-more _ _ _ _ _ _ _ _ (c .before .before .before .before .before .before .before .before .before .loop .inv .1) (c .before .before .before .value-of-root .ensures)
-    (c .before .add-u64 .ensures ∙ ap (λ (y : ℕ). addP (c .before .before .before .before .before .before .before .before .before .loop .sum) y) (c .before .before .mul-u64 .ensures)) (c .mul-u642 .ensures))
+loop-again c =
+    let l = c .before .before .before .before .before .before .before .before .before .loop in (
+      omega (arith, c .before .before .before .before .before .before .before .if1 .taken),
+      sum-more _ _ _ _ _ _ _ _ (l .inv .1) (c .before .before .before .value-of-root .ensures)
+          (c .before .add-u64 .ensures ∙ ap (λ (y : ℕ). addP (l .sum) y) (c .before .before .mul-u64 .ensures)) (c .mul-u642 .ensures),
+    )
 
 returns : tie.Need-returns Inv-loop μ-loop
-returns c = sum-end _ _ _ _ _ _ _ _ _ (c .before .before .loop .inv .1) (omega (arith, c .if1 .left, c .before .before .loop .inv .0))
+returns c =
+    let l = c .before .before .loop in
+    sum-end _ _ _ _ _ _ _ _ _ (l .inv .1) (omega (arith, c .if1 .left, l .inv .0))
 
 pub compressed-at-spec : {M : Type 1} → statement M
 compressed-at-spec =

@@ -29,12 +29,17 @@ rows-of-requires : tie.Need-rows-of-requires Inv-loop μ-loop
 rows-of-requires c κs = omega (arith, c .before .before .before .before .before .before .pre .0 .small)
 
 mul-given : tie.Need-mul-given Inv-loop μ-loop
-mul-given c = rw (c .before .rows-of .ensures) (omega (arith, c .before .before .before .before .before .before .before .before .pre .0 .before, c .before .before .before .before .before .before .before .before .pre .0 .room, c .before .before .before .before .before .before .before .before .good))
+mul-given c =
+    let pre = c .before .before .before .before .before .before .before .before .pre in
+    rw (c .before .rows-of .ensures) (omega (arith, pre .0 .before, pre .0 .room, c .before .before .before .before .before .before .before .before .good))
 
 loop-holds : tie.Need-loop-holds Inv-loop μ-loop
-loop-holds c = 
-    (sym (row-nought (c .before .before .before .before .before .before .before .before .args .k)),
-    turn-start _ _ _ _ (row-turns (c .before .before .before .before .before .before .before .before .args .k) (c .before .before .before .before .before .before .before .before .pre .0 .positive) (c .before .before .before .before .before .before .before .before .pre .0 .small)) _ _ (c .before .before .before .before .before .before .before .before .pre .0 .room))
+loop-holds c =
+    let a = c .before .before .before .before .before .before .before .before .args in
+    let pre = c .before .before .before .before .before .before .before .before .pre in (
+      sym (row-nought (a .k)),
+      turn-start _ _ _ _ (row-turns (a .k) (pre .0 .positive) (pre .0 .small)) _ _ (pre .0 .room),
+    )
 
 sub-compressed-at : tie.Need-sub-compressed-at Inv-loop μ-loop
 sub-compressed-at c = omega arith
@@ -43,32 +48,51 @@ part-compressed-at-start : tie.Need-part-compressed-at-start Inv-loop μ-loop
 part-compressed-at-start c = omega arith
 
 part-compressed-at-end : tie.Need-part-compressed-at-end Inv-loop μ-loop
-part-compressed-at-end c = read-there _ _ _ _ _ _ _ (c .before .before .before .before .rows-of .ensures) (c .before .before .before .before .before .before .before .before .before .before .before .pre .0 .before) (c .before .before .before .before .before .before .before .before .before .before .before .pre .0 .room) (c .before .before .loop .inv .1 .size)
+part-compressed-at-end c =
+    let pre = c .before .before .before .before .before .before .before .before .before .before .before .pre in
+    read-there _ _ _ _ _ _ _ (c .before .before .before .before .rows-of .ensures) (pre .0 .before) (pre .0 .room) (c .before .before .loop .inv .1 .size)
 
 compressed-at-requires : tie.Need-compressed-at-requires Inv-loop μ-loop
-compressed-at-requires c κs = 
-    (c .before .before .before .before .before .before .before .before .before .before .before .before .pre .0 .whole,
-    (c .before .before .before .before .before .before .before .before .before .before .before .before .pre .0 .given .small,
-    record {
-      positive = c .before .before .before .before .before .before .before .before .before .before .before .before .pre .0 .positive;
-      small = c .before .before .before .before .before .before .before .before .before .before .before .before .pre .0 .small;
-      inside = row-in (c .before .before .before .before .before .before .before .before .before .before .before .before .args .k) (c .before .before .before .loop .row) (c .before .before .before .loop .place) (c .before .before .before .before .before .before .before .before .before .before .before .before .pre .0 .positive) (c .before .before .before .before .before .before .before .before .before .before .before .before .pre .0 .small) (c .before .before .before .loop .inv .0);
-      placed = placed-at (c .before .before .before .before .before .before .before .before .before .before .before .before .args .k) (c .before .before .before .loop .row) (c .before .before .before .loop .place) (c .before .before .before .before .before .before .before .before .before .before .before .before .pre .0 .positive) (c .before .before .before .before .before .before .before .before .before .before .before .before .pre .0 .small) (omega (arith, c .before .before .loop-test .taken, c .before .before .before .before .before .rows-of .ensures)) (c .before .before .before .loop .inv .0);
-    }),
-    c .before .before .before .before .before .before .before .before .before .before .before .before .pre .1,
-    c .before .before .before .before .before .before .before .before .before .before .before .before .pre .2)
+compressed-at-requires c κs =
+    let pre = c .before .before .before .before .before .before .before .before .before .before .before .before .pre in
+    let a = c .before .before .before .before .before .before .before .before .before .before .before .before .args in
+    let l = c .before .before .before .loop in (
+      pre .0 .whole,
+      (
+        pre .0 .given .small,
+        record {
+          positive = pre .0 .positive;
+          small = pre .0 .small;
+          inside = row-in (a .k) (l .row) (l .place) (pre .0 .positive) (pre .0 .small) (l .inv .0);
+          placed = placed-at (a .k) (l .row) (l .place) (pre .0 .positive) (pre .0 .small) (omega (arith, c .before .before .loop-test .taken, c .before .before .before .before .before .rows-of .ensures)) (l .inv .0);
+        },
+      ),
+      pre .1,
+      pre .2,
+    )
 
 add-columns : tie.Need-add-columns Inv-loop μ-loop
-add-columns c = omega (arith, c .before .before .before .before .before .before .before .before .before .before .before .before .before .pre .0 .room, c .before .before .before .before .before .before .before .before .before .before .before .before .before .good, c .before .before .before .before .loop .inv .1 .size, row-in (c .before .before .before .before .before .before .before .before .before .before .before .before .before .args .k) (c .before .before .before .before .loop .row) (c .before .before .before .before .loop .place) (c .before .before .before .before .before .before .before .before .before .before .before .before .before .pre .0 .positive) (c .before .before .before .before .before .before .before .before .before .before .before .before .before .pre .0 .small) (c .before .before .before .before .loop .inv .0))
+add-columns c =
+    let pre = c .before .before .before .before .before .before .before .before .before .before .before .before .before .pre in
+    let l = c .before .before .before .before .loop in
+    omega (arith, pre .0 .room, c .before .before .before .before .before .before .before .before .before .before .before .before .before .good, l .inv .1 .size, row-in (c .before .before .before .before .before .before .before .before .before .before .before .before .before .args .k) (l .row) (l .place) (pre .0 .positive) (pre .0 .small) (l .inv .0))
 
 mul-columns : tie.Need-mul-columns Inv-loop μ-loop
-mul-columns c = omega (arith, c .before .before .before .before .before .before .before .before .before .before .before .before .before .pre .0 .room, c .before .before .before .before .before .before .before .before .before .before .before .before .before .good, c .before .before .before .before .loop .inv .1 .size, row-in (c .before .before .before .before .before .before .before .before .before .before .before .before .before .args .k) (c .before .before .before .before .loop .row) (c .before .before .before .before .loop .place) (c .before .before .before .before .before .before .before .before .before .before .before .before .before .pre .0 .positive) (c .before .before .before .before .before .before .before .before .before .before .before .before .before .pre .0 .small) (c .before .before .before .before .loop .inv .0))
+mul-columns c =
+    let pre = c .before .before .before .before .before .before .before .before .before .before .before .before .before .pre in
+    let l = c .before .before .before .before .loop in
+    omega (arith, pre .0 .room, c .before .before .before .before .before .before .before .before .before .before .before .before .before .good, l .inv .1 .size, row-in (c .before .before .before .before .before .before .before .before .before .before .before .before .before .args .k) (l .row) (l .place) (pre .0 .positive) (pre .0 .small) (l .inv .0))
 
 slice-write-columns : tie.Need-slice-write-columns Inv-loop μ-loop
-slice-write-columns c = omega (arith, c .before .before .before .before .before .before .before .before .before .before .before .before .before .pre .0 .room, c .before .before .before .before .before .before .before .before .before .before .before .before .before .good, c .before .before .before .before .loop .inv .1 .size, row-in (c .before .before .before .before .before .before .before .before .before .before .before .before .before .args .k) (c .before .before .before .before .loop .row) (c .before .before .before .before .loop .place) (c .before .before .before .before .before .before .before .before .before .before .before .before .before .pre .0 .positive) (c .before .before .before .before .before .before .before .before .before .before .before .before .before .pre .0 .small) (c .before .before .before .before .loop .inv .0))
+slice-write-columns c =
+    let pre = c .before .before .before .before .before .before .before .before .before .before .before .before .before .pre in
+    let l = c .before .before .before .before .loop in
+    omega (arith, pre .0 .room, c .before .before .before .before .before .before .before .before .before .before .before .before .before .good, l .inv .1 .size, row-in (c .before .before .before .before .before .before .before .before .before .before .before .before .before .args .k) (l .row) (l .place) (pre .0 .positive) (pre .0 .small) (l .inv .0))
 
 row-after-requires : tie.Need-row-after-requires Inv-loop μ-loop
-row-after-requires c κs = (c .before .before .before .before .before .before .before .before .before .before .before .before .before .pre .0 .positive, c .before .before .before .before .before .before .before .before .before .before .before .before .before .pre .0 .small, c .before .before .before .before .loop .inv .0)
+row-after-requires c κs =
+    let pre = c .before .before .before .before .before .before .before .before .before .before .before .before .before .pre in
+    (pre .0 .positive, pre .0 .small, c .before .before .before .before .loop .inv .0)
 
 add-place : tie.Need-add-place Inv-loop μ-loop
 add-place c = omega (arith, c .before .before .before .before .loop-test .taken)
@@ -77,19 +101,26 @@ loop-less : tie.Need-loop-less Inv-loop μ-loop
 loop-less c = omega (arith, c .before .before .before .before .loop-test .taken)
 
 loop-again : tie.Need-loop-again Inv-loop μ-loop
-loop-again c = 
-    (c .row-after .ensures .0,
-    turn-more _ _ _ _ (row-turns (c .before .before .before .before .before .before .before .before .before .before .before .before .before .before .args .k) (c .before .before .before .before .before .before .before .before .before .before .before .before .before .before .pre .0 .positive) (c .before .before .before .before .before .before .before .before .before .before .before .before .before .before .pre .0 .small)) _ _ (c .before .before .before .before .before .before .before .before .before .before .before .before .before .before .pre .0 .room) _ _ (c .before .before .before .before .before .loop .inv .1) (omega (arith, c .before .before .before .before .loop-test .taken, c .before .before .before .before .before .before .before .rows-of .ensures)) _ (ap (λ (x : ℕ). c .before .before .before .before .before .before .before .before .before .before .before .before .before .before .args .to + x) (c .before .before .before .before .before .loop .inv .0)) _
-    (compressed-here (c .before .before .before .before .before .before .before .before .before .before .before .before .before .before .args .k) (c .before .before .before .before .before .before .before .before .before .before .before .before .before .before .pre .0 .small) (c .before .before .before .before .before .before .before .before .before .before .before .before .before .before .args .layout) (c .before .before .before .before .before .before .before .before .before .before .before .before .before .before .pre .0 .given) (c .before .before .before .before .before .before .before .before .before .before .before .before .before .before .args .circuit .now) (c .before .before .before .before .before .before .before .before .before .before .before .before .before .before .args .witness .now) (c .before .before .before .before .before .before .before .before .before .before .before .before .before .before .args .challenges .now) (el (c .before .before .before .before .before .before .before .before .before .before .before .before .before .before .args .beta)) _ (c .before .before .before .before .before .before .before .before .before .before .before .before .before .before .args .columns .now)
-    (λ j h. read-word (c .before .before .before .before .before .loop .columns) (c .before .before .before .before .before .before .before .before .before .before .before .before .before .before .args .columns .now) (c .before .before .before .before .before .before .before .before .before .before .before .before .before .before .args .layout .instances) _ (c .before .before .before .before .before .before .before .before .before .before .before .before .before .before .args .k) (c .before .before .before .before .before .before .before .before .before .before .before .before .before .before .args .to) j (c .before .before .before .before .before .before .before .rows-of .ensures) (c .before .before .before .before .before .before .before .before .before .before .before .before .before .before .pre .0 .before) (turn-before _ _ _ _ (row-turns (c .before .before .before .before .before .before .before .before .before .before .before .before .before .before .args .k) (c .before .before .before .before .before .before .before .before .before .before .before .before .before .before .pre .0 .positive) (c .before .before .before .before .before .before .before .before .before .before .before .before .before .before .pre .0 .small)) _ _ (c .before .before .before .before .before .before .before .before .before .before .before .before .before .before .pre .0 .room) _ _ (c .before .before .before .before .before .loop .inv .1)) h)
-    (rootsOf (c .before .before .before .before .before .before .before .before .before .before .before .before .before .before .args .nodes .now) (c .before .before .before .before .before .before .before .before .before .before .before .before .before .before .args .pairs .now) (c .before .before .before .before .before .before .before .before .before .before .before .before .before .before .args .roots)) (c .before .before .before .before .before .loop .row) (c .before .before .before .before .before .loop .place) _ (row-in (c .before .before .before .before .before .before .before .before .before .before .before .before .before .before .args .k) (c .before .before .before .before .before .loop .row) (c .before .before .before .before .before .loop .place) (c .before .before .before .before .before .before .before .before .before .before .before .before .before .before .pre .0 .positive) (c .before .before .before .before .before .before .before .before .before .before .before .before .before .before .pre .0 .small) (c .before .before .before .before .before .loop .inv .0)) (c .before .compressed-at .ensures)
-    ∙ ap (λ (x : ℕ). val (compressedIn 𝔾 (lentEnvironment (c .before .before .before .before .before .before .before .before .before .before .before .before .before .before .args .circuit .now) (c .before .before .before .before .before .before .before .before .before .before .before .before .before .before .args .witness .now) (c .before .before .before .before .before .before .before .before .before .before .before .before .before .before .args .columns .now) (c .before .before .before .before .before .before .before .before .before .before .before .before .before .before .args .challenges .now) (c .before .before .before .before .before .before .before .before .before .before .before .before .before .before .args .layout) (c .before .before .before .before .before .before .before .before .before .before .before .before .before .before .args .k)) (el (c .before .before .before .before .before .before .before .before .before .before .before .before .before .before .args .beta)) (rootsOf (c .before .before .before .before .before .before .before .before .before .before .before .before .before .before .args .nodes .now) (c .before .before .before .before .before .before .before .before .before .before .before .before .before .before .args .pairs .now) (c .before .before .before .before .before .before .before .before .before .before .before .before .before .before .args .roots)) x)) (c .before .before .before .before .before .loop .inv .0)))
+loop-again c =
+    let a = c .before .before .before .before .before .before .before .before .before .before .before .before .before .before .args in
+    let pre = c .before .before .before .before .before .before .before .before .before .before .before .before .before .before .pre in
+    let l = c .before .before .before .before .before .loop in
+    let rows = c .before .before .before .before .before .before .before .rows-of in (
+      c .row-after .ensures .0,
+      turn-more _ _ _ _ (row-turns (a .k) (pre .0 .positive) (pre .0 .small)) _ _ (pre .0 .room) _ _ (l .inv .1) (omega (arith, c .before .before .before .before .loop-test .taken, rows .ensures)) _ (ap (λ (x : ℕ). a .to + x) (l .inv .0)) _
+          (compressed-here (a .k) (pre .0 .small) (a .layout) (pre .0 .given) (a .circuit .now) (a .witness .now) (a .challenges .now) (el (a .beta)) _ (a .columns .now)
+          (λ j h. read-word (l .columns) (a .columns .now) (a .layout .instances) _ (a .k) (a .to) j (rows .ensures) (pre .0 .before) (turn-before _ _ _ _ (row-turns (a .k) (pre .0 .positive) (pre .0 .small)) _ _ (pre .0 .room) _ _ (l .inv .1)) h)
+          (rootsOf (a .nodes .now) (a .pairs .now) (a .roots)) (l .row) (l .place) _ (row-in (a .k) (l .row) (l .place) (pre .0 .positive) (pre .0 .small) (l .inv .0)) (c .before .compressed-at .ensures)
+          ∙ ap (λ (x : ℕ). val (compressedIn 𝔾 (lentEnvironment (a .circuit .now) (a .witness .now) (a .columns .now) (a .challenges .now) (a .layout) (a .k)) (el (a .beta)) (rootsOf (a .nodes .now) (a .pairs .now) (a .roots)) x)) (l .inv .0)),
+    )
 
 same-length : tie.Need-same-length Inv-loop μ-loop
 same-length c = c .before .loop .inv .1 .size
 
 returns : tie.Need-returns Inv-loop μ-loop
-returns c = turn-end _ _ _ _ (row-turns (c .before .before .before .before .before .before .before .before .before .before .args .k) (c .before .before .before .before .before .before .before .before .before .before .pre .0 .positive) (c .before .before .before .before .before .before .before .before .before .before .pre .0 .small)) _ _ (c .before .before .before .before .before .before .before .before .before .before .pre .0 .room) _ _ (c .before .loop .inv .1) (omega (arith, c .loop-test .left, c .before .before .before .rows-of .ensures))
+returns c =
+    let pre = c .before .before .before .before .before .before .before .before .before .before .pre in
+    turn-end _ _ _ _ (row-turns (c .before .before .before .before .before .before .before .before .before .before .args .k) (pre .0 .positive) (pre .0 .small)) _ _ (pre .0 .room) _ _ (c .before .loop .inv .1) (omega (arith, c .loop-test .left, c .before .before .before .rows-of .ensures))
 
 pub lookup-compressed-poly-spec : {M : Type 1} → statement M
 lookup-compressed-poly-spec =

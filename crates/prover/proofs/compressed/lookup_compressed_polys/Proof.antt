@@ -35,12 +35,15 @@ rows-of-requires : tie.Need-rows-of-requires Inv-loop μ-loop
 rows-of-requires c κs = omega (arith, c .before .before .before .before .before .before .before .pre .0 .small)
 
 loop-holds : tie.Need-loop-holds Inv-loop μ-loop
-loop-holds c = 
-    (omega arith,
-    none (c .before .before .before .before .before .before .before .before .args .widths .now),
-    sym (ap (λ (x : ℕ). c .before .before .before .before .before .before .before .before .args .to + x) (zero-mul (2 ^ c .before .before .before .before .before .before .before .before .args .k + 2 ^ c .before .before .before .before .before .before .before .before .args .k)) ∙ add-zero (c .before .before .before .before .before .before .before .before .args .to)),
-    refl,
-    all-start (c .before .before .before .before .before .before .before .before .args .k) (c .before .before .before .before .before .before .before .before .pre .0 .small) _ (c .before .before .before .before .before .before .before .before .pre .0 .given) _ _ _ _ _ _ _ _)
+loop-holds c =
+    let a = c .before .before .before .before .before .before .before .before .args in
+    let pre = c .before .before .before .before .before .before .before .before .pre in (
+      omega arith,
+      none (a .widths .now),
+      sym (ap (λ (x : ℕ). a .to + x) (zero-mul (2 ^ a .k + 2 ^ a .k)) ∙ add-zero (a .to)),
+      refl,
+      all-start (a .k) (pre .0 .small) _ (pre .0 .given) _ _ _ _ _ _ _ _,
+    )
 
 mul-index : tie.Need-mul-index Inv-loop μ-loop
 mul-index c = search needs
@@ -52,19 +55,26 @@ index-requires : tie.Need-index-requires Inv-loop μ-loop
 index-requires c κs = search needs
 
 compressed-pair-requires : tie.Need-compressed-pair-requires Inv-loop μ-loop
-compressed-pair-requires c κs = 
-    (record {
-      whole = c .before .before .before .before .before .before .before .before .before .before .before .before .before .pre .0 .whole;
-      positive = c .before .before .before .before .before .before .before .before .before .before .before .before .before .pre .0 .positive;
-      small = c .before .before .before .before .before .before .before .before .before .before .before .before .before .pre .0 .small;
-      given = c .before .before .before .before .before .before .before .before .before .before .before .before .before .pre .0 .given;
-      before = omega (arith, c .before .before .before .before .before .before .before .before .before .before .before .before .before .pre .0 .before, c .before .before .before .before .loop .inv .2);
-      room = rw (c .before .before .before .before .loop .inv .3) (lookup-there _ _ _ _ _ _ (c .before .before .before .loop-test .taken) (c .before .before .before .before .loop .inv .2) (c .before .before .before .before .before .before .before .before .before .before .before .before .before .pre .0 .room));
-    },
-    omega (arith, part-there _ _ (c .before .before .before .loop-test .taken) _ _ (c .before .before .before .before .loop .inv .1) (let q : total (c .before .before .before .before .before .before .before .before .before .before .before .before .before .args .widths .now) ≤ total (c .before .before .before .before .before .before .before .before .before .before .before .before .before .args .widths .now) = omega arith in q), c .before .index .ensures, c .before .before .before .before .before .before .before .before .before .before .before .before .before .pre .1))
+compressed-pair-requires c κs =
+    let pre = c .before .before .before .before .before .before .before .before .before .before .before .before .before .pre in
+    let l = c .before .before .before .before .loop in
+    let test = c .before .before .before .loop-test in
+    let a = c .before .before .before .before .before .before .before .before .before .before .before .before .before .args in (
+      record {
+        whole = pre .0 .whole;
+        positive = pre .0 .positive;
+        small = pre .0 .small;
+        given = pre .0 .given;
+        before = omega (arith, pre .0 .before, l .inv .2);
+        room = rw (l .inv .3) (lookup-there _ _ _ _ _ _ (test .taken) (l .inv .2) (pre .0 .room));
+      },
+      omega (arith, part-there _ _ (test .taken) _ _ (l .inv .1) (let q : total (a .widths .now) ≤ total (a .widths .now) = omega arith in q), c .before .index .ensures, pre .1),
+    )
 
 add-start : tie.Need-add-start Inv-loop μ-loop
-add-start c = omega (arith, part-there _ _ (c .before .before .before .before .before .before .loop-test .taken) _ _ (c .before .before .before .before .before .before .before .loop .inv .1) (let q : total (c .before .before .before .before .before .before .before .before .before .before .before .before .before .before .before .before .args .widths .now) ≤ total (c .before .before .before .before .before .before .before .before .before .before .before .before .before .before .before .before .args .widths .now) = omega arith in q), c .before .before .before .before .index .ensures, c .before .before .before .before .before .before .before .before .before .before .before .before .before .before .before .before .pre .1, c .before .before .before .before .before .before .before .before .before .before .before .before .before .before .before .before .good)
+add-start c =
+    let a = c .before .before .before .before .before .before .before .before .before .before .before .before .before .before .before .before .args in
+    omega (arith, part-there _ _ (c .before .before .before .before .before .before .loop-test .taken) _ _ (c .before .before .before .before .before .before .before .loop .inv .1) (let q : total (a .widths .now) ≤ total (a .widths .now) = omega arith in q), c .before .before .before .before .index .ensures, c .before .before .before .before .before .before .before .before .before .before .before .before .before .before .before .before .pre .1, c .before .before .before .before .before .before .before .before .before .before .before .before .before .before .before .before .good)
 
 add-at : tie.Need-add-at Inv-loop μ-loop
 add-at c = omega (arith, lookup-there _ _ _ _ _ _ (c .before .before .before .before .before .before .loop-test .taken) (c .before .before .before .before .before .before .before .loop .inv .2) (c .before .before .before .before .before .before .before .before .before .before .before .before .before .before .before .before .pre .0 .room), c .before .before .before .before .before .before .before .before .rows-of .ensures, c .before .before .before .before .before .before .before .before .before .before .before .before .before .before .before .before .good)
@@ -79,22 +89,31 @@ loop-less : tie.Need-loop-less Inv-loop μ-loop
 loop-less c = omega (arith, c .before .before .before .before .before .before .loop-test .taken)
 
 loop-again : tie.Need-loop-again Inv-loop μ-loop
-loop-again c = 
-    (omega (arith, c .before .before .before .before .before .before .loop-test .taken),
-    ap₂ _+_ (c .before .before .before .before .before .before .before .loop .inv .1) (c .before .before .before .before .index .ensures) ∙ total-more (c .before .before .before .before .before .before .before .before .before .before .before .before .before .before .before .before .args .widths .now) (c .before .before .before .before .before .before .before .loop .i) (c .before .before .before .before .before .before .loop-test .taken),
-    lookup-next (c .before .before .before .before .before .before .before .loop .i) (2 ^ c .before .before .before .before .before .before .before .before .before .before .before .before .before .before .before .before .args .k) (c .before .before .before .before .before .before .before .before .before .before .before .before .before .before .before .before .args .to) (c .before .before .before .before .before .before .before .loop .at) _ (c .before .before .before .before .before .before .before .loop .inv .2) (c .before .before .before .before .before .before .before .before .rows-of .ensures),
-    c .before .before .compressed-pair .kept .1 .1 .1 .0 ∙ c .before .before .before .before .before .before .before .loop .inv .3,
-    all-more (c .before .before .before .before .before .before .before .before .before .before .before .before .before .before .before .before .args .k) (c .before .before .before .before .before .before .before .before .before .before .before .before .before .before .before .before .pre .0 .small) _ (c .before .before .before .before .before .before .before .before .before .before .before .before .before .before .before .before .pre .0 .given) _ _ _ _ _ _ (c .before .before .before .before .before .before .before .before .before .before .before .before .before .before .before .before .args .widths .now) (c .before .before .before .before .before .before .before .loop .i) (c .before .before .before .before .before .before .loop-test .taken) (c .before .before .before .before .before .before .before .before .before .before .before .before .before .before .before .before .args .columns .now) (c .before .before .before .before .before .before .before .loop .columns) _ (c .before .before .before .before .before .before .before .before .before .before .before .before .before .before .before .before .args .to) (c .before .before .before .before .before .before .before .loop .at) (c .before .before .before .before .before .before .before .loop .start) _
-    (c .before .before .before .before .before .before .before .before .before .before .before .before .before .before .before .before .pre .0 .before) (omega (arith, lookup-there _ _ _ _ _ _ (c .before .before .before .before .before .before .loop-test .taken) (c .before .before .before .before .before .before .before .loop .inv .2) (c .before .before .before .before .before .before .before .before .before .before .before .before .before .before .before .before .pre .0 .room))) (c .before .before .before .before .before .before .before .loop .inv .1) (c .before .before .before .before .index .ensures) (c .before .before .before .before .before .before .before .loop .inv .2) (c .before .before .before .before .before .before .before .loop .inv .4) (c .before .before .compressed-pair .ensures))
+loop-again c =
+    let test = c .before .before .before .before .before .before .loop-test in
+    let l = c .before .before .before .before .before .before .before .loop in
+    let index = c .before .before .before .before .index in
+    let a = c .before .before .before .before .before .before .before .before .before .before .before .before .before .before .before .before .args in
+    let compressed-pair = c .before .before .compressed-pair in
+    let pre = c .before .before .before .before .before .before .before .before .before .before .before .before .before .before .before .before .pre in (
+      omega (arith, test .taken),
+      ap₂ _+_ (l .inv .1) (index .ensures) ∙ total-more (a .widths .now) (l .i) (test .taken),
+      lookup-next (l .i) (2 ^ a .k) (a .to) (l .at) _ (l .inv .2) (c .before .before .before .before .before .before .before .before .rows-of .ensures),
+      compressed-pair .kept .1 .1 .1 .0 ∙ l .inv .3,
+      all-more (a .k) (pre .0 .small) _ (pre .0 .given) _ _ _ _ _ _ (a .widths .now) (l .i) (test .taken) (a .columns .now) (l .columns) _ (a .to) (l .at) (l .start) _
+          (pre .0 .before) (omega (arith, lookup-there _ _ _ _ _ _ (test .taken) (l .inv .2) (pre .0 .room))) (l .inv .1) (index .ensures) (l .inv .2) (l .inv .4) (compressed-pair .ensures),
+    )
 
 same-length : tie.Need-same-length Inv-loop μ-loop
 same-length c = c .before .loop .inv .3
 
 returns : tie.Need-returns Inv-loop μ-loop
-returns c = 
-    c .before .loop .inv .4
-    ∙ ap (λ (ws : List ℕ). over (c .before .before .before .before .before .before .before .before .before .before .args .columns .now) (c .before .before .before .before .before .before .before .before .before .before .args .to) (wordsOf (2 ^ c .before .before .before .before .before .before .before .before .before .before .args .k) (compressedPolysIn 𝔾 (lentEnvironment (c .before .before .before .before .before .before .before .before .before .before .args .circuit .now) (c .before .before .before .before .before .before .before .before .before .before .args .witness .now) (c .before .before .before .before .before .before .before .before .before .before .args .columns .now) (c .before .before .before .before .before .before .before .before .before .before .args .challenges .now) (c .before .before .before .before .before .before .before .before .before .before .args .layout) (c .before .before .before .before .before .before .before .before .before .before .args .k)) (el (c .before .before .before .before .before .before .before .before .before .before .args .beta)) (split ws (pairsOf (c .before .before .before .before .before .before .before .before .before .before .args .nodes .now) (c .before .before .before .before .before .before .before .before .before .before .args .pairs .now))))))
-    (take-all (c .before .loop .i) (c .before .before .before .before .before .before .before .before .before .before .args .widths .now) (c .loop-test .left))
+returns c =
+    let l = c .before .loop in
+    let a = c .before .before .before .before .before .before .before .before .before .before .args in
+    l .inv .4
+    ∙ ap (λ (ws : List ℕ). over (a .columns .now) (a .to) (wordsOf (2 ^ a .k) (compressedPolysIn 𝔾 (lentEnvironment (a .circuit .now) (a .witness .now) (a .columns .now) (a .challenges .now) (a .layout) (a .k)) (el (a .beta)) (split ws (pairsOf (a .nodes .now) (a .pairs .now))))))
+    (take-all (l .i) (a .widths .now) (c .loop-test .left))
 
 pub lookup-compressed-polys-spec : {M : Type 1} → statement M
 lookup-compressed-polys-spec =

@@ -9,14 +9,20 @@ use Rattle.prover.proofs.compressed.row_after.Statement.{statement}
 use Rattle.prover.proofs.compressed.row_after.Tie as tie
 
 returns : tie.Need-returns
-returns c = (row-first (c .before .args .k) (c .before .args .place) (c .if1 .taken), one-row (c .before .args .k) (c .before .pre .0))
+returns c =
+    let a = c .before .args in
+    (row-first (a .k) (a .place) (c .if1 .taken), one-row (a .k) (c .before .pre .0))
 
 next-requires : tie.Need-next-requires
-next-requires c κs = (omega (arith, c .before .pre .1), rw (c .before .pre .2) (row-lt (c .before .args .k) (c .before .pre .0) (c .before .pre .1) (c .before .args .place)))
+next-requires c κs =
+    let pre = c .before .pre in
+    let a = c .before .args in
+    (omega (arith, pre .1), rw (pre .2) (row-lt (a .k) (pre .0) (pre .1) (a .place)))
 
 returns-2 : tie.Need-returns-2
-returns-2 c = 
-    (c .next .ensures .0 ∙ ap (nextRow (c .before .before .args .k)) (c .before .before .pre .2) ∙ row-on (c .before .before .args .k) (c .before .before .args .place) (omega (arith, c .before .if1 .left)), c .next .ensures .1)
+returns-2 c =
+    let a = c .before .before .args in
+    (c .next .ensures .0 ∙ ap (nextRow (a .k)) (c .before .before .pre .2) ∙ row-on (a .k) (a .place) (omega (arith, c .before .if1 .left)), c .next .ensures .1)
 
 pub row-after-spec : {M : Type 1} → statement M
 row-after-spec =
