@@ -1,0 +1,244 @@
+-- The constraints of the words that the code is handed, by their numbers. Proved.
+use mathlib.Core.Path.{_≡_, refl, sym, ap, ap₂, _∙_, subst}
+use mathlib.Core.Bool.{Bool, true, false, cond}
+use mathlib.Core.List.{List, [], _∷_, _++_, map}
+use Prim.Native.Nat.{ℕ, zero, suc, _+_, _-_, _*_, _/_, _≤_, _<_, min}
+use native.Mathlib.Nat.{le-div-iff-mul-le, add-zero}
+use native.Mathlib.Omega.{arith}
+use lib.Dec.{eqb}
+use lib.IntN.{pos}
+use lib.ListN.{length, getD, take, drop, length-append, length-map}
+use lib.Seq.{drop-drop, drop-cons}
+use borrow.Author.Tests.{eq-eqb, ne-eqb}
+use Rattle.util.specs.Lists.{column, split, total, All}
+use Rattle.util.proofs.Lists.{get-left, get-past, get-map}
+use Rattle.util.proofs.Columns.{column-length, get-column, column-cong, map-column}
+use Rattle.util.proofs.All.{all-get}
+use Rattle.expression.specs.Expr.{Expr, minus, at, distributePowers}
+use Rattle.expression.specs.Nodes.{exprOf}
+use Rattle.expression.specs.Flat.{body, size}
+use Rattle.expression.specs.Written.{Pushed, Written}
+use Rattle.backend.specs.Circuit.{Pair, pairAt}
+use Rattle.backend.specs.Constraints.{inputsOf, tablesOf, lookupTree}
+use Rattle.preprocessor.specs.Pieces.{
+  Limits,
+  Handed,
+  IsNode,
+  mAt,
+  hAt,
+  startTree,
+  partTree,
+  lookupsOf,
+  lookupTreeOf,
+  sideExprs,
+  sideTree,
+  constraintTrees,
+  handedTrees,
+  zeroTree,
+  outerTrees,
+  numConstraints,
+}
+use Rattle.preprocessor.specs.declared.compose.Numbers.{Numbers}
+use Rattle.preprocessor.proofs.Lists.{nth}
+use Rattle.preprocessor.proofs.Parts.{part-column}
+
+-- ---- sums of the first widths
+pub total-more : (ns : List ℕ) (i : ℕ) → i < length ns → total (take (suc i) ns) ≡ total (take i ns) + getD ns i 0
+unfolding total
+total-more [] i h = absurd (omega arith)
+total-more (n ∷ ns) zero h = omega arith
+total-more (n ∷ ns) (suc i) h = let q = total-more ns i (omega arith) in omega arith
+
+pub total-first : (ns : List ℕ) (i : ℕ) → total (take i ns) ≤ total ns
+unfolding total
+total-first [] zero = omega arith
+total-first [] (suc i) = omega arith
+total-first (n ∷ ns) zero = omega arith
+total-first (n ∷ ns) (suc i) = let q = total-first ns i in omega arith
+
+pub total-none : (ns : List ℕ) → total (take 0 ns) ≡ 0
+unfolding total
+total-none ns = refl
+
+-- ---- a lookup's pairs
+pub get-split : {A : Type 0} (ns : List ℕ) (xs : List A) (j : ℕ) → j < length ns
+    → getD (split ns xs) j [] ≡ take (getD ns j 0) (drop (total (take j ns)) xs)
+unfolding split total
+get-split [] xs j h = absurd (omega arith)
+get-split (n ∷ ns) xs zero h = refl
+get-split (n ∷ ns) xs (suc j) h =
+    get-split ns (drop n xs) j (omega arith) ∙ ap (take (getD ns j 0)) (drop-drop (total (take j ns)) n xs)
+
+module _ (nodes widths pairs : List ℕ) (enough : total widths * 2 ≤ length pairs) (j : ℕ) (h : j < length widths) where
+  abbrev before : ℕ
+  before = total (take j widths)
+
+  abbrev width : ℕ
+  width = getD widths j 0
+
+  pub pairs-end : before + width ≤ total widths
+  pairs-end = omega (arith, total-more widths j h, total-first widths (suc j))
+
+  pub words-end : before * 2 + width * 2 ≤ length pairs
+  words-end = omega (arith, pairs-end)
+
+  half : before + width ≤ length pairs / 2
+  half = le-div-iff-mul-le {k = 2} {x = before + width} {y = length pairs} (omega arith) .1 (omega (arith, pairs-end))
+
+  lookup-pairs : getD (lookupsOf nodes widths pairs) j [] ≡ column (λ i. pairAt nodes pairs (before + i)) width
+  unfolding lookupsOf
+  lookup-pairs =
+      get-split widths (column (pairAt nodes pairs) (length pairs / 2)) j h
+      ∙ part-column (pairAt nodes pairs) before width (length pairs / 2) half
+
+  pub inputs-are : inputsOf (getD (lookupsOf nodes widths pairs) j []) ≡ sideExprs nodes pairs (before * 2) width
+  unfolding sideExprs
+  inputs-are =
+      ap inputsOf lookup-pairs ∙ map-column (λ (p : Pair). p .input) (λ i. pairAt nodes pairs (before + i)) width
+      ∙ column-cong (λ i. exprOf nodes (getD pairs ((before + i) * 2) 0)) (λ i. exprOf nodes (getD pairs (before * 2 + i * 2) 0)) width
+      (λ i l. ap (λ (n : ℕ). exprOf nodes (getD pairs n 0)) (omega arith))
+
+  pub tables-are : tablesOf (getD (lookupsOf nodes widths pairs) j []) ≡ sideExprs nodes pairs (before * 2 + 1) width
+  unfolding sideExprs
+  tables-are =
+      ap tablesOf lookup-pairs ∙ map-column (λ (p : Pair). p .table) (λ i. pairAt nodes pairs (before + i)) width
+      ∙ column-cong (λ i. exprOf nodes (getD pairs ((before + i) * 2 + 1) 0)) (λ i. exprOf nodes (getD pairs (before * 2 + 1 + i * 2) 0)) width
+      (λ i l. ap (λ (n : ℕ). exprOf nodes (getD pairs n 0)) (omega arith))
+
+  pub lookup-tree : (v : Numbers)
+      → lookupTreeOf v (lookupsOf nodes widths pairs) j
+      ≡ lookupTree (at (mAt v j)) (at (hAt v j)) (sideTree nodes pairs (v .user) (before * 2) width)
+      (sideTree nodes pairs (v .user) (before * 2 + 1) width)
+  unfolding lookupTreeOf sideTree
+  lookup-tree v =
+      ap₂
+      (λ (a b : List Expr).
+      lookupTree (at (mAt v j)) (at (hAt v j))
+      (Expr.sum (distributePowers a (Expr.challenge (v .user))) (Expr.challenge (v .user + 1)))
+      (Expr.sum (distributePowers b (Expr.challenge (v .user))) (Expr.challenge (v .user + 1))))
+      inputs-are
+      tables-are
+
+-- ---- a side's expressions
+module _ (nodes pairs : List ℕ) (s w : ℕ) where
+  pub side-length : length (sideExprs nodes pairs s w) ≡ w
+  unfolding sideExprs
+  side-length = column-length (λ i. exprOf nodes (getD pairs (s + i * 2) 0)) w
+
+  pub side-nth : (i : ℕ) → i < w → nth (sideExprs nodes pairs s w) i ≡ exprOf nodes (getD pairs (s + i * 2) 0)
+  unfolding sideExprs
+  side-nth i h = get-column (λ i. exprOf nodes (getD pairs (s + i * 2) 0)) w i (Expr.constant 0) h
+
+-- the nodes of a lookup's constraint
+pub lookup-size : (m h : ℕ) (a b : Expr) → size (lookupTree (at m) (at h) a b) ≡ size a * 2 + size b * 2 + 8
+unfolding body
+lookup-size m h a b = omega arith
+
+-- ---- how many constraints
+pub num-none : (own : ℕ) (v : Numbers) → v .copied ≡ 0 → numConstraints own v ≡ own + v .lookups
+unfolding numConstraints
+num-none own v h =
+    ap (λ (t : Bool). own + v .lookups + cond t 0 (suc (v .parts))) (eq-eqb (v .copied) 0 h) ∙ add-zero (own + v .lookups)
+
+pub num-some : (own : ℕ) (v : Numbers) → (v .copied ≡ 0 → ⊥) → numConstraints own v ≡ own + v .lookups + (1 + v .parts)
+unfolding numConstraints
+num-some own v h =
+    ap (λ (t : Bool). own + v .lookups + cond t 0 (suc (v .parts))) (ne-eqb (v .copied) 0 h) ∙ omega arith
+
+-- ---- the constraints by their numbers
+module _ (v : Numbers) (names nodes roots widths pairs : List ℕ) where
+  abbrev es : List Expr
+  es = handedTrees v names nodes roots widths pairs
+
+  abbrev user : List Expr
+  user = map (exprOf nodes) roots
+
+  abbrev lookup : ℕ → Expr
+  lookup = lookupTreeOf v (lookupsOf nodes widths pairs)
+
+  abbrev some : List Expr
+  some = startTree v ∷ column (partTree v names) (v .parts)
+
+  some-length : (t : Bool) → length (cond t [] some) ≡ cond t 0 (suc (v .parts))
+  some-length true = refl
+  some-length false = ap suc (column-length (partTree v names) (v .parts))
+
+  pub handed-length : length es ≡ numConstraints (length roots) v
+  unfolding constraintTrees numConstraints
+  handed-length =
+      length-append user (column lookup (v .lookups) ++ cond (eqb (v .copied) 0) [] some)
+      ∙ ap₂ _+_ (length-map roots (exprOf nodes))
+      (length-append (column lookup (v .lookups)) (cond (eqb (v .copied) 0) [] some)
+      ∙ ap₂ _+_ (column-length lookup (v .lookups)) (some-length (eqb (v .copied) 0)))
+      ∙ omega arith
+
+  pub own-nth : (i : ℕ) → i < length roots → nth es i ≡ exprOf nodes (getD roots i 0)
+  unfolding constraintTrees
+  own-nth i h =
+      get-left user (column lookup (v .lookups) ++ cond (eqb (v .copied) 0) [] some) i (Expr.constant 0)
+      (let e = length-map roots (exprOf nodes) in omega arith)
+      ∙ get-map (exprOf nodes) roots i 0 (Expr.constant 0) h
+
+  past-own : (i k : ℕ) → i ≡ length roots + k
+      → nth es i ≡ nth (column lookup (v .lookups) ++ cond (eqb (v .copied) 0) [] some) k
+  unfolding constraintTrees
+  past-own i k e =
+      get-past user (column lookup (v .lookups) ++ cond (eqb (v .copied) 0) [] some) i k (Expr.constant 0)
+      (e ∙ ap (λ (n : ℕ). n + k) (sym (length-map roots (exprOf nodes))))
+
+  pub lookup-nth : (i j : ℕ) → i ≡ length roots + j → j < v .lookups → nth es i ≡ lookup j
+  lookup-nth i j e h =
+      past-own i j e
+      ∙ get-left (column lookup (v .lookups)) (cond (eqb (v .copied) 0) [] some) j (Expr.constant 0)
+      (let l = column-length lookup (v .lookups) in omega arith)
+      ∙ get-column lookup (v .lookups) j (Expr.constant 0) h
+
+  some-at : (t : Bool) (p : ℕ) → p < cond t 0 (suc (v .parts)) → nth (cond t [] some) p ≡ nth some p
+  some-at true p h = absurd (omega arith)
+  some-at false p h = refl
+
+  past-lookups : (i p : ℕ) → i ≡ length roots + (v .lookups + p) → i < numConstraints (length roots) v → nth es i ≡ nth some p
+  unfolding numConstraints
+  past-lookups i p e h =
+      past-own i (v .lookups + p) e
+      ∙ get-past (column lookup (v .lookups)) (cond (eqb (v .copied) 0) [] some) (v .lookups + p) p (Expr.constant 0)
+      (ap (λ (n : ℕ). n + p) (sym (column-length lookup (v .lookups))))
+      ∙ some-at (eqb (v .copied) 0) p (omega arith)
+
+  pub start-nth : (i : ℕ) → i ≡ length roots + (v .lookups + 0) → i < numConstraints (length roots) v → nth es i ≡ startTree v
+  start-nth i e h = past-lookups i 0 e h
+
+  few : (t : Bool) (p : ℕ) → suc p < cond t 0 (suc (v .parts)) → p < v .parts
+  few true p h = absurd (omega arith)
+  few false p h = omega arith
+
+  pub part-below : (i p : ℕ) → i ≡ length roots + (v .lookups + suc p) → i < numConstraints (length roots) v → p < v .parts
+  unfolding numConstraints
+  part-below i p e h = few (eqb (v .copied) 0) p (omega arith)
+
+  pub part-nth : (i p : ℕ) → i ≡ length roots + (v .lookups + suc p) → i < numConstraints (length roots) v
+      → nth es i ≡ partTree v names p
+  part-nth i p e h =
+      past-lookups i (suc p) e h ∙ get-column (partTree v names) (v .parts) p (Expr.constant 0) (part-below i p e h)
+
+-- ---- the h queries and the zero check
+module _ (v : Numbers) (es : List Expr) where
+  pub outer-length : length (outerTrees v es) ≡ suc (v .lookups)
+  unfolding outerTrees
+  outer-length =
+      length-append (column (λ j. at (hAt v j)) (v .lookups)) (zeroTree v es ∷ [])
+      ∙ ap (λ (n : ℕ). n + 1) (column-length (λ j. at (hAt v j)) (v .lookups))
+      ∙ omega arith
+
+  pub query-nth : (i : ℕ) → i < v .lookups → nth (outerTrees v es) i ≡ at (hAt v i)
+  unfolding outerTrees
+  query-nth i h =
+      get-left (column (λ j. at (hAt v j)) (v .lookups)) (zeroTree v es ∷ []) i (Expr.constant 0)
+      (let l = column-length (λ j. at (hAt v j)) (v .lookups) in omega arith)
+      ∙ get-column (λ j. at (hAt v j)) (v .lookups) i (Expr.constant 0) h
+
+  pub zero-nth : (i : ℕ) → i ≡ v .lookups → nth (outerTrees v es) i ≡ zeroTree v es
+  unfolding outerTrees
+  zero-nth i h =
+      get-past (column (λ j. at (hAt v j)) (v .lookups)) (zeroTree v es ∷ []) i 0 (Expr.constant 0)
+      (let l = column-length (λ j. at (hAt v j)) (v .lookups) in omega arith)

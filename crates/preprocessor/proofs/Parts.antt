@@ -1,0 +1,172 @@
+-- The parts of the copied columns, and the constraints of the permutation. Proved.
+use mathlib.Core.Path.{_≡_, refl, sym, ap, ap₂, _∙_, subst}
+use mathlib.Core.Bool.{Bool, true, false, cond}
+use mathlib.Core.List.{List, [], _∷_, _++_, map}
+use Prim.Native.Nat.{ℕ, zero, suc, _+_, _-_, _*_, _≤_, _<_, min}
+use native.Mathlib.Nat.{mul-le-mul-left}
+use native.Mathlib.Decide.{decLt}
+use native.Mathlib.Omega.{arith}
+use lib.Dec.{ltb}
+use lib.IntN.{pos}
+use lib.ListN.{length, getD, take, drop, length-take, length-drop}
+use lib.Seq.{take-all, take-at, drop-at}
+use borrow.Author.Tests.{lt-ltb, le-ltb}
+use Rattle.util.specs.Lists.{column, below, cut, ceilDiv, All}
+use Rattle.util.proofs.Columns.{column-length, column-append, column-first, column-cong, map-column, below-length}
+use Rattle.util.proofs.Totals.{ceil-below, ceil-le, get-cut}
+use Rattle.util.proofs.All.{all-column}
+use Rattle.expression.specs.Expr.{Expr, minus, at, productOf}
+use Rattle.expression.specs.Flat.{body, size}
+use Rattle.expression.specs.Written.{Pushed, Written}
+use Rattle.expression.proofs.Written.{written-as, written-at, written-minus, written-poly}
+use Rattle.preprocessor.specs.Pieces.{Limits, partOf, identityTree, permutationTree, nextTree, partTree, zAt}
+use Rattle.preprocessor.specs.declared.compose.Numbers.{Numbers}
+use Rattle.preprocessor.proofs.Lists.{product-size}
+
+-- ---- runs of a column
+module _ {A : Type 0} (f : ℕ → A) where
+  pub drop-column : (s n : ℕ) → s ≤ n → drop s (column f n) ≡ column (λ i. f (s + i)) (n - s)
+  drop-column s n h =
+      let e : n ≡ s + (n - s) = omega arith in
+      ap (λ (m : ℕ). drop s (column f m)) e ∙ ap (drop s) (column-append f s (n - s))
+      ∙ drop-at (column f s) (column (λ i. f (s + i)) (n - s)) s (column-length f s)
+
+  pub take-column : (w n : ℕ) → w ≤ n → take w (column f n) ≡ column f w
+  take-column w n h =
+      let e : n ≡ w + (n - w) = omega arith in
+      ap (λ (m : ℕ). take w (column f m)) e ∙ ap (take w) (column-append f w (n - w))
+      ∙ take-at (column f w) (column (λ i. f (w + i)) (n - w)) w (column-length f w)
+
+  pub take-min : (w n : ℕ) → take w (column f n) ≡ column f (min w n)
+  take-min w n = go (decLt n w)
+    where
+      go : Dec (n < w) → take w (column f n) ≡ column f (min w n)
+      go (yes h) =
+          take-all w (column f n) (let e = column-length f n in omega arith) ∙ ap (column f) (omega arith)
+      go (no h) = take-column w n (omega arith) ∙ ap (column f) (omega arith)
+
+pub part-column : {A : Type 0} (f : ℕ → A) (s w n : ℕ) → s + w ≤ n → take w (drop s (column f n)) ≡ column (λ i. f (s + i)) w
+part-column f s w n h =
+    ap (take w) (drop-column f s n (omega arith)) ∙ take-column (λ i. f (s + i)) w (n - s) (omega arith)
+
+-- N is at most n
+pub parts-few : (v : Numbers) → Limits v → v .parts ≤ v .copied
+parts-few v l =
+    subst (λ (x : ℕ). x ≤ v .copied) (sym (l .parts-are))
+    (ceil-le (v .copied) (v .part) (v .copied) (l .some-part) (many (v .part) (l .some-part)))
+  where
+    many : (d : ℕ) → 0 < d → v .copied ≤ v .copied * d
+    many d h = let m : v .copied * 1 ≤ v .copied * d = mul-le-mul-left (v .copied) h in omega arith
+
+module _ (v : Numbers) (l : Limits v) (i : ℕ) (h : i < v .parts) where
+  -- part i is not empty
+  pub part-start : i * v .part < v .copied
+  part-start = ceil-below (v .copied) (v .part) i (l .some-part) (subst (λ (n : ℕ). i < n) (l .parts-are) h)
+
+  part-run : partOf v i ≡ take (v .part) (drop (i * v .part) (below (v .copied)))
+  part-run = get-cut (v .part) (below (v .copied)) i (l .some-part)
+
+  pub part-length : length (partOf v i) ≡ min (v .part) (v .copied - i * v .part)
+  part-length =
+      ap length part-run
+      ∙ length-take (v .part) (drop (i * v .part) (below (v .copied)))
+      ∙ ap (min (v .part)) (length-drop (i * v .part) (below (v .copied)) ∙ ap (λ (n : ℕ). n - i * v .part) (below-length (v .copied)))
+
+  pub part-pos : 0 < length (partOf v i)
+  part-pos = let a = part-start in let b = l .some-part in omega (arith, part-length)
+
+  pub part-end : i * v .part + length (partOf v i) ≤ v .copied
+  part-end = let a = part-start in omega (arith, part-length)
+
+  part-is : partOf v i ≡ column (λ j. i * v .part + j) (length (partOf v i))
+  part-is =
+      part-run
+      ∙ ap (take (v .part)) (drop-column (λ j. j) (i * v .part) (v .copied) (let a = part-start in omega arith))
+      ∙ take-min (λ j. i * v .part + j) (v .part) (v .copied - i * v .part)
+      ∙ ap (column (λ j. i * v .part + j)) (sym part-length)
+
+  part-map : (f : ℕ → Expr) → map f (partOf v i) ≡ column (λ j. f (i * v .part + j)) (length (partOf v i))
+  part-map f =
+      ap (map f) part-is ∙ map-column f (λ j. i * v .part + j) (length (partOf v i))
+
+  module _ (names : List ℕ) where
+    pub part-tree : (count : ℕ) → count ≡ length (partOf v i)
+        → partTree v names i
+        ≡ minus (Expr.product (at (zAt v i)) (productOf (column (λ j. identityTree v names (i * v .part + j)) count)))
+        (Expr.product (nextTree v i) (productOf (column (λ j. permutationTree v names (i * v .part + j)) count)))
+    unfolding partTree
+    part-tree count e =
+        ap₂
+        (λ (a b : List Expr). minus (Expr.product (at (zAt v i)) (productOf a)) (Expr.product (nextTree v i) (productOf b)))
+        (part-map (identityTree v names) ∙ ap (column (λ j. identityTree v names (i * v .part + j))) (sym e))
+        (part-map (permutationTree v names) ∙ ap (column (λ j. permutationTree v names (i * v .part + j))) (sym e))
+
+-- ---- the nodes
+pub identity-size : (v : Numbers) (names : List ℕ) (i : ℕ) → size (identityTree v names i) ≡ 9
+unfolding identityTree body
+identity-size v names i = refl
+
+pub permutation-size : (v : Numbers) (names : List ℕ) (i : ℕ) → size (permutationTree v names i) ≡ 7
+unfolding permutationTree body
+permutation-size v names i = refl
+
+pub next-size : (v : Numbers) (i : ℕ) → size (nextTree v i) ≡ 1
+unfolding nextTree body
+next-size v i = go (ltb (suc i) (v .parts))
+  where
+    go : (t : Bool) → size (cond t (at (zAt v (suc i))) (Expr.poly (zAt v 0) (pos 1))) ≡ 1
+    go true = refl
+    go false = refl
+
+at-size : (q : ℕ) → size (at q) ≡ 1
+unfolding body
+at-size q = refl
+
+-- z · p − y · q
+sides-size : (z y p q : Expr) (m : ℕ) → size z ≡ 1 → size y ≡ 1 → size p + 1 ≡ m * 10 → size q + 1 ≡ m * 8
+    → size (minus (Expr.product z p) (Expr.product y q)) ≡ m * 18 + 4
+unfolding body
+sides-size z y p q m a b c d = omega arith
+
+pub column-product : (s : ℕ) (f : ℕ → Expr) (n : ℕ) → 0 < n → ((i : ℕ) → size (f i) ≡ s)
+    → size (productOf (column f n)) + 1 ≡ n * (s + 1)
+column-product s f zero h q = absurd (omega arith)
+column-product s f (suc n) h q =
+    let g : ℕ → Expr = λ i. f (suc i) in
+    ap (λ (l : List Expr). size (productOf l) + 1) (column-first f n)
+    ∙ product-size s (f 0) (column g n) (q 0, all-column (λ (e : Expr). size e ≡ s) g n (λ i l. q (suc i)))
+    ∙ ap (λ (m : ℕ). suc m * (s + 1)) (column-length g n)
+
+pub part-size : (v : Numbers) (l : Limits v) (i : ℕ) (h : i < v .parts) (names : List ℕ)
+    → size (partTree v names i) ≡ length (partOf v i) * 18 + 4
+part-size v l i h names =
+    let m : ℕ = length (partOf v i) in
+    let a = column-product 9 (λ j. identityTree v names (i * v .part + j)) m (part-pos v l i h) (λ j. identity-size v names (i * v .part + j)) in
+    let b = column-product 7 (λ j. permutationTree v names (i * v .part + j)) m (part-pos v l i h) (λ j. permutation-size v names (i * v .part + j)) in
+    ap size (part-tree v l i h names m refl)
+    ∙ sides-size (at (zAt v i)) (nextTree v i) (productOf (column (λ j. identityTree v names (i * v .part + j)) m)) (productOf (column (λ j. permutationTree v names (i * v .part + j)) m)) m (at-size (zAt v i)) (next-size v i) a b
+
+-- ---- what is written
+module _ (v : Numbers) (i : ℕ) {n next : ℕ} {d d1 : List ℕ} where
+  -- the following part's z
+  pub next-written : suc i < v .parts → Written (at (zAt v (suc i))) n d d1 next → Written (nextTree v i) n d d1 next
+  unfolding nextTree
+  next-written h w =
+      written-as (ap (λ (t : Bool). cond t (at (zAt v (suc i))) (Expr.poly (zAt v 0) (pos 1))) (lt-ltb (suc i) (v .parts) h)) w
+
+  -- the first z with rotation 1
+  pub around-written : v .parts ≤ suc i → Pushed n 5 (zAt v 0) 0 2147483649 d d1 next → Written (nextTree v i) n d d1 next
+  unfolding nextTree
+  around-written h p =
+      written-as (ap (λ (t : Bool). cond t (at (zAt v (suc i))) (Expr.poly (zAt v 0) (pos 1))) (le-ltb (suc i) (v .parts) h))
+      (written-poly {q = zAt v 0} {r = pos 1} p)
+
+module _ (v : Numbers) (l : Limits v) (i : ℕ) (h : i < v .parts) (names : List ℕ) (count : ℕ) {n x y z next : ℕ}
+    {d d1 d2 d3 d4 : List ℕ} where
+  pub part-written : count ≡ length (partOf v i)
+      → Written (Expr.product (at (zAt v i)) (productOf (column (λ j. identityTree v names (i * v .part + j)) count))) n d d1 x
+      → Written (Expr.product (nextTree v i) (productOf (column (λ j. permutationTree v names (i * v .part + j)) count))) x d1 d2 y
+      → Pushed y 7 (y - 1) 0 0 d2 d3 z
+      → Pushed z 8 (x - 1) (z - 1) 0 d3 d4 next
+      → Written (partTree v names i) n d d4 next
+  part-written e a b p q = written-as (part-tree v l i h names count e) (written-minus a b p q)
