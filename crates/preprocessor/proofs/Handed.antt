@@ -4,6 +4,7 @@ use mathlib.Core.Bool.{Bool, true, false, cond}
 use mathlib.Core.List.{List, [], _∷_, _++_, map}
 use Prim.Native.Nat.{ℕ, zero, suc, _+_, _-_, _*_, _/_, _≤_, _<_, min}
 use native.Mathlib.Nat.{le-div-iff-mul-le, add-zero}
+use native.Mathlib.Numerals.{add-one}
 use native.Mathlib.Omega.{arith}
 use lib.Dec.{eqb}
 use lib.IntN.{pos}
@@ -36,6 +37,7 @@ use Rattle.preprocessor.specs.Pieces.{
   handedTrees,
   zeroTree,
   outerTrees,
+  composeTree,
   numConstraints,
 }
 use Rattle.preprocessor.specs.declared.compose.Numbers.{Numbers}
@@ -119,15 +121,25 @@ module _ (nodes widths pairs : List ℕ) (enough : total widths * 2 ≤ length p
       inputs-are
       tables-are
 
+pub total-step : (ns : List ℕ) (i sum n : ℕ) → i < length ns → sum ≡ total (take i ns) → n ≡ getD ns i 0
+    → sum + n ≡ total (take (i + 1) ns)
+total-step ns i sum n h p q =
+    ap₂ _+_ p q ∙ sym (total-more ns i h) ∙ ap (λ (j : ℕ). total (take j ns)) (sym (add-one i))
+
+-- a root that stands in a list of roots
+pub root-node : (nodes roots : List ℕ) (i n : ℕ) → All (IsNode nodes) roots → i < length roots → n ≡ getD roots i 0 → n * 4 + 4 ≤ length nodes
+root-node nodes roots i n a h e = let q = all-get (IsNode nodes) roots a i 0 h in omega arith
+
 -- ---- a side's expressions
 module _ (nodes pairs : List ℕ) (s w : ℕ) where
   pub side-length : length (sideExprs nodes pairs s w) ≡ w
   unfolding sideExprs
   side-length = column-length (λ i. exprOf nodes (getD pairs (s + i * 2) 0)) w
 
-  pub side-nth : (i : ℕ) → i < w → nth (sideExprs nodes pairs s w) i ≡ exprOf nodes (getD pairs (s + i * 2) 0)
+  pub side-nth : (i n : ℕ) → i < w → n ≡ getD pairs (s + i * 2) 0 → nth (sideExprs nodes pairs s w) i ≡ exprOf nodes n
   unfolding sideExprs
-  side-nth i h = get-column (λ i. exprOf nodes (getD pairs (s + i * 2) 0)) w i (Expr.constant 0) h
+  side-nth i n h e =
+      get-column (λ i. exprOf nodes (getD pairs (s + i * 2) 0)) w i (Expr.constant 0) h ∙ ap (exprOf nodes) (sym e)
 
 -- the nodes of a lookup's constraint
 pub lookup-size : (m h : ℕ) (a b : Expr) → size (lookupTree (at m) (at h) a b) ≡ size a * 2 + size b * 2 + 8
@@ -172,12 +184,13 @@ module _ (v : Numbers) (names nodes roots widths pairs : List ℕ) where
       ∙ ap₂ _+_ (column-length lookup (v .lookups)) (some-length (eqb (v .copied) 0)))
       ∙ omega arith
 
-  pub own-nth : (i : ℕ) → i < length roots → nth es i ≡ exprOf nodes (getD roots i 0)
+  pub own-nth : (i n : ℕ) → i < length roots → n ≡ getD roots i 0 → nth es i ≡ exprOf nodes n
   unfolding constraintTrees
-  own-nth i h =
+  own-nth i n h e =
       get-left user (column lookup (v .lookups) ++ cond (eqb (v .copied) 0) [] some) i (Expr.constant 0)
       (let e = length-map roots (exprOf nodes) in omega arith)
       ∙ get-map (exprOf nodes) roots i 0 (Expr.constant 0) h
+      ∙ ap (exprOf nodes) (sym e)
 
   past-own : (i k : ℕ) → i ≡ length roots + k
       → nth es i ≡ nth (column lookup (v .lookups) ++ cond (eqb (v .copied) 0) [] some) k
@@ -186,12 +199,25 @@ module _ (v : Numbers) (names nodes roots widths pairs : List ℕ) where
       get-past user (column lookup (v .lookups) ++ cond (eqb (v .copied) 0) [] some) i k (Expr.constant 0)
       (e ∙ ap (λ (n : ℕ). n + k) (sym (length-map roots (exprOf nodes))))
 
-  pub lookup-nth : (i j : ℕ) → i ≡ length roots + j → j < v .lookups → nth es i ≡ lookup j
-  lookup-nth i j e h =
+  pub lookup-nth : (i j s w : ℕ) → i ≡ length roots + j → j < v .lookups → v .lookups ≡ length widths
+      → total widths * 2 ≤ length pairs
+      → s ≡ total (take j widths)
+      → w ≡ getD widths j 0
+      → nth es i
+      ≡ lookupTree (at (mAt v j)) (at (hAt v j)) (sideTree nodes pairs (v .user) (s * 2) w)
+      (sideTree nodes pairs (v .user) (s * 2 + 1) w)
+  lookup-nth i j s w e h all enough es ew =
       past-own i j e
       ∙ get-left (column lookup (v .lookups)) (cond (eqb (v .copied) 0) [] some) j (Expr.constant 0)
       (let l = column-length lookup (v .lookups) in omega arith)
       ∙ get-column lookup (v .lookups) j (Expr.constant 0) h
+      ∙ lookup-tree nodes widths pairs enough j (omega arith) v
+      ∙ ap₂
+      (λ (s w : ℕ).
+      lookupTree (at (mAt v j)) (at (hAt v j)) (sideTree nodes pairs (v .user) (s * 2) w)
+      (sideTree nodes pairs (v .user) (s * 2 + 1) w))
+      (sym es)
+      (sym ew)
 
   some-at : (t : Bool) (p : ℕ) → p < cond t 0 (suc (v .parts)) → nth (cond t [] some) p ≡ nth some p
   some-at true p h = absurd (omega arith)
@@ -205,8 +231,8 @@ module _ (v : Numbers) (names nodes roots widths pairs : List ℕ) where
       (ap (λ (n : ℕ). n + p) (sym (column-length lookup (v .lookups))))
       ∙ some-at (eqb (v .copied) 0) p (omega arith)
 
-  pub start-nth : (i : ℕ) → i ≡ length roots + (v .lookups + 0) → i < numConstraints (length roots) v → nth es i ≡ startTree v
-  start-nth i e h = past-lookups i 0 e h
+  pub start-nth : (i : ℕ) → i ≡ length roots + v .lookups → i < numConstraints (length roots) v → nth es i ≡ startTree v
+  start-nth i e h = past-lookups i 0 (e ∙ ap (λ (n : ℕ). length roots + n) (sym (add-zero (v .lookups)))) h
 
   few : (t : Bool) (p : ℕ) → suc p < cond t 0 (suc (v .parts)) → p < v .parts
   few true p h = absurd (omega arith)
@@ -242,3 +268,20 @@ module _ (v : Numbers) (es : List Expr) where
   zero-nth i h =
       get-past (column (λ j. at (hAt v j)) (v .lookups)) (zeroTree v es ∷ []) i 0 (Expr.constant 0)
       (let l = column-length (λ j. at (hAt v j)) (v .lookups) in omega arith)
+
+-- the nodes of a sum with gamma, and of a product with a query
+pub side-size : (nodes pairs : List ℕ) (user s w : ℕ)
+    → size (sideTree nodes pairs user s w) ≡ size (distributePowers (sideExprs nodes pairs s w) (Expr.challenge user)) + 2
+unfolding sideTree body
+side-size nodes pairs user s w = omega arith
+
+pub zero-size : (v : Numbers) (es : List Expr)
+    → size (zeroTree v es) ≡ size (distributePowers es (Expr.challenge (v .user + 2))) + 2
+unfolding zeroTree body
+zero-size v es = omega arith
+
+-- with no lookup the composed expression is the zero check
+pub compose-alone : (v : Numbers) (es : List Expr) → v .lookups ≡ 0 → composeTree v es ≡ zeroTree v es
+unfolding composeTree outerTrees distributePowers column
+compose-alone v es h =
+    ap (λ (n : ℕ). distributePowers (column (λ j. at (hAt v j)) n ++ (zeroTree v es ∷ [])) (Expr.challenge (v .user + 2))) h

@@ -3,6 +3,8 @@ use mathlib.Core.Path.{_≡_, refl, sym, ap, ap₂, _∙_, subst}
 use mathlib.Core.List.{List, [], _∷_, _++_, map}
 use Prim.Native.Nat.{ℕ, zero, suc, _+_, _-_, _*_, _≤_, _<_}
 use native.Mathlib.Decide.{decLt}
+use native.Mathlib.Nat.{add-zero}
+use native.Mathlib.Numerals.{add-one}
 use native.Mathlib.Omega.{arith}
 use lib.ListN.{length, getD, take, drop, length-append, drop-of-length-le}
 use lib.Seq.{drop-cons}
@@ -26,41 +28,44 @@ use Rattle.preprocessor.specs.Pieces.{exprsFrom}
 abbrev pub nth : List Expr → ℕ → Expr
 nth es i = getD es i (Expr.constant 0)
 
--- ---- from number i on
-module _ (es : List Expr) (i : ℕ) where
-  pub from-more : suc i < length es → exprsFrom es i ≡ Exprs.more (nth es i) (exprsFrom es (suc i))
+-- ---- the expressions of a list of n from number i on, whose own is e
+module _ (es : List Expr) (n : ℕ) (long : length es ≡ n) (i : ℕ) (e : Expr) (same : nth es i ≡ e) where
+  from-more : i + 1 < n → exprsFrom es i ≡ Exprs.more e (exprsFrom es (i + 1))
   unfolding exprsFrom exprsOf
-  from-more h = ap (exprsOf (nth es i)) (drop-cons es (suc i) (Expr.constant 0) h)
+  from-more h =
+      ap (exprsOf (nth es i))
+      (drop-cons es (suc i) (Expr.constant 0) (omega arith)
+      ∙ ap (λ (j : ℕ). nth es j ∷ drop (suc j) es) (sym (add-one i)))
+      ∙ ap (λ (f : Expr). Exprs.more f (exprsOf (nth es (i + 1)) (drop (suc (i + 1)) es))) same
 
-  pub from-last : length es ≤ suc i → exprsFrom es i ≡ Exprs.last (nth es i)
+  from-last : n ≤ i + 1 → exprsFrom es i ≡ Exprs.last e
   unfolding exprsFrom exprsOf
-  from-last h = ap (exprsOf (nth es i)) (drop-of-length-le es {i = suc i} h)
+  from-last h = ap (exprsOf (nth es i)) (drop-of-length-le es {i = suc i} (omega arith)) ∙ ap Exprs.last same
 
-  pub more-sizes : suc i < length es
-      → (sizes (exprsFrom es i) ≡ size (nth es i) + sizes (exprsFrom es (suc i)))
-      × (extra (exprsFrom es i) ≡ suc (extra (exprsFrom es (suc i))))
+  pub more-sizes : i + 1 < n
+      → (sizes (exprsFrom es i) ≡ size e + sizes (exprsFrom es (i + 1))) × (extra (exprsFrom es i) ≡ extra (exprsFrom es (i + 1)) + 1)
   unfolding body
-  more-sizes h = (ap sizes (from-more h), ap extra (from-more h))
+  more-sizes h = (ap sizes (from-more h), ap extra (from-more h) ∙ omega arith)
 
-  pub last-sizes : length es ≤ suc i → (sizes (exprsFrom es i) ≡ size (nth es i)) × (extra (exprsFrom es i) ≡ 0)
+  last-sizes : n ≤ i + 1 → (sizes (exprsFrom es i) ≡ size e) × (extra (exprsFrom es i) ≡ 0)
   unfolding body
   last-sizes h = (ap sizes (from-last h), ap extra (from-last h))
 
   -- there is room for the first
-  pub first-room : size (nth es i) ≤ sizes (exprsFrom es i)
-  first-room = go (decLt (suc i) (length es))
+  pub first-room : size e ≤ sizes (exprsFrom es i)
+  first-room = go (decLt (i + 1) n)
     where
-      go : Dec (suc i < length es) → size (nth es i) ≤ sizes (exprsFrom es i)
+      go : Dec (i + 1 < n) → size e ≤ sizes (exprsFrom es i)
       go (yes h) = omega (arith, more-sizes h .0)
       go (no h) = omega (arith, last-sizes (omega arith) .0)
 
   module _ {b : Expr} {at x next base : ℕ} {d d1 d2 : List ℕ} where
-    pub end-from : length es ≤ suc i → Written (nth es i) at d d1 x → WrittenBase b x d1 d2 next base
+    pub end-from : n ≤ i + 1 → Written e at d d1 x → WrittenBase b x d1 d2 next base
         → WrittenList (exprsFrom es i) b at d d2 next base
     end-from h v w = subst (λ (l : Exprs). WrittenList l b at d d2 next base) (sym (from-last h)) (list-last v w)
 
   module _ {b : Expr} {at x y next base : ℕ} {d d1 d2 d3 : List ℕ} where
-    pub more-from : suc i < length es → Written (nth es i) at d d1 x → WrittenList (exprsFrom es (suc i)) b x d1 d2 y base
+    pub more-from : i + 1 < n → Written e at d d1 x → WrittenList (exprsFrom es (i + 1)) b x d1 d2 y base
         → Pushed y 12 (x - 1) (y - 1) 1 d2 d3 next
         → WrittenList (exprsFrom es i) b at d d3 next base
     more-from h v w p =
@@ -104,21 +109,34 @@ many-size b (e ∷ (f ∷ es)) h = omega arith
 
 -- ---- products
 module _ (f : ℕ → Expr) {at next : ℕ} {d d1 : List ℕ} where
-  pub product-first : (e : Expr) → e ≡ f 0 → Written e at d d1 next → Written (productOf (column f 1)) at d d1 next
+  product-one : Written (f 0) at d d1 next → Written (productOf (column f 1)) at d d1 next
   unfolding productOf productFrom column
-  product-first e h w = written-as (sym h) w
+  product-one w = w
+
+  pub product-all : (j n : ℕ) → j ≡ n → Written (productOf (column f j)) at d d1 next → Written (productOf (column f n)) at d d1 next
+  product-all j n e w = subst (λ (m : ℕ). Written (productOf (column f m)) at d d1 next) e w
+
+-- factors that are numbered from `first` on
+module _ (f : ℕ → Expr) (first : ℕ) {at next : ℕ} {d d1 : List ℕ} where
+  pub product-first : Written (f first) at d d1 next → Written (productOf (column (λ j. f (first + j)) 1)) at d d1 next
+  product-first w = product-one (λ j. f (first + j)) (written-as (ap f (add-zero first)) w)
 
 module _ (f : ℕ → Expr) {at x y next : ℕ} {d d1 d2 d3 : List ℕ} where
   -- one factor more
-  pub product-more : (j : ℕ) → 0 < j → Written (productOf (column f j)) at d d1 x → Written (f j) x d1 d2 y
+  more-factors : (j : ℕ) → 0 < j → Written (productOf (column f j)) at d d1 x → Written (f j) x d1 d2 y
       → Pushed y 9 (x - 1) (y - 1) 0 d2 d3 next
       → Written (productOf (column f (suc j))) at d d3 next
   unfolding productOf
-  product-more zero h v w p = absurd (omega arith)
-  product-more (suc m) h v w p =
+  more-factors zero h v w p = absurd (omega arith)
+  more-factors (suc m) h v w p =
       let fs : List Expr = column (λ i. f (suc i)) m in
       written-as (ap productOf (column-suc f (suc m) ∙ ap (λ (l : List Expr). l ++ (f (suc m) ∷ [])) (column-first f m)))
       (written-factor (f 0) fs (written-as (sym (ap productOf (column-first f m))) v) w p)
+
+  pub product-more : (j : ℕ) → 0 < j → Written (productOf (column f j)) at d d1 x → Written (f j) x d1 d2 y
+      → Pushed y 9 (x - 1) (y - 1) 0 d2 d3 next
+      → Written (productOf (column f (j + 1))) at d d3 next
+  product-more j h v w p = product-all f (suc j) (j + 1) (sym (add-one j)) (more-factors j h v w p)
 
 -- the nodes of a product whose factors have s each
 module _ (s : ℕ) where

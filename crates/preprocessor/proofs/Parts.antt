@@ -18,8 +18,8 @@ use Rattle.util.proofs.All.{all-column}
 use Rattle.expression.specs.Expr.{Expr, minus, at, productOf}
 use Rattle.expression.specs.Flat.{body, size}
 use Rattle.expression.specs.Written.{Pushed, Written}
-use Rattle.expression.proofs.Written.{written-as, written-at, written-minus, written-poly}
-use Rattle.preprocessor.specs.Pieces.{Limits, partOf, identityTree, permutationTree, nextTree, partTree, zAt}
+use Rattle.expression.proofs.Written.{written-as, written-minus, written-poly, written-product, written-lagrange, written-constant}
+use Rattle.preprocessor.specs.Pieces.{Limits, partOf, identityTree, permutationTree, nextTree, partTree, startTree, zAt}
 use Rattle.preprocessor.specs.declared.compose.Numbers.{Numbers}
 use Rattle.preprocessor.proofs.Lists.{product-size}
 
@@ -146,20 +146,39 @@ part-size v l i h names =
     ap size (part-tree v l i h names m refl)
     ∙ sides-size (at (zAt v i)) (nextTree v i) (productOf (column (λ j. identityTree v names (i * v .part + j)) m)) (productOf (column (λ j. permutationTree v names (i * v .part + j)) m)) m (at-size (zAt v i)) (next-size v i) a b
 
+pub start-size : (v : Numbers) → size (startTree v) ≡ 6
+unfolding startTree body
+start-size v = refl
+
 -- ---- what is written
+next-by : (v : Numbers) (i : ℕ) (t : Bool) → ltb (suc i) (v .parts) ≡ t
+    → nextTree v i ≡ cond t (at (zAt v (suc i))) (Expr.poly (zAt v 0) (pos 1))
+unfolding nextTree
+next-by v i t e = ap (λ (s : Bool). cond s (at (zAt v (suc i))) (Expr.poly (zAt v 0) (pos 1))) e
+
 module _ (v : Numbers) (i : ℕ) {n next : ℕ} {d d1 : List ℕ} where
   -- the following part's z
-  pub next-written : suc i < v .parts → Written (at (zAt v (suc i))) n d d1 next → Written (nextTree v i) n d d1 next
-  unfolding nextTree
-  next-written h w =
-      written-as (ap (λ (t : Bool). cond t (at (zAt v (suc i))) (Expr.poly (zAt v 0) (pos 1))) (lt-ltb (suc i) (v .parts) h)) w
+  pub next-written : (q : ℕ) → q ≡ zAt v (suc i) → suc i < v .parts → Written (at q) n d d1 next → Written (nextTree v i) n d d1 next
+  next-written q e h w = written-as (next-by v i true (lt-ltb (suc i) (v .parts) h) ∙ ap at (sym e)) w
 
   -- the first z with rotation 1
-  pub around-written : v .parts ≤ suc i → Pushed n 5 (zAt v 0) 0 2147483649 d d1 next → Written (nextTree v i) n d d1 next
-  unfolding nextTree
-  around-written h p =
-      written-as (ap (λ (t : Bool). cond t (at (zAt v (suc i))) (Expr.poly (zAt v 0) (pos 1))) (le-ltb (suc i) (v .parts) h))
-      (written-poly {q = zAt v 0} {r = pos 1} p)
+  pub around-written : (q : ℕ) → q ≡ zAt v 0 → v .parts ≤ suc i → Pushed n 5 q 0 2147483649 d d1 next
+      → Written (nextTree v i) n d d1 next
+  around-written q e h p =
+      written-as (next-by v i false (le-ltb (suc i) (v .parts) h) ∙ ap (λ (z : ℕ). Expr.poly z (pos 1)) (sym e))
+      (written-poly {q = q} {r = pos 1} p)
+
+module _ (v : Numbers) {n x y z u w next : ℕ} {d d1 d2 d3 d4 d5 d6 : List ℕ} where
+  pub start-written : (q : ℕ) → q ≡ zAt v 0 → Pushed n 3 0 0 2147483649 d d1 x → Written (at q) x d1 d2 y
+      → Pushed y 1 0 0 1 d2 d3 z
+      → Pushed z 7 (z - 1) 0 0 d3 d4 u
+      → Pushed u 8 (y - 1) (u - 1) 0 d4 d5 w
+      → Pushed w 9 (x - 1) (w - 1) 0 d5 d6 next
+      → Written (startTree v) n d d6 next
+  unfolding startTree
+  start-written q e a b p r s t =
+      written-as (ap (λ (z : ℕ). Expr.product (Expr.lagrange (pos 1)) (minus (at z) (Expr.constant 1))) (sym e))
+      (written-product (written-lagrange {i = pos 1} a) (written-minus b (written-constant p) r s) t)
 
 module _ (v : Numbers) (l : Limits v) (i : ℕ) (h : i < v .parts) (names : List ℕ) (count : ℕ) {n x y z next : ℕ}
     {d d1 d2 d3 d4 : List ℕ} where

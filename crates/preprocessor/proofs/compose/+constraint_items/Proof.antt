@@ -1,3 +1,13 @@
+use Prim.Native.Nat.{ℕ, suc, _+_, _*_, _-_, _≤_, _<_}
+use Rattle.expression.specs.Expr.{Expr, distributePowers}
+use Rattle.expression.specs.Flat.{body}
+use Rattle.preprocessor.proofs.Handed as handed
+use Rattle.preprocessor.proofs.Lists as lists
+use Rattle.preprocessor.specs.Pieces.{handedTrees, numConstraints, exprsFrom}
+use borrow.Author.Needs.{needs}
+use lib.ListN.{length, getD}
+use mathlib.Core.Path.{_≡_, refl, sym, ap, _∙_}
+use native.Mathlib.Omega.{arith}
 use Prim.Native.Nat.{ℕ, _<_}
 use borrow.Fn.Kinds.{In}
 use borrow.Fn.PlainCycle.{Measures, is, falls, and}
@@ -12,7 +22,7 @@ use Rattle.preprocessor.proofs.compose.+constraint_items.{statement}
 use Rattle.preprocessor.proofs.compose.+constraint_items.Tie.{close}
 
 abbrev μ-constraint-items : Measures 6 constraint-items-kinds.ps ℕ
-μ-constraint-items κs a = ?
+μ-constraint-items κs a = numConstraints (length (a .1 .1 .0 .now)) (a .1 .1 .1 .1 .1 .1 .0) - a .1 .1 .1 .1 .1 .1 .1 .0
 
 abbrev constraint-items-at : ℕ → In 6 constraint-items-kinds.ps
 constraint-items-at t =
@@ -30,7 +40,6 @@ constraint-items-below t =
     (falls 6 constraint-items-kinds.ps _<_ μ-constraint-items t)
     constraint-items.Pre
 
--- src/compose.rt:479:9
 constraint-items-num-constraints-requires :
     (t : ℕ) → constraint-items-lts.Need-num-constraints-requires (
       num-constraints-reads.Asked,
@@ -44,9 +53,8 @@ constraint-items-num-constraints-requires :
       list-end-reads.Asked,
       list-end-reads.Learnt,
     ) (constraint-items-at t) constraint-items.Post
-constraint-items-num-constraints-requires t c κs = ?
+constraint-items-num-constraints-requires t c κs = ((c .before .before .before .before .before .before .pre .1 .0 .limits), omega arith)
 
--- src/compose.rt:480:9
 constraint-items-constraint-requires : (t : ℕ) → constraint-items-lts.Need-constraint-requires (
   num-constraints-reads.Asked,
   num-constraints-reads.Learnt,
@@ -59,9 +67,16 @@ constraint-items-constraint-requires : (t : ℕ) → constraint-items-lts.Need-c
   list-end-reads.Asked,
   list-end-reads.Learnt,
 ) (constraint-items-at t) constraint-items.Post
-constraint-items-constraint-requires t c κs = ?
+constraint-items-constraint-requires t c κs =
+    let a = (c .before .before .before .before .before .before .before .before .args) in
+    let v = a .v in
+    let es = handedTrees v (a .copied .now) (a .user .now) (a .roots .now) (a .widths .now) (a .pairs .now) in
+    let n = numConstraints (length (a .roots .now)) v in
+    let long = handed.handed-length v (a .copied .now) (a .user .now) (a .roots .now) (a .widths .now) (a .pairs .now) in
+    let e = getD es (a .i) (Expr.constant 0) in
+    let r = lists.first-room es n long (a .i) e refl in
+    ((c .before .before .before .before .before .before .before .before .pre .1 .0), ((c .before .before .before .before .before .before .before .before .pre .1 .1 .0), omega (arith, (c .before .before .before .before .before .before .before .before .pre .1 .1 .1))))
 
--- src/compose.rt:481:8
 constraint-items-add-if1 : (t : ℕ) → constraint-items-lts.Need-add-if1 (
   num-constraints-reads.Asked,
   num-constraints-reads.Learnt,
@@ -74,9 +89,8 @@ constraint-items-add-if1 : (t : ℕ) → constraint-items-lts.Need-add-if1 (
   list-end-reads.Asked,
   list-end-reads.Learnt,
 ) (constraint-items-at t) constraint-items.Post
-constraint-items-add-if1 t c = ?
+constraint-items-add-if1 t c = omega (arith, (c .before .before .before .before .before .before .before .before .before .before .before .pre .1 .1 .0), (c .before .before .before .before .num-constraints .ensures))
 
--- src/compose.rt:482:78
 constraint-items-add-constraint-items : (t : ℕ) → constraint-items-lts.Need-add-constraint-items (
   num-constraints-reads.Asked,
   num-constraints-reads.Learnt,
@@ -89,9 +103,8 @@ constraint-items-add-constraint-items : (t : ℕ) → constraint-items-lts.Need-
   list-end-reads.Asked,
   list-end-reads.Learnt,
 ) (constraint-items-at t) constraint-items.Post
-constraint-items-add-constraint-items t c = ?
+constraint-items-add-constraint-items t c = omega (arith, (c .before .if1 .taken))
 
--- src/compose.rt:482:13
 constraint-items-constraint-items-requires :
     (t : ℕ) → constraint-items-lts.Need-constraint-items-requires (
       num-constraints-reads.Asked,
@@ -105,9 +118,18 @@ constraint-items-constraint-items-requires :
       list-end-reads.Asked,
       list-end-reads.Learnt,
     ) (constraint-items-at t) constraint-items.Post
-constraint-items-constraint-items-requires t c κs = ?
+constraint-items-constraint-items-requires t c κs =
+    let a = (c .before .before .before .before .before .before .before .before .before .before .before .before .before .args) in
+    let v = a .v in
+    let es = handedTrees v (a .copied .now) (a .user .now) (a .roots .now) (a .widths .now) (a .pairs .now) in
+    let n = numConstraints (length (a .roots .now)) v in
+    let long = handed.handed-length v (a .copied .now) (a .user .now) (a .roots .now) (a .widths .now) (a .pairs .now) in
+    let e = getD es (a .i) (Expr.constant 0) in
+    let m : a .i + 1 < n = omega (arith, (c .before .if1 .taken), (c .before .before .before .before .before .before .num-constraints .ensures)) in
+    let q = lists.more-sizes es n long (a .i) e refl m in
+    let x = (c .before .before .before .before .constraint .ensures .number) in
+    (omega (arith, (c .before .before .before .before .before .before .before .before .before .before .before .before .before .pre .0)), ((c .before .before .before .before .before .before .before .before .before .before .before .before .before .pre .1 .0), (m, omega (arith, (c .before .before .before .before .before .before .before .before .before .before .before .before .before .pre .1 .1 .1)))))
 
--- src/compose.rt:483:13
 constraint-items-item-requires : (t : ℕ) → constraint-items-lts.Need-item-requires (
   num-constraints-reads.Asked,
   num-constraints-reads.Learnt,
@@ -120,9 +142,20 @@ constraint-items-item-requires : (t : ℕ) → constraint-items-lts.Need-item-re
   list-end-reads.Asked,
   list-end-reads.Learnt,
 ) (constraint-items-at t) constraint-items.Post
-constraint-items-item-requires t c κs = ?
+unfolding body
+constraint-items-item-requires t c κs =
+    let a = (c .before .before .before .before .before .before .before .before .before .before .before .before .before .before .before .before .before .args) in
+    let v = a .v in
+    let es = handedTrees v (a .copied .now) (a .user .now) (a .roots .now) (a .widths .now) (a .pairs .now) in
+    let n = numConstraints (length (a .roots .now)) v in
+    let long = handed.handed-length v (a .copied .now) (a .user .now) (a .roots .now) (a .widths .now) (a .pairs .now) in
+    let e = getD es (a .i) (Expr.constant 0) in
+    let m : a .i + 1 < n = omega (arith, (c .before .before .before .before .before .if1 .taken), (c .before .before .before .before .before .before .before .before .before .before .num-constraints .ensures)) in
+    let q = lists.more-sizes es n long (a .i) e refl m in
+    let x = (c .before .before .before .before .before .before .before .before .constraint .ensures .number) in
+    let y = (c .before .before .before .constraint-items .ensures .number) in
+    omega (arith, (c .before .before .before .before .before .before .before .before .before .before .before .before .before .before .before .before .before .pre .1 .1 .1))
 
--- src/compose.rt:484:9
 constraint-items-same-length : (t : ℕ) → constraint-items-lts.Need-same-length (
   num-constraints-reads.Asked,
   num-constraints-reads.Learnt,
@@ -135,9 +168,8 @@ constraint-items-same-length : (t : ℕ) → constraint-items-lts.Need-same-leng
   list-end-reads.Asked,
   list-end-reads.Learnt,
 ) (constraint-items-at t) constraint-items.Post
-constraint-items-same-length t c = ?
+constraint-items-same-length t c = search needs
 
--- src/compose.rt:484:9
 constraint-items-returns : (t : ℕ) → constraint-items-lts.Need-returns (
   num-constraints-reads.Asked,
   num-constraints-reads.Learnt,
@@ -150,9 +182,16 @@ constraint-items-returns : (t : ℕ) → constraint-items-lts.Need-returns (
   list-end-reads.Asked,
   list-end-reads.Learnt,
 ) (constraint-items-at t) constraint-items.Post
-constraint-items-returns t c = ?
+constraint-items-returns t c =
+    let a = (c .before .before .before .before .before .before .before .before .before .before .before .before .before .before .before .before .before .before .before .before .args) in
+    let v = a .v in
+    let es = handedTrees v (a .copied .now) (a .user .now) (a .roots .now) (a .widths .now) (a .pairs .now) in
+    let n = numConstraints (length (a .roots .now)) v in
+    let long = handed.handed-length v (a .copied .now) (a .user .now) (a .roots .now) (a .widths .now) (a .pairs .now) in
+    let e = getD es (a .i) (Expr.constant 0) in
+    let m : a .i + 1 < n = omega (arith, (c .before .before .before .before .before .before .before .before .if1 .taken), (c .before .before .before .before .before .before .before .before .before .before .before .before .before .num-constraints .ensures)) in
+    lists.more-from es n long (a .i) e refl m (c .before .before .before .before .before .before .before .before .before .before .before .constraint .ensures) (c .before .before .before .before .before .before .constraint-items .ensures) (c .before .before .item .ensures)
 
--- src/compose.rt:486:22
 constraint-items-add-list-end : (t : ℕ) → constraint-items-lts.Need-add-list-end (
   num-constraints-reads.Asked,
   num-constraints-reads.Learnt,
@@ -165,9 +204,8 @@ constraint-items-add-list-end : (t : ℕ) → constraint-items-lts.Need-add-list
   list-end-reads.Asked,
   list-end-reads.Learnt,
 ) (constraint-items-at t) constraint-items.Post
-constraint-items-add-list-end t c = ?
+constraint-items-add-list-end t c = omega (arith, (c .before .before .before .before .before .before .before .before .before .before .before .before .before .before .pre .1 .0 .limits))
 
--- src/compose.rt:486:5
 constraint-items-list-end-requires : (t : ℕ) → constraint-items-lts.Need-list-end-requires (
   num-constraints-reads.Asked,
   num-constraints-reads.Learnt,
@@ -180,9 +218,17 @@ constraint-items-list-end-requires : (t : ℕ) → constraint-items-lts.Need-lis
   list-end-reads.Asked,
   list-end-reads.Learnt,
 ) (constraint-items-at t) constraint-items.Post
-constraint-items-list-end-requires t c κs = ?
+constraint-items-list-end-requires t c κs =
+    let a = (c .before .before .before .before .before .before .before .before .before .before .before .before .before .before .args) in
+    let v = a .v in
+    let es = handedTrees v (a .copied .now) (a .user .now) (a .roots .now) (a .widths .now) (a .pairs .now) in
+    let n = numConstraints (length (a .roots .now)) v in
+    let long = handed.handed-length v (a .copied .now) (a .user .now) (a .roots .now) (a .widths .now) (a .pairs .now) in
+    let e = getD es (a .i) (Expr.constant 0) in
+    let r = lists.first-room es n long (a .i) e refl in
+    let x = (c .before .before .before .before .before .constraint .ensures .number) in
+    omega (arith, (c .before .before .before .before .before .before .before .before .before .before .before .before .before .before .pre .1 .1 .1))
 
--- src/compose.rt:465:1
 constraint-items-same-length-2 : (t : ℕ) → constraint-items-lts.Need-same-length-2 (
   num-constraints-reads.Asked,
   num-constraints-reads.Learnt,
@@ -195,9 +241,8 @@ constraint-items-same-length-2 : (t : ℕ) → constraint-items-lts.Need-same-le
   list-end-reads.Asked,
   list-end-reads.Learnt,
 ) (constraint-items-at t) constraint-items.Post
-constraint-items-same-length-2 t c = ?
+constraint-items-same-length-2 t c = search needs
 
--- src/compose.rt:465:1
 constraint-items-returns-2 : (t : ℕ) → constraint-items-lts.Need-returns-2 (
   num-constraints-reads.Asked,
   num-constraints-reads.Learnt,
@@ -210,7 +255,14 @@ constraint-items-returns-2 : (t : ℕ) → constraint-items-lts.Need-returns-2 (
   list-end-reads.Asked,
   list-end-reads.Learnt,
 ) (constraint-items-at t) constraint-items.Post
-constraint-items-returns-2 t c = ?
+constraint-items-returns-2 t c =
+    let a = (c .before .before .before .before .before .before .before .before .before .before .before .before .before .before .before .before .before .args) in
+    let v = a .v in
+    let es = handedTrees v (a .copied .now) (a .user .now) (a .roots .now) (a .widths .now) (a .pairs .now) in
+    let n = numConstraints (length (a .roots .now)) v in
+    let long = handed.handed-length v (a .copied .now) (a .user .now) (a .roots .now) (a .widths .now) (a .pairs .now) in
+    let e = getD es (a .i) (Expr.constant 0) in
+    lists.end-from es n long (a .i) e refl (omega (arith, (c .before .before .before .before .before .if1 .left), (c .before .before .before .before .before .before .before .before .before .before .num-constraints .ensures))) (c .before .before .before .before .before .before .before .before .constraint .ensures) (c .before .before .list-end .ensures)
 
 pub +constraint-items-spec : {M : Type 1} → statement M
 +constraint-items-spec = close μ-constraint-items λ t. constraint-items-lts.spec (

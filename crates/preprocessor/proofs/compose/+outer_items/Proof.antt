@@ -1,3 +1,13 @@
+use Prim.Native.Nat.{ℕ, suc, _+_, _*_, _-_, _≤_, _<_}
+use Rattle.expression.specs.Expr.{Expr, distributePowers}
+use Rattle.expression.specs.Flat.{body}
+use Rattle.preprocessor.proofs.Handed as handed
+use Rattle.preprocessor.proofs.Lists as lists
+use Rattle.preprocessor.specs.Pieces.{handedTrees, zeroTree, outerTrees, exprsFrom, hAt}
+use borrow.Author.Needs.{needs}
+use lib.IntN.{pos}
+use mathlib.Core.Path.{_≡_, refl, sym, ap, _∙_}
+use native.Mathlib.Omega.{arith}
 use Prim.Native.Nat.{ℕ, _<_}
 use borrow.Fn.Kinds.{In}
 use borrow.Fn.PlainCycle.{Measures, is, falls, and}
@@ -12,7 +22,7 @@ use Rattle.preprocessor.proofs.compose.+outer_items.{statement}
 use Rattle.preprocessor.proofs.compose.+outer_items.Tie.{close}
 
 abbrev μ-outer-items : Measures 6 outer-items-kinds.ps ℕ
-μ-outer-items κs a = ?
+μ-outer-items κs a = a .1 .1 .1 .1 .1 .1 .0 .lookups - a .1 .1 .1 .1 .1 .1 .1 .0
 
 abbrev outer-items-at : ℕ → In 6 outer-items-kinds.ps
 outer-items-at t =
@@ -22,7 +32,6 @@ abbrev outer-items-below : ℕ → In 6 outer-items-kinds.ps
 outer-items-below t =
     and 6 outer-items-kinds.ps (falls 6 outer-items-kinds.ps _<_ μ-outer-items t) outer-items.Pre
 
--- src/compose.rt:549:33
 outer-items-add-query : (t : ℕ) → outer-items-lts.Need-add-query (
   query-reads.Asked,
   query-reads.Learnt,
@@ -35,9 +44,8 @@ outer-items-add-query : (t : ℕ) → outer-items-lts.Need-add-query (
   list-end-reads.Asked,
   list-end-reads.Learnt,
 ) (outer-items-at t) outer-items.Post
-outer-items-add-query t c = ?
+outer-items-add-query t c = omega (arith, (c .before .before .before .before .before .before .before .before .before .before .pre .1 .0 .limits))
 
--- src/compose.rt:549:33
 outer-items-add-query-2 : (t : ℕ) → outer-items-lts.Need-add-query-2 (
   query-reads.Asked,
   query-reads.Learnt,
@@ -50,9 +58,8 @@ outer-items-add-query-2 : (t : ℕ) → outer-items-lts.Need-add-query-2 (
   list-end-reads.Asked,
   list-end-reads.Learnt,
 ) (outer-items-at t) outer-items.Post
-outer-items-add-query-2 t c = ?
+outer-items-add-query-2 t c = omega (arith, (c .before .before .before .before .before .before .before .before .before .before .before .pre .1 .0 .limits))
 
--- src/compose.rt:549:33
 outer-items-add-query-3 : (t : ℕ) → outer-items-lts.Need-add-query-3 (
   query-reads.Asked,
   query-reads.Learnt,
@@ -65,9 +72,8 @@ outer-items-add-query-3 : (t : ℕ) → outer-items-lts.Need-add-query-3 (
   list-end-reads.Asked,
   list-end-reads.Learnt,
 ) (outer-items-at t) outer-items.Post
-outer-items-add-query-3 t c = ?
+outer-items-add-query-3 t c = omega (arith, (c .before .before .before .before .before .before .before .before .before .before .before .pre .1 .0 .limits), (c .before .before .before .if1 .taken))
 
--- src/compose.rt:549:13
 outer-items-query-requires : (t : ℕ) → outer-items-lts.Need-query-requires (
   query-reads.Asked,
   query-reads.Learnt,
@@ -80,9 +86,8 @@ outer-items-query-requires : (t : ℕ) → outer-items-lts.Need-query-requires (
   list-end-reads.Asked,
   list-end-reads.Learnt,
 ) (outer-items-at t) outer-items.Post
-outer-items-query-requires t c κs = ?
+outer-items-query-requires t c κs = omega (arith, (c .before .before .before .before .before .before .before .before .before .before .before .pre .1 .1 .1))
 
--- src/compose.rt:550:73
 outer-items-add-outer-items : (t : ℕ) → outer-items-lts.Need-add-outer-items (
   query-reads.Asked,
   query-reads.Learnt,
@@ -95,9 +100,8 @@ outer-items-add-outer-items : (t : ℕ) → outer-items-lts.Need-add-outer-items
   list-end-reads.Asked,
   list-end-reads.Learnt,
 ) (outer-items-at t) outer-items.Post
-outer-items-add-outer-items t c = ?
+outer-items-add-outer-items t c = omega (arith, (c .before .before .before .before .before .before .before .if1 .taken), (c .before .before .before .before .before .before .before .before .before .before .before .before .before .before .before .pre .1 .0 .limits))
 
--- src/compose.rt:550:13
 outer-items-outer-items-requires : (t : ℕ) → outer-items-lts.Need-outer-items-requires (
   query-reads.Asked,
   query-reads.Learnt,
@@ -110,9 +114,20 @@ outer-items-outer-items-requires : (t : ℕ) → outer-items-lts.Need-outer-item
   list-end-reads.Asked,
   list-end-reads.Learnt,
 ) (outer-items-at t) outer-items.Post
-outer-items-outer-items-requires t c κs = ?
+unfolding body
+outer-items-outer-items-requires t c κs =
+    let a = (c .before .before .before .before .before .before .before .before .before .before .before .before .before .before .before .args) in
+    let v = a .v in
+    let hs = handedTrees v (a .copied .now) (a .user .now) (a .roots .now) (a .widths .now) (a .pairs .now) in
+    let es = outerTrees v hs in
+    let long = handed.outer-length v hs in
+    let e = Expr.poly (hAt v (a .i)) (pos 0) in
+    let same = handed.query-nth v hs (a .i) (c .before .before .before .before .before .before .before .if1 .taken) in
+    let m : a .i + 1 < suc (v .lookups) = omega (arith, (c .before .before .before .before .before .before .before .if1 .taken)) in
+    let q = lists.more-sizes es (suc (v .lookups)) long (a .i) e same m in
+    let x = (c .before .before .before .query .ensures .number) in
+    (omega (arith, (c .before .before .before .before .before .before .before .before .before .before .before .before .before .before .before .pre .0), (c .before .before .before .before .before .before .before .if1 .taken)), ((c .before .before .before .before .before .before .before .before .before .before .before .before .before .before .before .pre .1 .0), (omega (arith, (c .before .before .before .before .before .before .before .if1 .taken)), omega (arith, (c .before .before .before .before .before .before .before .before .before .before .before .before .before .before .before .pre .1 .1 .1)))))
 
--- src/compose.rt:551:13
 outer-items-item-requires : (t : ℕ) → outer-items-lts.Need-item-requires (
   query-reads.Asked,
   query-reads.Learnt,
@@ -125,9 +140,21 @@ outer-items-item-requires : (t : ℕ) → outer-items-lts.Need-item-requires (
   list-end-reads.Asked,
   list-end-reads.Learnt,
 ) (outer-items-at t) outer-items.Post
-outer-items-item-requires t c κs = ?
+unfolding body
+outer-items-item-requires t c κs =
+    let a = (c .before .before .before .before .before .before .before .before .before .before .before .before .before .before .before .before .before .before .before .args) in
+    let v = a .v in
+    let hs = handedTrees v (a .copied .now) (a .user .now) (a .roots .now) (a .widths .now) (a .pairs .now) in
+    let es = outerTrees v hs in
+    let long = handed.outer-length v hs in
+    let e = Expr.poly (hAt v (a .i)) (pos 0) in
+    let same = handed.query-nth v hs (a .i) (c .before .before .before .before .before .before .before .before .before .before .before .if1 .taken) in
+    let m : a .i + 1 < suc (v .lookups) = omega (arith, (c .before .before .before .before .before .before .before .before .before .before .before .if1 .taken)) in
+    let q = lists.more-sizes es (suc (v .lookups)) long (a .i) e same m in
+    let x = (c .before .before .before .before .before .before .before .query .ensures .number) in
+    let y = (c .before .before .before .outer-items .ensures .number) in
+    omega (arith, (c .before .before .before .before .before .before .before .before .before .before .before .before .before .before .before .before .before .before .before .pre .1 .1 .1))
 
--- src/compose.rt:552:9
 outer-items-same-length : (t : ℕ) → outer-items-lts.Need-same-length (
   query-reads.Asked,
   query-reads.Learnt,
@@ -140,9 +167,8 @@ outer-items-same-length : (t : ℕ) → outer-items-lts.Need-same-length (
   list-end-reads.Asked,
   list-end-reads.Learnt,
 ) (outer-items-at t) outer-items.Post
-outer-items-same-length t c = ?
+outer-items-same-length t c = search needs
 
--- src/compose.rt:552:9
 outer-items-returns : (t : ℕ) → outer-items-lts.Need-returns (
   query-reads.Asked,
   query-reads.Learnt,
@@ -155,9 +181,17 @@ outer-items-returns : (t : ℕ) → outer-items-lts.Need-returns (
   list-end-reads.Asked,
   list-end-reads.Learnt,
 ) (outer-items-at t) outer-items.Post
-outer-items-returns t c = ?
+outer-items-returns t c =
+    let a = (c .before .before .before .before .before .before .before .before .before .before .before .before .before .before .before .before .before .before .before .before .before .before .args) in
+    let v = a .v in
+    let hs = handedTrees v (a .copied .now) (a .user .now) (a .roots .now) (a .widths .now) (a .pairs .now) in
+    let es = outerTrees v hs in
+    let long = handed.outer-length v hs in
+    let e = Expr.poly (hAt v (a .i)) (pos 0) in
+    let same = handed.query-nth v hs (a .i) (c .before .before .before .before .before .before .before .before .before .before .before .before .before .before .if1 .taken) in
+    let m : a .i + 1 < suc (v .lookups) = omega (arith, (c .before .before .before .before .before .before .before .before .before .before .before .before .before .before .if1 .taken)) in
+    lists.more-from es (suc (v .lookups)) long (a .i) e same m (c .before .before .before .before .before .before .before .before .before .before .query .ensures) (c .before .before .before .before .before .before .outer-items .ensures) (c .before .before .item .ensures)
 
--- src/compose.rt:554:9
 outer-items-zero-check-requires : (t : ℕ) → outer-items-lts.Need-zero-check-requires (
   query-reads.Asked,
   query-reads.Learnt,
@@ -170,9 +204,18 @@ outer-items-zero-check-requires : (t : ℕ) → outer-items-lts.Need-zero-check-
   list-end-reads.Asked,
   list-end-reads.Learnt,
 ) (outer-items-at t) outer-items.Post
-outer-items-zero-check-requires t c κs = ?
+outer-items-zero-check-requires t c κs =
+    let a = (c .before .before .before .before .before .before .before .before .before .args) in
+    let v = a .v in
+    let hs = handedTrees v (a .copied .now) (a .user .now) (a .roots .now) (a .widths .now) (a .pairs .now) in
+    let es = outerTrees v hs in
+    let long = handed.outer-length v hs in
+    let last : a .i ≡ v .lookups = omega (arith, (c .before .before .before .before .before .before .before .before .before .pre .1 .1 .0), (c .before .if1 .left)) in
+    let e = zeroTree v hs in
+    let same = handed.zero-nth v hs (a .i) last in
+    let r = lists.first-room es (suc (v .lookups)) long (a .i) e same in
+    ((c .before .before .before .before .before .before .before .before .before .pre .1 .0), omega (arith, (c .before .before .before .before .before .before .before .before .before .pre .1 .1 .1)))
 
--- src/compose.rt:555:22
 outer-items-add-list-end : (t : ℕ) → outer-items-lts.Need-add-list-end (
   query-reads.Asked,
   query-reads.Learnt,
@@ -185,9 +228,8 @@ outer-items-add-list-end : (t : ℕ) → outer-items-lts.Need-add-list-end (
   list-end-reads.Asked,
   list-end-reads.Learnt,
 ) (outer-items-at t) outer-items.Post
-outer-items-add-list-end t c = ?
+outer-items-add-list-end t c = omega (arith, (c .before .before .before .before .before .before .before .before .before .before .before .before .before .before .pre .1 .0 .limits))
 
--- src/compose.rt:555:5
 outer-items-list-end-requires : (t : ℕ) → outer-items-lts.Need-list-end-requires (
   query-reads.Asked,
   query-reads.Learnt,
@@ -200,9 +242,19 @@ outer-items-list-end-requires : (t : ℕ) → outer-items-lts.Need-list-end-requ
   list-end-reads.Asked,
   list-end-reads.Learnt,
 ) (outer-items-at t) outer-items.Post
-outer-items-list-end-requires t c κs = ?
+outer-items-list-end-requires t c κs =
+    let a = (c .before .before .before .before .before .before .before .before .before .before .before .before .before .before .args) in
+    let v = a .v in
+    let hs = handedTrees v (a .copied .now) (a .user .now) (a .roots .now) (a .widths .now) (a .pairs .now) in
+    let es = outerTrees v hs in
+    let long = handed.outer-length v hs in
+    let last : a .i ≡ v .lookups = omega (arith, (c .before .before .before .before .before .before .before .before .before .before .before .before .before .before .pre .1 .1 .0), (c .before .before .before .before .before .before .if1 .left)) in
+    let e = zeroTree v hs in
+    let same = handed.zero-nth v hs (a .i) last in
+    let r = lists.first-room es (suc (v .lookups)) long (a .i) e same in
+    let x = (c .before .before .before .before .zero-check .ensures .number) in
+    omega (arith, (c .before .before .before .before .before .before .before .before .before .before .before .before .before .before .pre .1 .1 .1))
 
--- src/compose.rt:534:1
 outer-items-same-length-2 : (t : ℕ) → outer-items-lts.Need-same-length-2 (
   query-reads.Asked,
   query-reads.Learnt,
@@ -215,9 +267,8 @@ outer-items-same-length-2 : (t : ℕ) → outer-items-lts.Need-same-length-2 (
   list-end-reads.Asked,
   list-end-reads.Learnt,
 ) (outer-items-at t) outer-items.Post
-outer-items-same-length-2 t c = ?
+outer-items-same-length-2 t c = search needs
 
--- src/compose.rt:534:1
 outer-items-returns-2 : (t : ℕ) → outer-items-lts.Need-returns-2 (
   query-reads.Asked,
   query-reads.Learnt,
@@ -230,7 +281,16 @@ outer-items-returns-2 : (t : ℕ) → outer-items-lts.Need-returns-2 (
   list-end-reads.Asked,
   list-end-reads.Learnt,
 ) (outer-items-at t) outer-items.Post
-outer-items-returns-2 t c = ?
+outer-items-returns-2 t c =
+    let a = (c .before .before .before .before .before .before .before .before .before .before .before .before .before .before .before .before .before .args) in
+    let v = a .v in
+    let hs = handedTrees v (a .copied .now) (a .user .now) (a .roots .now) (a .widths .now) (a .pairs .now) in
+    let es = outerTrees v hs in
+    let long = handed.outer-length v hs in
+    let last : a .i ≡ v .lookups = omega (arith, (c .before .before .before .before .before .before .before .before .before .before .before .before .before .before .before .before .before .pre .1 .1 .0), (c .before .before .before .before .before .before .before .before .before .if1 .left)) in
+    let e = zeroTree v hs in
+    let same = handed.zero-nth v hs (a .i) last in
+    lists.end-from es (suc (v .lookups)) long (a .i) e same (omega arith) (c .before .before .before .before .before .before .before .zero-check .ensures) (c .before .before .list-end .ensures)
 
 pub +outer-items-spec : {M : Type 1} → statement M
 +outer-items-spec = close μ-outer-items λ t. outer-items-lts.spec (

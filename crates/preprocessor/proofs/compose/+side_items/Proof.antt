@@ -1,3 +1,12 @@
+use Prim.Native.Nat.{ℕ, suc, _+_, _*_, _-_, _≤_, _<_}
+use Rattle.expression.specs.Expr.{Expr, distributePowers}
+use Rattle.expression.specs.Flat.{body}
+use Rattle.expression.specs.Nodes.{exprOf}
+use Rattle.preprocessor.proofs.Handed as handed
+use Rattle.preprocessor.proofs.Lists as lists
+use Rattle.preprocessor.specs.Pieces.{sideExprs, exprsFrom}
+use borrow.Author.Needs.{needs}
+use native.Mathlib.Omega.{arith}
 use Prim.Native.Nat.{ℕ, _<_}
 use borrow.Fn.Kinds.{In}
 use borrow.Fn.PlainCycle.{Measures, is, falls, and}
@@ -12,7 +21,7 @@ use Rattle.preprocessor.proofs.compose.+side_items.{statement}
 use Rattle.preprocessor.proofs.compose.+side_items.Tie.{close}
 
 abbrev μ-side-items : Measures 3 side-items-kinds.ps ℕ
-μ-side-items κs a = ?
+μ-side-items κs a = a .1 .1 .1 .1 .1 .1 .0 - a .1 .1 .1 .1 .1 .0
 
 abbrev side-items-at : ℕ → In 3 side-items-kinds.ps
 side-items-at t =
@@ -22,7 +31,6 @@ abbrev side-items-below : ℕ → In 3 side-items-kinds.ps
 side-items-below t =
     and 3 side-items-kinds.ps (falls 3 side-items-kinds.ps _<_ μ-side-items t) side-items.Pre
 
--- src/compose.rt:307:29
 side-items-mul-index : (t : ℕ) → side-items-lts.Need-mul-index (
   index-reads.Asked,
   index-reads.Learnt,
@@ -35,9 +43,8 @@ side-items-mul-index : (t : ℕ) → side-items-lts.Need-mul-index (
   list-end-reads.Asked,
   list-end-reads.Learnt,
 ) (side-items-at t) side-items.Post
-side-items-mul-index t c = ?
+side-items-mul-index t c = omega (arith, (c .before .before .before .pre .1 .1))
 
--- src/compose.rt:307:25
 side-items-add-index : (t : ℕ) → side-items-lts.Need-add-index (
   index-reads.Asked,
   index-reads.Learnt,
@@ -50,9 +57,8 @@ side-items-add-index : (t : ℕ) → side-items-lts.Need-add-index (
   list-end-reads.Asked,
   list-end-reads.Learnt,
 ) (side-items-at t) side-items.Post
-side-items-add-index t c = ?
+side-items-add-index t c = omega (arith, (c .before .before .before .pre .1 .1))
 
--- src/compose.rt:307:19
 side-items-mul-index-2 : (t : ℕ) → side-items-lts.Need-mul-index-2 (
   index-reads.Asked,
   index-reads.Learnt,
@@ -65,9 +71,8 @@ side-items-mul-index-2 : (t : ℕ) → side-items-lts.Need-mul-index-2 (
   list-end-reads.Asked,
   list-end-reads.Learnt,
 ) (side-items-at t) side-items.Post
-side-items-mul-index-2 t c = ?
+side-items-mul-index-2 t c = omega (arith, (c .before .before .before .pre .1 .1))
 
--- src/compose.rt:307:19
 side-items-shared-slice-read-index : (t : ℕ) → side-items-lts.Need-shared-slice-read-index (
   index-reads.Asked,
   index-reads.Learnt,
@@ -80,9 +85,8 @@ side-items-shared-slice-read-index : (t : ℕ) → side-items-lts.Need-shared-sl
   list-end-reads.Asked,
   list-end-reads.Learnt,
 ) (side-items-at t) side-items.Post
-side-items-shared-slice-read-index t c = ?
+side-items-shared-slice-read-index t c = omega (arith, (c .before .before .before .before .pre .1 .1))
 
--- src/compose.rt:307:9
 side-items-index-requires : (t : ℕ) → side-items-lts.Need-index-requires (
   index-reads.Asked,
   index-reads.Learnt,
@@ -95,9 +99,8 @@ side-items-index-requires : (t : ℕ) → side-items-lts.Need-index-requires (
   list-end-reads.Asked,
   list-end-reads.Learnt,
 ) (side-items-at t) side-items.Post
-side-items-index-requires t c κs = ?
+side-items-index-requires t c κs = search needs
 
--- src/compose.rt:308:9
 side-items-copy-expr-requires : (t : ℕ) → side-items-lts.Need-copy-expr-requires (
   index-reads.Asked,
   index-reads.Learnt,
@@ -110,9 +113,16 @@ side-items-copy-expr-requires : (t : ℕ) → side-items-lts.Need-copy-expr-requ
   list-end-reads.Asked,
   list-end-reads.Learnt,
 ) (side-items-at t) side-items.Post
-side-items-copy-expr-requires t c κs = ?
+side-items-copy-expr-requires t c κs =
+    let a = (c .before .before .before .before .before .before .args) in
+    let es = sideExprs (a .user .now) (a .pairs .now) (a .s) (a .w) in
+    let long = handed.side-length (a .user .now) (a .pairs .now) (a .s) (a .w) in
+    let n = (c .before .index .result) in
+    let same = handed.side-nth (a .user .now) (a .pairs .now) (a .s) (a .w) (a .i) n (c .before .before .before .before .before .before .pre .1 .1 .1 .0) (c .before .index .ensures) in
+    let e = exprOf (a .user .now) n in
+    let r = lists.first-room es (a .w) long (a .i) e same in
+    (handed.root-node (a .user .now) (a .pairs .now) (a .s + a .i * 2) n (c .before .before .before .before .before .before .pre .1 .0) (omega (arith, (c .before .before .before .before .before .before .pre .1 .1))) (c .before .index .ensures), omega (arith, (c .before .before .before .before .before .before .pre .1 .1 .1 .1)))
 
--- src/compose.rt:309:8
 side-items-add-if1 : (t : ℕ) → side-items-lts.Need-add-if1 (
   index-reads.Asked,
   index-reads.Learnt,
@@ -125,9 +135,8 @@ side-items-add-if1 : (t : ℕ) → side-items-lts.Need-add-if1 (
   list-end-reads.Asked,
   list-end-reads.Learnt,
 ) (side-items-at t) side-items.Post
-side-items-add-if1 t c = ?
+side-items-add-if1 t c = omega (arith, (c .before .before .before .before .before .before .before .before .before .pre .1 .1 .1 .0))
 
--- src/compose.rt:310:55
 side-items-add-side-items : (t : ℕ) → side-items-lts.Need-add-side-items (
   index-reads.Asked,
   index-reads.Learnt,
@@ -140,9 +149,8 @@ side-items-add-side-items : (t : ℕ) → side-items-lts.Need-add-side-items (
   list-end-reads.Asked,
   list-end-reads.Learnt,
 ) (side-items-at t) side-items.Post
-side-items-add-side-items t c = ?
+side-items-add-side-items t c = omega (arith, (c .before .if1 .taken))
 
--- src/compose.rt:310:13
 side-items-side-items-requires : (t : ℕ) → side-items-lts.Need-side-items-requires (
   index-reads.Asked,
   index-reads.Learnt,
@@ -155,9 +163,17 @@ side-items-side-items-requires : (t : ℕ) → side-items-lts.Need-side-items-re
   list-end-reads.Asked,
   list-end-reads.Learnt,
 ) (side-items-at t) side-items.Post
-side-items-side-items-requires t c κs = ?
+side-items-side-items-requires t c κs =
+    let a = (c .before .before .before .before .before .before .before .before .before .before .before .args) in
+    let es = sideExprs (a .user .now) (a .pairs .now) (a .s) (a .w) in
+    let long = handed.side-length (a .user .now) (a .pairs .now) (a .s) (a .w) in
+    let n = (c .before .before .before .before .before .before .index .result) in
+    let same = handed.side-nth (a .user .now) (a .pairs .now) (a .s) (a .w) (a .i) n (c .before .before .before .before .before .before .before .before .before .before .before .pre .1 .1 .1 .0) (c .before .before .before .before .before .before .index .ensures) in
+    let e = exprOf (a .user .now) n in
+    let q = lists.more-sizes es (a .w) long (a .i) e same (c .before .if1 .taken) in
+    let x = (c .before .before .before .before .copy-expr .ensures .number) in
+    (omega (arith, (c .before .before .before .before .before .before .before .before .before .before .before .pre .0), (c .before .if1 .taken)), ((c .before .before .before .before .before .before .before .before .before .before .before .pre .1 .0), ((c .before .before .before .before .before .before .before .before .before .before .before .pre .1 .1 .0), ((c .before .if1 .taken), omega (arith, (c .before .before .before .before .before .before .before .before .before .before .before .pre .1 .1 .1 .1))))))
 
--- src/compose.rt:311:13
 side-items-item-requires : (t : ℕ) → side-items-lts.Need-item-requires (
   index-reads.Asked,
   index-reads.Learnt,
@@ -170,9 +186,19 @@ side-items-item-requires : (t : ℕ) → side-items-lts.Need-item-requires (
   list-end-reads.Asked,
   list-end-reads.Learnt,
 ) (side-items-at t) side-items.Post
-side-items-item-requires t c κs = ?
+unfolding body
+side-items-item-requires t c κs =
+    let a = (c .before .before .before .before .before .before .before .before .before .before .before .before .before .before .before .args) in
+    let es = sideExprs (a .user .now) (a .pairs .now) (a .s) (a .w) in
+    let long = handed.side-length (a .user .now) (a .pairs .now) (a .s) (a .w) in
+    let n = (c .before .before .before .before .before .before .before .before .before .before .index .result) in
+    let same = handed.side-nth (a .user .now) (a .pairs .now) (a .s) (a .w) (a .i) n (c .before .before .before .before .before .before .before .before .before .before .before .before .before .before .before .pre .1 .1 .1 .0) (c .before .before .before .before .before .before .before .before .before .before .index .ensures) in
+    let e = exprOf (a .user .now) n in
+    let q = lists.more-sizes es (a .w) long (a .i) e same (c .before .before .before .before .before .if1 .taken) in
+    let x = (c .before .before .before .before .before .before .before .before .copy-expr .ensures .number) in
+    let y = (c .before .before .before .side-items .ensures .number) in
+    omega (arith, (c .before .before .before .before .before .before .before .before .before .before .before .before .before .before .before .pre .1 .1 .1 .1))
 
--- src/compose.rt:312:9
 side-items-same-length : (t : ℕ) → side-items-lts.Need-same-length (
   index-reads.Asked,
   index-reads.Learnt,
@@ -185,9 +211,8 @@ side-items-same-length : (t : ℕ) → side-items-lts.Need-same-length (
   list-end-reads.Asked,
   list-end-reads.Learnt,
 ) (side-items-at t) side-items.Post
-side-items-same-length t c = ?
+side-items-same-length t c = search needs
 
--- src/compose.rt:312:9
 side-items-returns : (t : ℕ) → side-items-lts.Need-returns (
   index-reads.Asked,
   index-reads.Learnt,
@@ -200,9 +225,15 @@ side-items-returns : (t : ℕ) → side-items-lts.Need-returns (
   list-end-reads.Asked,
   list-end-reads.Learnt,
 ) (side-items-at t) side-items.Post
-side-items-returns t c = ?
+side-items-returns t c =
+    let a = (c .before .before .before .before .before .before .before .before .before .before .before .before .before .before .before .before .before .before .args) in
+    let es = sideExprs (a .user .now) (a .pairs .now) (a .s) (a .w) in
+    let long = handed.side-length (a .user .now) (a .pairs .now) (a .s) (a .w) in
+    let n = (c .before .before .before .before .before .before .before .before .before .before .before .before .before .index .result) in
+    let same = handed.side-nth (a .user .now) (a .pairs .now) (a .s) (a .w) (a .i) n (c .before .before .before .before .before .before .before .before .before .before .before .before .before .before .before .before .before .before .pre .1 .1 .1 .0) (c .before .before .before .before .before .before .before .before .before .before .before .before .before .index .ensures) in
+    let e = exprOf (a .user .now) n in
+    lists.more-from es (a .w) long (a .i) e same (c .before .before .before .before .before .before .before .before .if1 .taken) (c .before .before .before .before .before .before .before .before .before .before .before .copy-expr .ensures) (c .before .before .before .before .before .before .side-items .ensures) (c .before .before .item .ensures)
 
--- src/compose.rt:314:5
 side-items-list-end-requires : (t : ℕ) → side-items-lts.Need-list-end-requires (
   index-reads.Asked,
   index-reads.Learnt,
@@ -215,9 +246,17 @@ side-items-list-end-requires : (t : ℕ) → side-items-lts.Need-list-end-requir
   list-end-reads.Asked,
   list-end-reads.Learnt,
 ) (side-items-at t) side-items.Post
-side-items-list-end-requires t c κs = ?
+side-items-list-end-requires t c κs =
+    let a = (c .before .before .before .before .before .before .before .before .before .before .before .args) in
+    let es = sideExprs (a .user .now) (a .pairs .now) (a .s) (a .w) in
+    let long = handed.side-length (a .user .now) (a .pairs .now) (a .s) (a .w) in
+    let n = (c .before .before .before .before .before .before .index .result) in
+    let same = handed.side-nth (a .user .now) (a .pairs .now) (a .s) (a .w) (a .i) n (c .before .before .before .before .before .before .before .before .before .before .before .pre .1 .1 .1 .0) (c .before .before .before .before .before .before .index .ensures) in
+    let e = exprOf (a .user .now) n in
+    let r = lists.first-room es (a .w) long (a .i) e same in
+    let x = (c .before .before .before .before .copy-expr .ensures .number) in
+    omega (arith, (c .before .before .before .before .before .before .before .before .before .before .before .pre .1 .1 .1 .1))
 
--- src/compose.rt:294:1
 side-items-same-length-2 : (t : ℕ) → side-items-lts.Need-same-length-2 (
   index-reads.Asked,
   index-reads.Learnt,
@@ -230,9 +269,8 @@ side-items-same-length-2 : (t : ℕ) → side-items-lts.Need-same-length-2 (
   list-end-reads.Asked,
   list-end-reads.Learnt,
 ) (side-items-at t) side-items.Post
-side-items-same-length-2 t c = ?
+side-items-same-length-2 t c = search needs
 
--- src/compose.rt:294:1
 side-items-returns-2 : (t : ℕ) → side-items-lts.Need-returns-2 (
   index-reads.Asked,
   index-reads.Learnt,
@@ -245,7 +283,14 @@ side-items-returns-2 : (t : ℕ) → side-items-lts.Need-returns-2 (
   list-end-reads.Asked,
   list-end-reads.Learnt,
 ) (side-items-at t) side-items.Post
-side-items-returns-2 t c = ?
+side-items-returns-2 t c =
+    let a = (c .before .before .before .before .before .before .before .before .before .before .before .before .before .before .args) in
+    let es = sideExprs (a .user .now) (a .pairs .now) (a .s) (a .w) in
+    let long = handed.side-length (a .user .now) (a .pairs .now) (a .s) (a .w) in
+    let n = (c .before .before .before .before .before .before .before .before .before .index .result) in
+    let same = handed.side-nth (a .user .now) (a .pairs .now) (a .s) (a .w) (a .i) n (c .before .before .before .before .before .before .before .before .before .before .before .before .before .before .pre .1 .1 .1 .0) (c .before .before .before .before .before .before .before .before .before .index .ensures) in
+    let e = exprOf (a .user .now) n in
+    lists.end-from es (a .w) long (a .i) e same (c .before .before .before .before .if1 .left) (c .before .before .before .before .before .before .before .copy-expr .ensures) (c .before .before .list-end .ensures)
 
 pub +side-items-spec : {M : Type 1} → statement M
 +side-items-spec = close μ-side-items λ t. side-items-lts.spec (

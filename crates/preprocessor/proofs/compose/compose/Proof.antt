@@ -1,3 +1,12 @@
+use Prim.Native.Nat.{ℕ, suc, _+_, _*_, _-_, _≤_, _<_}
+use Rattle.expression.proofs.Written as written
+use Rattle.expression.specs.Expr.{Expr, distributePowers}
+use Rattle.expression.specs.Flat.{body, size}
+use Rattle.preprocessor.proofs.Handed as handed
+use Rattle.preprocessor.proofs.Lists as lists
+use Rattle.preprocessor.specs.Pieces.{handedTrees, zeroTree, outerTrees, composeTree, exprsFrom}
+use mathlib.Core.Path.{_≡_, refl, sym, ap, _∙_}
+use native.Mathlib.Omega.{arith}
 use borrow.Author.Needs.{needs}
 use Rattle.preprocessor.proofs.compose.compose.Statement.{statement}
 use Rattle.preprocessor.proofs.compose.compose.Tie as tie
@@ -7,33 +16,68 @@ use Rattle.preprocessor.proofs.compose.list_head.Reads as list-head-rea
 use Rattle.preprocessor.proofs.compose.outer_items.Reads as outer-items-reads
 use Rattle.preprocessor.proofs.compose.zero_check.Reads as zero-check-reads
 
--- src/compose.rt:572:9
 zero-check-requires : tie.Need-zero-check-requires
-zero-check-requires c κs = ?
+zero-check-requires c κs =
+    let a = (c .before .before .before .before .before .before .before .before .before .args) in
+    let v = a .v in
+    let hs = handedTrees v (a .copied .now) (a .user .now) (a .roots .now) (a .widths .now) (a .pairs .now) in
+    let es = outerTrees v hs in
+    let b = Expr.challenge (v .user + 2) in
+    let long = handed.outer-length v hs in
+    let q = ap size (handed.compose-alone v hs (c .before .if1 .taken)) in
+    ((c .before .before .before .before .before .before .before .before .before .pre .0), omega (arith, (c .before .before .before .before .before .before .before .before .before .pre .1)))
 
--- src/compose.rt:572:9
 same-length : tie.Need-same-length
 same-length c = search needs
 
--- src/compose.rt:572:9
 returns : tie.Need-returns
-returns c = ?
+returns c =
+    let a = (c .before .before .before .before .before .before .before .before .before .before .before .before .args) in
+    let v = a .v in
+    let hs = handedTrees v (a .copied .now) (a .user .now) (a .roots .now) (a .widths .now) (a .pairs .now) in
+    let es = outerTrees v hs in
+    let b = Expr.challenge (v .user + 2) in
+    let long = handed.outer-length v hs in
+    written.written-as (handed.compose-alone v hs (c .before .before .before .before .if1 .taken)) (c .before .before .zero-check .ensures)
 
--- src/compose.rt:574:9
 outer-items-requires : tie.Need-outer-items-requires
-outer-items-requires c κs = ?
+unfolding composeTree body
+outer-items-requires c κs =
+    let a = (c .before .before .before .before .before .before .before .before .before .args) in
+    let v = a .v in
+    let hs = handedTrees v (a .copied .now) (a .user .now) (a .roots .now) (a .widths .now) (a .pairs .now) in
+    let es = outerTrees v hs in
+    let b = Expr.challenge (v .user + 2) in
+    let long = handed.outer-length v hs in
+    let q = lists.many-size b es (omega (arith, (c .before .if1 .left))) in
+    ((c .before .before .before .before .before .before .before .before .before .pre .0), (omega arith, omega (arith, (c .before .before .before .before .before .before .before .before .before .pre .1))))
 
--- src/compose.rt:575:5
 list-head-requires : tie.Need-list-head-requires
-list-head-requires c κs = ?
+unfolding composeTree body
+list-head-requires c κs =
+    let a = (c .before .before .before .before .before .before .before .before .before .before .before .before .before .args) in
+    let v = a .v in
+    let hs = handedTrees v (a .copied .now) (a .user .now) (a .roots .now) (a .widths .now) (a .pairs .now) in
+    let es = outerTrees v hs in
+    let b = Expr.challenge (v .user + 2) in
+    let long = handed.outer-length v hs in
+    let q = lists.many-size b es (omega (arith, (c .before .before .before .before .before .if1 .left))) in
+    let y = (c .before .before .before .outer-items .ensures .number) in
+    omega (arith, (c .before .before .before .before .before .before .before .before .before .before .before .before .before .pre .1))
 
--- src/compose.rt:559:1
 same-length-2 : tie.Need-same-length-2
 same-length-2 c = search needs
 
--- src/compose.rt:559:1
 returns-2 : tie.Need-returns-2
-returns-2 c = ?
+unfolding composeTree
+returns-2 c =
+    let a = (c .before .before .before .before .before .before .before .before .before .before .before .before .before .before .before .before .args) in
+    let v = a .v in
+    let hs = handedTrees v (a .copied .now) (a .user .now) (a .roots .now) (a .widths .now) (a .pairs .now) in
+    let es = outerTrees v hs in
+    let b = Expr.challenge (v .user + 2) in
+    let long = handed.outer-length v hs in
+    lists.powers-many b es (omega (arith, (c .before .before .before .before .before .before .before .before .if1 .left))) (c .before .before .before .before .before .before .outer-items .ensures) (c .before .before .list-head .ensures)
 
 pub compose-spec : {M : Type 1} → statement M
 compose-spec =

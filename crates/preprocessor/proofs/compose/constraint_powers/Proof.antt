@@ -1,3 +1,11 @@
+use Prim.Native.Nat.{ℕ, suc, _+_, _*_, _-_, _≤_, _<_}
+use Rattle.expression.specs.Expr.{Expr, distributePowers}
+use Rattle.expression.specs.Flat.{body}
+use Rattle.preprocessor.proofs.Handed as handed
+use Rattle.preprocessor.proofs.Lists as lists
+use Rattle.preprocessor.specs.Pieces.{handedTrees, numConstraints, exprsFrom}
+use mathlib.Core.Path.{_≡_, refl, sym, ap, _∙_}
+use native.Mathlib.Omega.{arith}
 use borrow.Author.Needs.{needs}
 use Rattle.preprocessor.proofs.compose.constraint_powers.Statement.{statement}
 use Rattle.preprocessor.proofs.compose.constraint_powers.Tie as tie
@@ -9,49 +17,80 @@ use Rattle.preprocessor.proofs.compose.constraint_items.Reads as constr
 use Rattle.preprocessor.proofs.compose.list_head.Reads as list-head-reads
 use Rattle.preprocessor.proofs.compose.num_constraints.Reads as num-constraints-reads
 
--- src/compose.rt:503:9
 num-constraints-requires : tie.Need-num-constraints-requires
 num-constraints-requires c κs = search needs
 
--- src/compose.rt:505:9
 push-requires : tie.Need-push-requires
 push-requires c κs = search needs
 
--- src/compose.rt:505:9
 same-length : tie.Need-same-length
 same-length c = search needs
 
--- src/compose.rt:505:9
 returns : tie.Need-returns
-returns c = ?
+returns c =
+    let a = (c .before .before .before .before .before .before .before .before .before .before .before .before .args) in
+    let v = a .v in
+    let es = handedTrees v (a .copied .now) (a .user .now) (a .roots .now) (a .widths .now) (a .pairs .now) in
+    let long = handed.handed-length v (a .copied .now) (a .user .now) (a .roots .now) (a .widths .now) (a .pairs .now) in
+    let b = Expr.challenge (v .user + 2) in
+    lists.powers-none b es (long ∙ sym (c .before .before .before .before .before .num-constraints .ensures) ∙ (c .before .before .before .before .if1 .taken)) (c .before .before .push .ensures)
 
--- src/compose.rt:508:9
 constraint-requires : tie.Need-constraint-requires
-constraint-requires c κs = ?
+constraint-requires c κs =
+    let a = (c .before .before .before .before .before .before .before .before .before .before .args) in
+    let v = a .v in
+    let es = handedTrees v (a .copied .now) (a .user .now) (a .roots .now) (a .widths .now) (a .pairs .now) in
+    let long = handed.handed-length v (a .copied .now) (a .user .now) (a .roots .now) (a .widths .now) (a .pairs .now) in
+    let b = Expr.challenge (v .user + 2) in
+    let q = lists.one-size b es (long ∙ sym (c .before .before .before .num-constraints .ensures) ∙ (c .before .if2 .taken)) in
+    ((c .before .before .before .before .before .before .before .before .before .before .pre .0), (omega (arith, (c .before .before .before .num-constraints .ensures), (c .before .if2 .taken)), omega (arith, (c .before .before .before .before .before .before .before .before .before .before .pre .1))))
 
--- src/compose.rt:508:9
 same-length-2 : tie.Need-same-length-2
 same-length-2 c = search needs
 
--- src/compose.rt:508:9
 returns-2 : tie.Need-returns-2
-returns-2 c = ?
+returns-2 c =
+    let a = (c .before .before .before .before .before .before .before .before .before .before .before .before .before .args) in
+    let v = a .v in
+    let es = handedTrees v (a .copied .now) (a .user .now) (a .roots .now) (a .widths .now) (a .pairs .now) in
+    let long = handed.handed-length v (a .copied .now) (a .user .now) (a .roots .now) (a .widths .now) (a .pairs .now) in
+    let b = Expr.challenge (v .user + 2) in
+    lists.powers-one b es (long ∙ sym (c .before .before .before .before .before .before .num-constraints .ensures) ∙ (c .before .before .before .before .if2 .taken)) (c .before .before .constraint .ensures)
 
--- src/compose.rt:510:9
 constraint-items-requires : tie.Need-constraint-items-requires
-constraint-items-requires c κs = ?
+unfolding body
+constraint-items-requires c κs =
+    let a = (c .before .before .before .before .before .before .before .before .before .before .args) in
+    let v = a .v in
+    let es = handedTrees v (a .copied .now) (a .user .now) (a .roots .now) (a .widths .now) (a .pairs .now) in
+    let long = handed.handed-length v (a .copied .now) (a .user .now) (a .roots .now) (a .widths .now) (a .pairs .now) in
+    let b = Expr.challenge (v .user + 2) in
+    let q = lists.many-size b es (omega (arith, (c .before .before .before .num-constraints .ensures), (c .before .before .if1 .left), (c .before .if2 .left))) in
+    ((c .before .before .before .before .before .before .before .before .before .before .pre .0), (omega (arith, (c .before .before .before .num-constraints .ensures), (c .before .before .if1 .left)), omega (arith, (c .before .before .before .before .before .before .before .before .before .before .pre .1))))
 
--- src/compose.rt:511:5
 list-head-requires : tie.Need-list-head-requires
-list-head-requires c κs = ?
+unfolding body
+list-head-requires c κs =
+    let a = (c .before .before .before .before .before .before .before .before .before .before .before .before .before .before .args) in
+    let v = a .v in
+    let es = handedTrees v (a .copied .now) (a .user .now) (a .roots .now) (a .widths .now) (a .pairs .now) in
+    let long = handed.handed-length v (a .copied .now) (a .user .now) (a .roots .now) (a .widths .now) (a .pairs .now) in
+    let b = Expr.challenge (v .user + 2) in
+    let q = lists.many-size b es (omega (arith, (c .before .before .before .before .before .before .before .num-constraints .ensures), (c .before .before .before .before .before .before .if1 .left), (c .before .before .before .before .before .if2 .left))) in
+    let y = (c .before .before .before .constraint-items .ensures .number) in
+    omega (arith, (c .before .before .before .before .before .before .before .before .before .before .before .before .before .before .pre .1))
 
--- src/compose.rt:490:1
 same-length-3 : tie.Need-same-length-3
 same-length-3 c = search needs
 
--- src/compose.rt:490:1
 returns-3 : tie.Need-returns-3
-returns-3 c = ?
+returns-3 c =
+    let a = (c .before .before .before .before .before .before .before .before .before .before .before .before .before .before .before .before .before .args) in
+    let v = a .v in
+    let es = handedTrees v (a .copied .now) (a .user .now) (a .roots .now) (a .widths .now) (a .pairs .now) in
+    let long = handed.handed-length v (a .copied .now) (a .user .now) (a .roots .now) (a .widths .now) (a .pairs .now) in
+    let b = Expr.challenge (v .user + 2) in
+    lists.powers-many b es (omega (arith, (c .before .before .before .before .before .before .before .before .before .before .num-constraints .ensures), (c .before .before .before .before .before .before .before .before .before .if1 .left), (c .before .before .before .before .before .before .before .before .if2 .left))) (c .before .before .before .before .before .before .constraint-items .ensures) (c .before .before .list-head .ensures)
 
 pub constraint-powers-spec : {M : Type 1} → statement M
 constraint-powers-spec =

@@ -1,3 +1,15 @@
+use Prim.Native.Nat.{ℕ, _+_, _*_, _-_, _≤_}
+use Rattle.expression.specs.Expr.{Expr, productOf}
+use Rattle.expression.specs.Written.{Written}
+use Rattle.preprocessor.proofs.Lists as lists
+use Rattle.preprocessor.proofs.Parts as parts
+use Rattle.preprocessor.specs.Pieces.{identityTree}
+use Rattle.util.specs.Lists.{column}
+use borrow.Author.Needs.{needs}
+use lib.ListN.{length}
+use mathlib.Core.List.{List}
+use mathlib.Core.Path.{_≡_, refl, _∙_}
+use native.Mathlib.Omega.{arith}
 use Rattle.preprocessor.proofs.compose.identity_product.Statement.{statement}
 use Rattle.preprocessor.proofs.compose.identity_product.Tie as tie
 use Rattle.preprocessor.proofs.compose.identity_product.Reads as reads
@@ -6,50 +18,51 @@ use Rattle.preprocessor.proofs.compose.identity_factor.Reads as identit
 use Rattle.preprocessor.proofs.compose.product.Reads as product-reads
 
 abbrev Inv-loop : tie.InvT-loop
-Inv-loop copied out₀ v first count at x₀ j₀ out x j = ?
+Inv-loop copied out₀ v first count at x₀ j₀ out x j =
+    (1 ≤ j) × ((j ≤ count) × ((x + 1 ≡ at + j * 10) × ((length out ≡ length out₀) × ((d : List ℕ)
+    → Written (productOf (column (λ i. identityTree v copied (first + i)) 1)) at d out₀ x₀
+    → Written (productOf (column (λ i. identityTree v copied (first + i)) j)) at d out x))))
 
 abbrev μ-loop : tie.MeasureT-loop
-μ-loop copied out₀ v first count at x₀ j₀ out x j = ?
+μ-loop copied out₀ v first count at x₀ j₀ out x j = count - j
 
--- src/compose.rt:137:9
 identity-factor-requires : tie.Need-identity-factor-requires Inv-loop μ-loop
-identity-factor-requires c κs = ?
+identity-factor-requires c κs = ((c .before .before .before .pre .0), (omega arith, (omega arith, omega arith)))
 
--- src/compose.rt:139:5
 loop-holds : tie.Need-loop-holds Inv-loop μ-loop
-loop-holds c = ?
+loop-holds c = (omega arith, (omega (arith, (c .before .before .before .before .before .before .pre)), (omega (arith, (c .before .before .identity-factor .ensures .number), parts.identity-size (c .before .before .before .before .before .before .args .v) (c .before .before .before .before .before .before .args .copied .now) (c .before .before .before .before .before .before .args .first)), (refl, λ d w. w))))
 
--- src/compose.rt:140:49
 add-identity-factor : tie.Need-add-identity-factor Inv-loop μ-loop
-add-identity-factor c = ?
+add-identity-factor c = omega (arith, (c .before .before .before .before .before .before .before .before .before .pre))
 
--- src/compose.rt:140:13
 identity-factor-requires-2 : tie.Need-identity-factor-requires-2 Inv-loop μ-loop
-identity-factor-requires-2 c κs = ?
+identity-factor-requires-2 c κs = ((c .before .before .before .before .before .before .before .before .before .pre .0), (omega (arith, (c .before .before .before .before .before .before .before .before .before .pre)), (omega (arith, (c .before .before .before .before .before .before .before .before .before .pre)), omega (arith, (c .before .before .before .before .before .before .before .before .before .pre)))))
 
--- src/compose.rt:141:9
 product-requires : tie.Need-product-requires Inv-loop μ-loop
-product-requires c κs = ?
+product-requires c κs =
+    let s = parts.identity-size (c .before .before .before .before .before .before .before .before .before .before .before .before .before .args .v) (c .before .before .before .before .before .before .before .before .before .before .before .before .before .args .copied .now) ((c .before .before .before .before .before .before .before .before .before .before .before .before .before .args .first) + (c .before .before .before .before .before .before .loop .j)) in
+    let n = (c .before .before .before .identity-factor2 .ensures .number) in
+    omega (arith, (c .before .before .before .before .before .before .before .before .before .before .before .before .before .pre))
 
--- src/compose.rt:142:9
 add-j : tie.Need-add-j Inv-loop μ-loop
-add-j c = ?
+add-j c = omega (arith, (c .before .before .before .before .before .before .before .before .before .before .before .before .before .before .before .before .pre))
 
--- src/compose.rt:139:5
 loop-less : tie.Need-loop-less Inv-loop μ-loop
-loop-less c = ?
+loop-less c = omega arith
 
--- src/compose.rt:139:5
 loop-again : tie.Need-loop-again Inv-loop μ-loop
-loop-again c = ?
+loop-again c =
+    let s = parts.identity-size (c .before .before .before .before .before .before .before .before .before .before .before .before .before .before .before .before .args .v) (c .before .before .before .before .before .before .before .before .before .before .before .before .before .before .before .before .args .copied .now) ((c .before .before .before .before .before .before .before .before .before .before .before .before .before .before .before .before .args .first) + (c .before .before .before .before .before .before .before .before .before .loop .j)) in
+    let n = (c .before .before .before .before .before .before .identity-factor2 .ensures .number) in
+    (omega arith, (omega arith, (omega (arith, (c .before .before .product .ensures .number)), (omega arith, λ d w. lists.product-more (λ i. identityTree (c .before .before .before .before .before .before .before .before .before .before .before .before .before .before .before .before .args .v) (c .before .before .before .before .before .before .before .before .before .before .before .before .before .before .before .before .args .copied .now) ((c .before .before .before .before .before .before .before .before .before .before .before .before .before .before .before .before .args .first) + i)) (c .before .before .before .before .before .before .before .before .before .loop .j) (omega arith) ((c .before .before .before .before .before .before .before .before .before .loop .inv .1 .1 .1 .1) d w) (c .before .before .before .before .before .before .identity-factor2 .ensures) (c .before .before .product .ensures)))))
 
--- src/compose.rt:126:1
 same-length : tie.Need-same-length Inv-loop μ-loop
-same-length c = ?
+same-length c = search needs
 
--- src/compose.rt:126:1
 returns : tie.Need-returns Inv-loop μ-loop
-returns c = ?
+returns c =
+    let f : ℕ → Expr = identityTree (c .before .before .before .before .before .before .before .before .args .v) (c .before .before .before .before .before .before .before .before .args .copied .now) in
+    (omega arith, lists.product-all (λ i. f ((c .before .before .before .before .before .before .before .before .args .first) + i)) (c .before .loop .j) (c .before .before .before .before .before .before .before .before .args .count) (omega arith) ((c .before .loop .inv .1 .1 .1 .1) (c .before .before .before .before .before .before .before .before .args .out .now) (lists.product-first f (c .before .before .before .before .before .before .before .before .args .first) (c .before .before .before .before .identity-factor .ensures))))
 
 pub identity-product-spec : {M : Type 1} → statement M
 identity-product-spec =

@@ -1,3 +1,7 @@
+use Rattle.expression.proofs.Written as written
+use Rattle.expression.specs.Flat.{body}
+use borrow.Author.Needs.{needs}
+use native.Mathlib.Omega.{arith}
 use borrow.Author.Needs.{needs}
 use Rattle.preprocessor.proofs.compose.lookup_constraint.Statement.{statement}
 use Rattle.preprocessor.proofs.compose.lookup_constraint.Tie as tie
@@ -9,73 +13,63 @@ use Rattle.preprocessor.proofs.compose.query_side.Reads as query-side-r
 use Rattle.preprocessor.proofs.compose.side.Reads as side-reads
 use Rattle.preprocessor.proofs.compose.sum.Reads as sum-reads
 
--- src/compose.rt:392:13
 add-m : tie.Need-add-m
 add-m c = search needs
 
--- src/compose.rt:392:13
 add-m-2 : tie.Need-add-m-2
 add-m-2 c = search needs
 
--- src/compose.rt:393:13
 add-h : tie.Need-add-h
 add-h c = search needs
 
--- src/compose.rt:393:13
 add-h-2 : tie.Need-add-h-2
 add-h-2 c = search needs
 
--- src/compose.rt:393:13
 add-h-3 : tie.Need-add-h-3
 add-h-3 c = search needs
 
--- src/compose.rt:394:9
 query-side-requires : tie.Need-query-side-requires
-query-side-requires c κs = search needs
+query-side-requires c κs = ((c .before .before .before .before .before .before .before .pre .0), (omega (arith, (c .before .before .before .before .before .before .before .pre .1 .1 .1 .0)), ((c .before .before .before .before .before .before .before .pre .1 .0 .few-user), omega (arith, (c .before .before .before .before .before .before .before .pre .1 .1 .1 .1)))))
 
--- src/compose.rt:395:44
 add-side : tie.Need-add-side
 add-side c = search needs
 
--- src/compose.rt:395:9
 side-requires : tie.Need-side-requires
-side-requires c κs = ?
+unfolding body
+side-requires c κs = ((c .before .before .before .before .before .before .before .before .before .before .before .pre .0), (omega (arith, (c .before .before .before .before .before .before .before .before .before .before .before .pre .1 .1 .1 .0)), ((c .before .before .before .before .before .before .before .before .before .before .before .pre .1 .0 .few-user), omega (arith, (c .before .before .before .before .before .before .before .before .before .before .before .pre .1 .1 .1 .1), (c .before .before .before .query-side .ensures .number)))))
 
--- src/compose.rt:396:9
 product-requires : tie.Need-product-requires
-product-requires c κs = ?
+unfolding body
+product-requires c κs = omega (arith, (c .before .before .before .before .before .before .before .before .before .before .before .before .before .before .before .pre .1 .1 .1 .1), (c .before .before .before .before .before .before .before .query-side .ensures .number), (c .before .before .before .side .ensures .number))
 
--- src/compose.rt:397:44
 add-side-2 : tie.Need-add-side-2
-add-side-2 c = ?
+add-side-2 c = omega (arith, (c .before .before .before .before .before .before .before .before .before .before .before .before .before .before .before .before .before .before .before .pre .1 .1 .1 .0), (c .before .before .before .before .before .before .before .before .before .before .before .before .before .before .before .before .before .before .before .good .1 .0 .1))
 
--- src/compose.rt:397:9
 side-requires-2 : tie.Need-side-requires-2
-side-requires-2 c κs = ?
+unfolding body
+side-requires-2 c κs = ((c .before .before .before .before .before .before .before .before .before .before .before .before .before .before .before .before .before .before .before .pre .0), (omega (arith, (c .before .before .before .before .before .before .before .before .before .before .before .before .before .before .before .before .before .before .before .pre .1 .1 .1 .0)), ((c .before .before .before .before .before .before .before .before .before .before .before .before .before .before .before .before .before .before .before .pre .1 .0 .few-user), omega (arith, (c .before .before .before .before .before .before .before .before .before .before .before .before .before .before .before .before .before .before .before .pre .1 .1 .1 .1), (c .before .before .before .before .before .before .before .before .before .before .before .query-side .ensures .number), (c .before .before .before .before .before .before .before .side .ensures .number), (c .before .before .before .product .ensures .number)))))
 
--- src/compose.rt:398:9
 negated-requires : tie.Need-negated-requires
-negated-requires c κs = ?
+unfolding body
+negated-requires c κs = omega (arith, (c .before .before .before .before .before .before .before .before .before .before .before .before .before .before .before .before .before .before .before .before .before .before .before .pre .1 .1 .1 .1), (c .before .before .before .before .before .before .before .before .before .before .before .before .before .before .before .query-side .ensures .number), (c .before .before .before .before .before .before .before .before .before .before .before .side .ensures .number), (c .before .before .before .before .before .before .before .product .ensures .number), (c .before .before .before .side2 .ensures .number))
 
--- src/compose.rt:399:9
 sum-requires : tie.Need-sum-requires
-sum-requires c κs = ?
+unfolding body
+sum-requires c κs = omega (arith, (c .before .before .before .before .before .before .before .before .before .before .before .before .before .before .before .before .before .before .before .before .before .before .before .before .before .before .before .pre .1 .1 .1 .1), (c .before .before .before .before .before .before .before .before .before .before .before .before .before .before .before .before .before .before .before .query-side .ensures .number), (c .before .before .before .before .before .before .before .before .before .before .before .before .before .before .before .side .ensures .number), (c .before .before .before .before .before .before .before .before .before .before .before .product .ensures .number), (c .before .before .before .before .before .before .before .side2 .ensures .number), (c .before .before .before .negated .ensures .number))
 
--- src/compose.rt:400:9
 query-side-requires-2 : tie.Need-query-side-requires-2
-query-side-requires-2 c κs = ?
+unfolding body
+query-side-requires-2 c κs = ((c .before .before .before .before .before .before .before .before .before .before .before .before .before .before .before .before .before .before .before .before .before .before .before .before .before .before .before .before .before .before .before .pre .0), (omega (arith, (c .before .before .before .before .before .before .before .before .before .before .before .before .before .before .before .before .before .before .before .before .before .before .before .before .before .before .before .before .before .before .before .pre .1 .1 .1 .0)), ((c .before .before .before .before .before .before .before .before .before .before .before .before .before .before .before .before .before .before .before .before .before .before .before .before .before .before .before .before .before .before .before .pre .1 .0 .few-user), omega (arith, (c .before .before .before .before .before .before .before .before .before .before .before .before .before .before .before .before .before .before .before .before .before .before .before .before .before .before .before .before .before .before .before .pre .1 .1 .1 .1), (c .before .before .before .before .before .before .before .before .before .before .before .before .before .before .before .before .before .before .before .before .before .before .before .query-side .ensures .number), (c .before .before .before .before .before .before .before .before .before .before .before .before .before .before .before .before .before .before .before .side .ensures .number), (c .before .before .before .before .before .before .before .before .before .before .before .before .before .before .before .product .ensures .number), (c .before .before .before .before .before .before .before .before .before .before .before .side2 .ensures .number), (c .before .before .before .before .before .before .before .negated .ensures .number), (c .before .before .before .sum .ensures .number)))))
 
--- src/compose.rt:401:5
 sum-requires-2 : tie.Need-sum-requires-2
-sum-requires-2 c κs = ?
+unfolding body
+sum-requires-2 c κs = omega (arith, (c .before .before .before .before .before .before .before .before .before .before .before .before .before .before .before .before .before .before .before .before .before .before .before .before .before .before .before .before .before .before .before .before .before .before .before .pre .1 .1 .1 .1), (c .before .before .before .before .before .before .before .before .before .before .before .before .before .before .before .before .before .before .before .before .before .before .before .before .before .before .before .query-side .ensures .number), (c .before .before .before .before .before .before .before .before .before .before .before .before .before .before .before .before .before .before .before .before .before .before .before .side .ensures .number), (c .before .before .before .before .before .before .before .before .before .before .before .before .before .before .before .before .before .before .before .product .ensures .number), (c .before .before .before .before .before .before .before .before .before .before .before .before .before .before .before .side2 .ensures .number), (c .before .before .before .before .before .before .before .before .before .before .before .negated .ensures .number), (c .before .before .before .before .before .before .before .sum .ensures .number), (c .before .before .before .query-side2 .ensures .number))
 
--- src/compose.rt:379:1
 same-length : tie.Need-same-length
-same-length c = ?
+same-length c = omega (arith, (c .before .before .before .before .before .before .before .before .before .before .before .before .before .before .before .before .before .before .before .before .before .before .before .before .before .before .before .before .before .out .given), (c .before .before .before .before .before .before .before .before .before .before .before .before .before .before .before .before .before .before .before .before .before .before .before .before .before .out2 .given), (c .before .before .before .before .before .before .before .before .before .before .before .before .before .before .before .before .before .before .before .before .before .out3 .given), (c .before .before .before .before .before .before .before .before .before .before .before .before .before .before .before .before .before .out4 .given), (c .before .before .before .before .before .before .before .before .before .before .before .before .before .out5 .given), (c .before .before .before .before .before .before .before .before .before .out6 .given), (c .before .before .before .before .before .out7 .given), (c .before .out8 .given))
 
--- src/compose.rt:379:1
 returns : tie.Need-returns
-returns c = ?
+returns c = written.written-sum (written.written-minus (written.written-product (c .before .before .before .before .before .before .before .before .before .before .before .before .before .before .before .before .before .before .before .before .before .before .before .before .before .before .before .before .before .before .query-side .ensures) (c .before .before .before .before .before .before .before .before .before .before .before .before .before .before .before .before .before .before .before .before .before .before .before .before .before .before .side .ensures) (c .before .before .before .before .before .before .before .before .before .before .before .before .before .before .before .before .before .before .before .before .before .before .product .ensures)) (c .before .before .before .before .before .before .before .before .before .before .before .before .before .before .before .before .before .before .side2 .ensures) (c .before .before .before .before .before .before .before .before .before .before .before .before .before .before .negated .ensures) (c .before .before .before .before .before .before .before .before .before .before .sum .ensures)) (c .before .before .before .before .before .before .query-side2 .ensures) (c .before .before .sum2 .ensures)
 
 pub lookup-constraint-spec : {M : Type 1} → statement M
 lookup-constraint-spec =

@@ -1,3 +1,5 @@
+use Rattle.preprocessor.proofs.Parts as parts
+use native.Mathlib.Omega.{arith}
 use borrow.Author.Needs.{needs}
 use Rattle.preprocessor.proofs.compose.next_z.Statement.{statement}
 use Rattle.preprocessor.proofs.compose.next_z.Tie as tie
@@ -6,53 +8,41 @@ use Rattle.preprocessor.proofs.compose.next_z.Lts as lts
 use Rattle.expression.proofs.copy.push.Reads as push-reads
 use Rattle.preprocessor.proofs.compose.query.Reads as query-reads
 
--- src/compose.rt:176:13
 add-z : tie.Need-add-z
 add-z c = search needs
 
--- src/compose.rt:176:34
 mul-z : tie.Need-mul-z
 mul-z c = search needs
 
--- src/compose.rt:176:13
 add-z-2 : tie.Need-add-z-2
 add-z-2 c = search needs
 
--- src/compose.rt:177:8
 add-if1 : tie.Need-add-if1
 add-if1 c = search needs
 
--- src/compose.rt:178:37
 add-query : tie.Need-add-query
 add-query c = search needs
 
--- src/compose.rt:178:32
 add-query-2 : tie.Need-add-query-2
 add-query-2 c = search needs
 
--- src/compose.rt:178:9
 query-requires : tie.Need-query-requires
 query-requires c κs = search needs
 
--- src/compose.rt:178:9
 same-length : tie.Need-same-length
 same-length c = search needs
 
--- src/compose.rt:178:9
 returns : tie.Need-returns
-returns c = ?
+returns c = parts.next-written (c .before .before .before .before .before .before .before .before .before .args .v) (c .before .before .before .before .before .before .before .before .before .args .i) _ (omega arith) (omega (arith, (c .before .before .before .before .if1 .taken))) (c .before .before .query .ensures)
 
--- src/compose.rt:180:5
 push-requires : tie.Need-push-requires
 push-requires c κs = search needs
 
--- src/compose.rt:172:1
 same-length-2 : tie.Need-same-length-2
 same-length-2 c = search needs
 
--- src/compose.rt:172:1
 returns-2 : tie.Need-returns-2
-returns-2 c = ?
+returns-2 c = parts.around-written (c .before .before .before .before .before .before .before .before .before .args .v) (c .before .before .before .before .before .before .before .before .before .args .i) _ (omega arith) (omega (arith, (c .before .before .before .before .if1 .left))) (c .before .before .push .ensures)
 
 pub next-z-spec : {M : Type 1} → statement M
 next-z-spec =

@@ -1,32 +1,30 @@
+use Rattle.preprocessor.proofs.Handed as handed
+use Rattle.preprocessor.proofs.Parts as parts
+use mathlib.Core.Path.{sym}
+use native.Mathlib.Omega.{arith}
 use borrow.Author.Needs.{needs}
 use Rattle.preprocessor.proofs.compose.num_constraints.Statement.{statement}
 use Rattle.preprocessor.proofs.compose.num_constraints.Tie as tie
 use Rattle.preprocessor.proofs.compose.num_constraints.Reads as reads
 use Rattle.preprocessor.proofs.compose.num_constraints.Lts as lts
 
--- src/compose.rt:426:16
 add-result : tie.Need-add-result
 add-result c = search needs
 
--- src/compose.rt:426:9
 returns : tie.Need-returns
-returns c = ?
+returns c = sym (handed.num-none (c .before .before .before .args .own) (c .before .before .before .args .v) (c .before .if1 .taken))
 
--- src/compose.rt:428:5
 add-result-2 : tie.Need-add-result-2
 add-result-2 c = search needs
 
--- src/compose.rt:428:24
 add-result-3 : tie.Need-add-result-3
-add-result-3 c = ?
+add-result-3 c = let f = parts.parts-few (c .before .before .before .before .args .v) (c .before .before .before .before .pre .0) in omega (arith, (c .before .before .before .before .pre))
 
--- src/compose.rt:428:5
 add-result-4 : tie.Need-add-result-4
-add-result-4 c = ?
+add-result-4 c = let f = parts.parts-few (c .before .before .before .before .args .v) (c .before .before .before .before .pre .0) in omega (arith, (c .before .before .before .before .pre))
 
--- src/compose.rt:421:1
 returns-2 : tie.Need-returns-2
-returns-2 c = ?
+returns-2 c = sym (handed.num-some (c .before .before .before .before .args .own) (c .before .before .before .before .args .v) (c .before .before .if1 .left))
 
 pub num-constraints-spec : {M : Type 1} → statement M
 num-constraints-spec =

@@ -1,3 +1,10 @@
+use Prim.Native.Nat.{ℕ, suc, _≤_, _-_}
+use Rattle.preprocessor.proofs.Handed as handed
+use Rattle.util.specs.Lists.{total}
+use borrow.Author.Needs.{needs}
+use lib.ListN.{take}
+use mathlib.Core.Path.{_≡_, sym, ap, _∙_}
+use native.Mathlib.Omega.{arith}
 use Rattle.preprocessor.proofs.compose.pairs_before.Statement.{statement}
 use Rattle.preprocessor.proofs.compose.pairs_before.Tie as tie
 use Rattle.preprocessor.proofs.compose.pairs_before.Reads as reads
@@ -5,46 +12,43 @@ use Rattle.preprocessor.proofs.compose.pairs_before.Lts as lts
 use Rattle.expression.proofs.node.index.Reads as index-reads
 
 abbrev Inv-loop : tie.InvT-loop
-Inv-loop widths j sum₀ i₀ sum i = ?
+Inv-loop widths j sum₀ i₀ sum i = (i ≤ j) × (sum ≡ total (take i widths))
 
 abbrev μ-loop : tie.MeasureT-loop
-μ-loop widths j sum₀ i₀ sum i = ?
+μ-loop widths j sum₀ i₀ sum i = j - i
 
--- src/compose.rt:411:5
 loop-holds : tie.Need-loop-holds Inv-loop μ-loop
-loop-holds c = ?
+loop-holds c = (omega arith, sym (handed.total-none (c .before .args .widths .now)))
 
--- src/compose.rt:412:22
 mul-index : tie.Need-mul-index Inv-loop μ-loop
-mul-index c = ?
+mul-index c = omega arith
 
--- src/compose.rt:412:22
 shared-slice-read-index : tie.Need-shared-slice-read-index Inv-loop μ-loop
-shared-slice-read-index c = ?
+shared-slice-read-index c = omega arith
 
--- src/compose.rt:412:16
 index-requires : tie.Need-index-requires Inv-loop μ-loop
-index-requires c κs = ?
+index-requires c κs = search needs
 
--- src/compose.rt:412:9
 add-sum : tie.Need-add-sum Inv-loop μ-loop
-add-sum c = ?
+add-sum c =
+    let ws = (c .before .before .before .before .before .args .widths .now) in
+    let i = (c .before .before .before .loop .i) in
+    let e = (c .index .ensures) in
+    let p = handed.total-more ws i (omega arith) in
+    let q = handed.total-first ws (suc i) in
+    omega arith
 
--- src/compose.rt:413:9
 add-i : tie.Need-add-i Inv-loop μ-loop
-add-i c = ?
+add-i c = omega arith
 
--- src/compose.rt:411:5
 loop-less : tie.Need-loop-less Inv-loop μ-loop
-loop-less c = ?
+loop-less c = omega arith
 
--- src/compose.rt:411:5
 loop-again : tie.Need-loop-again Inv-loop μ-loop
-loop-again c = ?
+loop-again c = (omega arith, handed.total-step (c .before .before .before .before .before .args .widths .now) (c .before .before .before .loop .i) (c .before .before .before .loop .sum) (c .index .result) (omega arith) (c .before .before .before .loop .inv .1) (c .index .ensures))
 
--- src/compose.rt:405:1
 returns : tie.Need-returns Inv-loop μ-loop
-returns c = ?
+returns c = let e : (c .before .loop .i) ≡ (c .before .before .before .args .j) = omega arith in (c .before .loop .inv .1) ∙ ap (λ (k : ℕ). total (take k (c .before .before .before .args .widths .now))) e
 
 pub pairs-before-spec : {M : Type 1} → statement M
 pairs-before-spec =

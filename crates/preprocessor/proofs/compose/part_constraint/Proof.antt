@@ -1,3 +1,5 @@
+use Rattle.preprocessor.proofs.Parts as parts
+use native.Mathlib.Omega.{arith}
 use borrow.Author.Needs.{needs}
 use Rattle.preprocessor.proofs.compose.part_constraint.Statement.{statement}
 use Rattle.preprocessor.proofs.compose.part_constraint.Tie as tie
@@ -9,37 +11,35 @@ use Rattle.preprocessor.proofs.compose.sum.Reads as sum-reads
 use Rattle.preprocessor.proofs.compose.z_identities.Reads as z-identities-reads
 use Rattle.preprocessor.proofs.compose.z_permutations.Reads as z-permutations-reads
 
--- src/compose.rt:236:9
 part-count-requires : tie.Need-part-count-requires
 part-count-requires c κs = search needs
 
--- src/compose.rt:237:17
 mul-first : tie.Need-mul-first
 mul-first c = search needs
 
--- src/compose.rt:238:9
 z-identities-requires : tie.Need-z-identities-requires
-z-identities-requires c κs = ?
+z-identities-requires c κs =
+    let f = parts.parts-few (c .before .before .before .before .before .args .v) (c .before .before .before .before .before .pre .0) in
+    let n = (c .before .before .part-count .ensures .0) in
+    ((c .before .before .before .before .before .pre .0), (omega (arith, (c .before .before .before .before .before .pre)), ((c .before .before .part-count .ensures .1 .0), ((c .before .before .part-count .ensures .1 .1), ((c .before .before .before .before .before .pre .1 .1 .0), omega (arith, (c .before .before .before .before .before .pre .1 .1 .1)))))))
 
--- src/compose.rt:239:9
 z-permutations-requires : tie.Need-z-permutations-requires
-z-permutations-requires c κs = ?
+z-permutations-requires c κs =
+    let f = parts.parts-few (c .before .before .before .before .before .before .before .before .before .args .v) (c .before .before .before .before .before .before .before .before .before .pre .0) in
+    let n = (c .before .before .before .before .before .before .part-count .ensures .0) in
+    ((c .before .before .before .before .before .before .before .before .before .pre .0), (omega (arith, (c .before .before .before .before .before .before .before .before .before .pre .0), (c .before .before .before .before .before .before .before .before .before .pre .1 .0)), ((c .before .before .before .before .before .before .part-count .ensures .1 .0), ((c .before .before .before .before .before .before .part-count .ensures .1 .1), ((c .before .before .before .before .before .before .before .before .before .pre .1 .1 .0), omega (arith, (c .before .before .before .before .before .before .before .before .before .pre .1 .1 .1), (c .before .before .before .z-identities .ensures .0)))))))
 
--- src/compose.rt:240:9
 negated-requires : tie.Need-negated-requires
-negated-requires c κs = ?
+negated-requires c κs = omega (arith, (c .before .before .before .before .before .before .before .before .before .before .before .before .before .pre .1 .1 .1), (c .before .before .before .before .before .before .before .z-identities .ensures .0), (c .before .before .before .z-permutations .ensures .0), (c .before .before .before .before .before .before .before .before .before .before .part-count .ensures .0))
 
--- src/compose.rt:241:5
 sum-requires : tie.Need-sum-requires
-sum-requires c κs = ?
+sum-requires c κs = omega (arith, (c .before .before .before .before .before .before .before .before .before .before .before .before .before .before .before .before .before .pre .1 .1 .1), (c .before .before .before .before .before .before .before .before .before .before .before .z-identities .ensures .0), (c .before .before .before .before .before .before .before .z-permutations .ensures .0), (c .before .before .before .before .before .before .before .before .before .before .before .before .before .before .part-count .ensures .0), (c .before .before .before .negated .ensures .number))
 
--- src/compose.rt:232:1
 same-length : tie.Need-same-length
 same-length c = search needs
 
--- src/compose.rt:232:1
 returns : tie.Need-returns
-returns c = ?
+returns c = parts.part-written (c .before .before .before .before .before .before .before .before .before .before .before .before .before .before .before .before .before .before .before .before .args .v) (c .before .before .before .before .before .before .before .before .before .before .before .before .before .before .before .before .before .before .before .before .pre .0) (c .before .before .before .before .before .before .before .before .before .before .before .before .before .before .before .before .before .before .before .before .args .i) (c .before .before .before .before .before .before .before .before .before .before .before .before .before .before .before .before .before .before .before .before .pre .1 .0) (c .before .before .before .before .before .before .before .before .before .before .before .before .before .before .before .before .before .before .before .before .args .copied .now) (c .before .before .before .before .before .before .before .before .before .before .before .before .before .before .before .before .before .part-count .result) (c .before .before .before .before .before .before .before .before .before .before .before .before .before .before .before .before .before .part-count .ensures .0) (c .before .before .before .before .before .before .before .before .before .before .before .before .before .before .z-identities .ensures .1) (c .before .before .before .before .before .before .before .before .before .before .z-permutations .ensures .1) (c .before .before .before .before .before .before .negated .ensures) (c .before .before .sum .ensures)
 
 pub part-constraint-spec : {M : Type 1} → statement M
 part-constraint-spec =

@@ -1,23 +1,27 @@
+use Rattle.preprocessor.proofs.Parts as parts
+use native.Mathlib.Omega.{arith}
 use Rattle.preprocessor.proofs.compose.part_count.Statement.{statement}
 use Rattle.preprocessor.proofs.compose.part_count.Tie as tie
 use Rattle.preprocessor.proofs.compose.part_count.Reads as reads
 use Rattle.preprocessor.proofs.compose.part_count.Lts as lts
 
--- src/compose.rt:188:27
 mul-left : tie.Need-mul-left
-mul-left c = ?
+mul-left c = let a = parts.part-start (c .before .args .v) (c .before .pre .0) (c .before .args .i) (c .before .pre .1) in omega (arith, (c .before .pre))
 
--- src/compose.rt:188:16
 sub-left : tie.Need-sub-left
-sub-left c = ?
+sub-left c = let a = parts.part-start (c .before .before .args .v) (c .before .before .pre .0) (c .before .before .args .i) (c .before .before .pre .1) in omega arith
 
--- src/compose.rt:190:9
 returns : tie.Need-returns
-returns c = ?
+returns c =
+    let a = parts.part-start (c .before .before .before .before .args .v) (c .before .before .before .before .pre .0) (c .before .before .before .before .args .i) (c .before .before .before .before .pre .1) in
+    let b = parts.part-length (c .before .before .before .before .args .v) (c .before .before .before .before .pre .0) (c .before .before .before .before .args .i) (c .before .before .before .before .pre .1) in
+    (omega arith, (omega arith, omega arith))
 
--- src/compose.rt:184:1
 returns-2 : tie.Need-returns-2
-returns-2 c = ?
+returns-2 c =
+    let a = parts.part-start (c .before .before .before .before .args .v) (c .before .before .before .before .pre .0) (c .before .before .before .before .args .i) (c .before .before .before .before .pre .1) in
+    let b = parts.part-length (c .before .before .before .before .args .v) (c .before .before .before .before .pre .0) (c .before .before .before .before .args .i) (c .before .before .before .before .pre .1) in
+    (omega arith, (omega (arith, (c .before .before .before .before .pre)), omega arith))
 
 pub part-count-spec : {M : Type 1} → statement M
 part-count-spec = tie.close (tie.spec mul-left sub-left returns returns-2)

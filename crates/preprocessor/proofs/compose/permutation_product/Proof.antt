@@ -1,3 +1,15 @@
+use Prim.Native.Nat.{ℕ, _+_, _*_, _-_, _≤_}
+use Rattle.expression.specs.Expr.{Expr, productOf}
+use Rattle.expression.specs.Written.{Written}
+use Rattle.preprocessor.proofs.Lists as lists
+use Rattle.preprocessor.proofs.Parts as parts
+use Rattle.preprocessor.specs.Pieces.{permutationTree}
+use Rattle.util.specs.Lists.{column}
+use borrow.Author.Needs.{needs}
+use lib.ListN.{length}
+use mathlib.Core.List.{List}
+use mathlib.Core.Path.{_≡_, refl, _∙_}
+use native.Mathlib.Omega.{arith}
 use Rattle.preprocessor.proofs.compose.permutation_product.Statement.{statement}
 use Rattle.preprocessor.proofs.compose.permutation_product.Tie as tie
 use Rattle.preprocessor.proofs.compose.permutation_product.Reads as reads
@@ -6,50 +18,51 @@ use Rattle.preprocessor.proofs.compose.permutation_factor.Reads as perm
 use Rattle.preprocessor.proofs.compose.product.Reads as product-reads
 
 abbrev Inv-loop : tie.InvT-loop
-Inv-loop copied out₀ v first count at x₀ j₀ out x j = ?
+Inv-loop copied out₀ v first count at x₀ j₀ out x j =
+    (1 ≤ j) × ((j ≤ count) × ((x + 1 ≡ at + j * 8) × ((length out ≡ length out₀) × ((d : List ℕ)
+    → Written (productOf (column (λ i. permutationTree v copied (first + i)) 1)) at d out₀ x₀
+    → Written (productOf (column (λ i. permutationTree v copied (first + i)) j)) at d out x))))
 
 abbrev μ-loop : tie.MeasureT-loop
-μ-loop copied out₀ v first count at x₀ j₀ out x j = ?
+μ-loop copied out₀ v first count at x₀ j₀ out x j = count - j
 
--- src/compose.rt:159:9
 permutation-factor-requires : tie.Need-permutation-factor-requires Inv-loop μ-loop
-permutation-factor-requires c κs = ?
+permutation-factor-requires c κs = ((c .before .before .before .pre .0), (omega arith, (omega arith, omega arith)))
 
--- src/compose.rt:161:5
 loop-holds : tie.Need-loop-holds Inv-loop μ-loop
-loop-holds c = ?
+loop-holds c = (omega arith, (omega (arith, (c .before .before .before .before .before .before .pre)), (omega (arith, (c .before .before .permutation-factor .ensures .number), parts.permutation-size (c .before .before .before .before .before .before .args .v) (c .before .before .before .before .before .before .args .copied .now) (c .before .before .before .before .before .before .args .first)), (refl, λ d w. w))))
 
--- src/compose.rt:162:52
 add-permutation-factor : tie.Need-add-permutation-factor Inv-loop μ-loop
-add-permutation-factor c = ?
+add-permutation-factor c = omega (arith, (c .before .before .before .before .before .before .before .before .before .pre))
 
--- src/compose.rt:162:13
 permutation-factor-requires-2 : tie.Need-permutation-factor-requires-2 Inv-loop μ-loop
-permutation-factor-requires-2 c κs = ?
+permutation-factor-requires-2 c κs = ((c .before .before .before .before .before .before .before .before .before .pre .0), (omega (arith, (c .before .before .before .before .before .before .before .before .before .pre)), (omega (arith, (c .before .before .before .before .before .before .before .before .before .pre)), omega (arith, (c .before .before .before .before .before .before .before .before .before .pre)))))
 
--- src/compose.rt:163:9
 product-requires : tie.Need-product-requires Inv-loop μ-loop
-product-requires c κs = ?
+product-requires c κs =
+    let s = parts.permutation-size (c .before .before .before .before .before .before .before .before .before .before .before .before .before .args .v) (c .before .before .before .before .before .before .before .before .before .before .before .before .before .args .copied .now) ((c .before .before .before .before .before .before .before .before .before .before .before .before .before .args .first) + (c .before .before .before .before .before .before .loop .j)) in
+    let n = (c .before .before .before .permutation-factor2 .ensures .number) in
+    omega (arith, (c .before .before .before .before .before .before .before .before .before .before .before .before .before .pre))
 
--- src/compose.rt:164:9
 add-j : tie.Need-add-j Inv-loop μ-loop
-add-j c = ?
+add-j c = omega (arith, (c .before .before .before .before .before .before .before .before .before .before .before .before .before .before .before .before .pre))
 
--- src/compose.rt:161:5
 loop-less : tie.Need-loop-less Inv-loop μ-loop
-loop-less c = ?
+loop-less c = omega arith
 
--- src/compose.rt:161:5
 loop-again : tie.Need-loop-again Inv-loop μ-loop
-loop-again c = ?
+loop-again c =
+    let s = parts.permutation-size (c .before .before .before .before .before .before .before .before .before .before .before .before .before .before .before .before .args .v) (c .before .before .before .before .before .before .before .before .before .before .before .before .before .before .before .before .args .copied .now) ((c .before .before .before .before .before .before .before .before .before .before .before .before .before .before .before .before .args .first) + (c .before .before .before .before .before .before .before .before .before .loop .j)) in
+    let n = (c .before .before .before .before .before .before .permutation-factor2 .ensures .number) in
+    (omega arith, (omega arith, (omega (arith, (c .before .before .product .ensures .number)), (omega arith, λ d w. lists.product-more (λ i. permutationTree (c .before .before .before .before .before .before .before .before .before .before .before .before .before .before .before .before .args .v) (c .before .before .before .before .before .before .before .before .before .before .before .before .before .before .before .before .args .copied .now) ((c .before .before .before .before .before .before .before .before .before .before .before .before .before .before .before .before .args .first) + i)) (c .before .before .before .before .before .before .before .before .before .loop .j) (omega arith) ((c .before .before .before .before .before .before .before .before .before .loop .inv .1 .1 .1 .1) d w) (c .before .before .before .before .before .before .permutation-factor2 .ensures) (c .before .before .product .ensures)))))
 
--- src/compose.rt:148:1
 same-length : tie.Need-same-length Inv-loop μ-loop
-same-length c = ?
+same-length c = search needs
 
--- src/compose.rt:148:1
 returns : tie.Need-returns Inv-loop μ-loop
-returns c = ?
+returns c =
+    let f : ℕ → Expr = permutationTree (c .before .before .before .before .before .before .before .before .args .v) (c .before .before .before .before .before .before .before .before .args .copied .now) in
+    (omega arith, lists.product-all (λ i. f ((c .before .before .before .before .before .before .before .before .args .first) + i)) (c .before .loop .j) (c .before .before .before .before .before .before .before .before .args .count) (omega arith) ((c .before .loop .inv .1 .1 .1 .1) (c .before .before .before .before .before .before .before .before .args .out .now) (lists.product-first f (c .before .before .before .before .before .before .before .before .args .first) (c .before .before .before .before .permutation-factor .ensures))))
 
 pub permutation-product-spec : {M : Type 1} → statement M
 permutation-product-spec =

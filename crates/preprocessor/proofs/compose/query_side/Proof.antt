@@ -1,3 +1,6 @@
+use Rattle.expression.proofs.Written as written
+use Rattle.expression.specs.Flat.{body}
+use native.Mathlib.Omega.{arith}
 use borrow.Author.Needs.{needs}
 use Rattle.preprocessor.proofs.compose.query_side.Statement.{statement}
 use Rattle.preprocessor.proofs.compose.query_side.Tie as tie
@@ -7,25 +10,22 @@ use Rattle.preprocessor.proofs.compose.product.Reads as product-reads
 use Rattle.preprocessor.proofs.compose.query.Reads as query-reads
 use Rattle.preprocessor.proofs.compose.side.Reads as side-reads
 
--- src/compose.rt:373:9
 query-requires : tie.Need-query-requires
 query-requires c κs = search needs
 
--- src/compose.rt:374:9
 side-requires : tie.Need-side-requires
-side-requires c κs = ?
+unfolding body
+side-requires c κs = ((c .before .before .before .before .before .before .before .before .pre .0), ((c .before .before .before .before .before .before .before .before .pre .1 .0), ((c .before .before .before .before .before .before .before .before .pre .1 .1 .0), omega (arith, (c .before .before .before .before .before .before .before .before .pre .1 .1 .1), (c .before .before .before .query .ensures .number)))))
 
--- src/compose.rt:375:5
 product-requires : tie.Need-product-requires
-product-requires c κs = ?
+unfolding body
+product-requires c κs = omega (arith, (c .before .before .before .before .before .before .before .before .before .before .before .before .pre .1 .1 .1), (c .before .before .before .before .before .before .before .query .ensures .number), (c .before .before .before .side .ensures .number))
 
--- src/compose.rt:360:1
 same-length : tie.Need-same-length
 same-length c = search needs
 
--- src/compose.rt:360:1
 returns : tie.Need-returns
-returns c = ?
+returns c = written.written-product (c .before .before .before .before .before .before .before .before .before .before .query .ensures) (c .before .before .before .before .before .before .side .ensures) (c .before .before .product .ensures)
 
 pub query-side-spec : {M : Type 1} → statement M
 query-side-spec =

@@ -1,3 +1,8 @@
+use Rattle.expression.proofs.Written as written
+use Rattle.expression.specs.Flat.{body}
+use Rattle.preprocessor.proofs.Handed as handed
+use Rattle.preprocessor.specs.Pieces.{sideTree}
+use native.Mathlib.Omega.{arith}
 use borrow.Author.Needs.{needs}
 use Rattle.preprocessor.proofs.compose.side.Statement.{statement}
 use Rattle.preprocessor.proofs.compose.side.Tie as tie
@@ -7,29 +12,36 @@ use Rattle.preprocessor.proofs.compose.challenge.Reads as challenge-rea
 use Rattle.preprocessor.proofs.compose.side_powers.Reads as side-powers-reads
 use Rattle.preprocessor.proofs.compose.sum.Reads as sum-reads
 
--- src/compose.rt:354:9
 side-powers-requires : tie.Need-side-powers-requires
-side-powers-requires c κs = ?
+side-powers-requires c κs =
+    let a = (c .before .before .before .before .args) in
+    let q = handed.side-size (a .user .now) (a .pairs .now) (a .beta) (a .s) (a .w) in
+    ((c .before .before .before .before .pre .0), ((c .before .before .before .before .pre .1 .0), omega (arith, (c .before .before .before .before .pre .1 .1 .1))))
 
--- src/compose.rt:355:36
 add-challenge : tie.Need-add-challenge
 add-challenge c = search needs
 
--- src/compose.rt:355:9
 challenge-requires : tie.Need-challenge-requires
-challenge-requires c κs = ?
+challenge-requires c κs =
+    let a = (c .before .before .before .before .before .before .before .before .args) in
+    let q = handed.side-size (a .user .now) (a .pairs .now) (a .beta) (a .s) (a .w) in
+    let x = (c .before .before .before .side-powers .ensures .number) in
+    omega (arith, (c .before .before .before .before .before .before .before .before .pre .1 .1 .1))
 
--- src/compose.rt:356:5
 sum-requires : tie.Need-sum-requires
-sum-requires c κs = ?
+unfolding body
+sum-requires c κs =
+    let a = (c .before .before .before .before .before .before .before .before .before .before .before .before .args) in
+    let q = handed.side-size (a .user .now) (a .pairs .now) (a .beta) (a .s) (a .w) in
+    let x = (c .before .before .before .before .before .before .before .side-powers .ensures .number) in
+    omega (arith, (c .before .before .before .before .before .before .before .before .before .before .before .before .pre .1 .1 .1), (c .before .before .before .challenge .ensures .number))
 
--- src/compose.rt:342:1
 same-length : tie.Need-same-length
 same-length c = search needs
 
--- src/compose.rt:342:1
 returns : tie.Need-returns
-returns c = ?
+unfolding sideTree
+returns c = written.written-sum (c .before .before .before .before .before .before .before .before .before .before .side-powers .ensures) (c .before .before .before .before .before .before .challenge .ensures) (c .before .before .sum .ensures)
 
 pub side-spec : {M : Type 1} → statement M
 side-spec =

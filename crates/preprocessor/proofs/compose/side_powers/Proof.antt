@@ -1,3 +1,14 @@
+use Prim.Native.Nat.{ℕ, suc, _+_, _*_, _-_, _≤_, _<_}
+use Rattle.expression.proofs.Written as written
+use Rattle.expression.specs.Expr.{Expr, distributePowers}
+use Rattle.expression.specs.Flat.{body, size}
+use Rattle.expression.specs.Nodes.{exprOf}
+use Rattle.preprocessor.proofs.Handed as handed
+use Rattle.preprocessor.proofs.Lists as lists
+use Rattle.preprocessor.specs.Pieces.{sideExprs, exprsFrom}
+use lib.ListN.{getD}
+use mathlib.Core.Path.{_≡_, refl, sym, ap, _∙_}
+use native.Mathlib.Omega.{arith}
 use borrow.Author.Needs.{needs}
 use Rattle.preprocessor.proofs.compose.side_powers.Statement.{statement}
 use Rattle.preprocessor.proofs.compose.side_powers.Tie as tie
@@ -9,57 +20,89 @@ use Rattle.expression.proofs.node.index.Reads as index-reads
 use Rattle.preprocessor.proofs.compose.list_head.Reads as list-head-reads
 use Rattle.preprocessor.proofs.compose.side_items.Reads as side-items-reads
 
--- src/compose.rt:331:9
+zeroth : (s : ℕ) → s ≡ s + 0 * 2
+zeroth s = omega arith
+
 push-requires : tie.Need-push-requires
 push-requires c κs = search needs
 
--- src/compose.rt:331:9
 same-length : tie.Need-same-length
 same-length c = search needs
 
--- src/compose.rt:331:9
 returns : tie.Need-returns
-returns c = ?
+returns c =
+    let a = (c .before .before .before .before .before .before .before .before .args) in
+    let es = sideExprs (a .user .now) (a .pairs .now) (a .s) (a .w) in
+    let long = handed.side-length (a .user .now) (a .pairs .now) (a .s) (a .w) in
+    let b = Expr.challenge (a .beta) in
+    lists.powers-none b es (long ∙ (c .before .before .before .before .if1 .taken)) (c .before .before .push .ensures)
 
--- src/compose.rt:334:23
 mul-index : tie.Need-mul-index
 mul-index c = search needs
 
--- src/compose.rt:334:23
 shared-slice-read-index : tie.Need-shared-slice-read-index
 shared-slice-read-index c = search needs
 
--- src/compose.rt:334:13
 index-requires : tie.Need-index-requires
 index-requires c κs = search needs
 
--- src/compose.rt:335:9
 copy-expr-requires : tie.Need-copy-expr-requires
-copy-expr-requires c κs = ?
+copy-expr-requires c κs =
+    let a = (c .before .before .before .before .before .before .before .before .args) in
+    let es = sideExprs (a .user .now) (a .pairs .now) (a .s) (a .w) in
+    let long = handed.side-length (a .user .now) (a .pairs .now) (a .s) (a .w) in
+    let b = Expr.challenge (a .beta) in
+    let n = (c .before .index .result) in
+    let at0 : n ≡ getD (a .pairs .now) (a .s + 0 * 2) 0 = (c .before .index .ensures) ∙ ap (λ (k : ℕ). getD (a .pairs .now) k 0) (zeroth (a .s)) in
+    let same = handed.side-nth (a .user .now) (a .pairs .now) (a .s) (a .w) 0 n (omega (arith, (c .before .before .before .if2 .taken))) at0 in
+    let q = lists.one-size b es (long ∙ (c .before .before .before .if2 .taken)) in
+    (handed.root-node (a .user .now) (a .pairs .now) (a .s) n (c .before .before .before .before .before .before .before .before .pre .0) (omega (arith, (c .before .before .before .before .before .before .before .before .pre .1 .0), (c .before .before .before .if2 .taken))) (c .before .index .ensures), omega (arith, (c .before .before .before .before .before .before .before .before .pre .1 .1), ap size same))
 
--- src/compose.rt:335:9
 same-length-2 : tie.Need-same-length-2
 same-length-2 c = search needs
 
--- src/compose.rt:335:9
 returns-2 : tie.Need-returns-2
-returns-2 c = ?
+returns-2 c =
+    let a = (c .before .before .before .before .before .before .before .before .before .before .before .args) in
+    let es = sideExprs (a .user .now) (a .pairs .now) (a .s) (a .w) in
+    let long = handed.side-length (a .user .now) (a .pairs .now) (a .s) (a .w) in
+    let b = Expr.challenge (a .beta) in
+    let n = (c .before .before .before .before .index .result) in
+    let at0 : n ≡ getD (a .pairs .now) (a .s + 0 * 2) 0 = (c .before .before .before .before .index .ensures) ∙ ap (λ (k : ℕ). getD (a .pairs .now) k 0) (zeroth (a .s)) in
+    let same = handed.side-nth (a .user .now) (a .pairs .now) (a .s) (a .w) 0 n (omega (arith, (c .before .before .before .before .before .before .if2 .taken))) at0 in
+    lists.powers-one b es (long ∙ (c .before .before .before .before .before .before .if2 .taken)) (written.written-as same (c .before .before .copy-expr .ensures))
 
--- src/compose.rt:337:9
 side-items-requires : tie.Need-side-items-requires
-side-items-requires c κs = ?
+unfolding body
+side-items-requires c κs =
+    let a = (c .before .before .before .before .before .before .args) in
+    let es = sideExprs (a .user .now) (a .pairs .now) (a .s) (a .w) in
+    let long = handed.side-length (a .user .now) (a .pairs .now) (a .s) (a .w) in
+    let b = Expr.challenge (a .beta) in
+    let q = lists.many-size b es (omega (arith, (c .before .before .if1 .left), (c .before .if2 .left))) in
+    ((c .before .before .before .before .before .before .pre .0), ((c .before .before .before .before .before .before .pre .1 .0), (omega (arith, (c .before .before .if1 .left)), omega (arith, (c .before .before .before .before .before .before .pre .1 .1)))))
 
--- src/compose.rt:338:5
 list-head-requires : tie.Need-list-head-requires
-list-head-requires c κs = ?
+unfolding body
+list-head-requires c κs =
+    let a = (c .before .before .before .before .before .before .before .before .before .before .args) in
+    let es = sideExprs (a .user .now) (a .pairs .now) (a .s) (a .w) in
+    let long = handed.side-length (a .user .now) (a .pairs .now) (a .s) (a .w) in
+    let b = Expr.challenge (a .beta) in
+    let q = lists.many-size b es (omega (arith, (c .before .before .before .before .before .before .if1 .left), (c .before .before .before .before .before .if2 .left))) in
+    let y = (c .before .before .before .side-items .ensures .number) in
+    omega (arith, (c .before .before .before .before .before .before .before .before .before .before .pre .1 .1))
 
--- src/compose.rt:318:1
 same-length-3 : tie.Need-same-length-3
 same-length-3 c = search needs
 
--- src/compose.rt:318:1
 returns-3 : tie.Need-returns-3
-returns-3 c = ?
+returns-3 c =
+    let a = (c .before .before .before .before .before .before .before .before .before .before .before .before .before .args) in
+    let es = sideExprs (a .user .now) (a .pairs .now) (a .s) (a .w) in
+    let long = handed.side-length (a .user .now) (a .pairs .now) (a .s) (a .w) in
+    let b = Expr.challenge (a .beta) in
+    lists.powers-many b es (omega (arith, (c .before .before .before .before .before .before .before .before .before .if1 .left), (c .before .before .before .before .before .before .before .before .if2 .left))) (c .before .before .before .before .before .before .side-items .ensures) (c .before .before .list-head .ensures)
 
 pub side-powers-spec : {M : Type 1} → statement M
 side-powers-spec =

@@ -1,3 +1,6 @@
+use Rattle.expression.specs.Flat.{body}
+use Rattle.preprocessor.proofs.Parts as parts
+use native.Mathlib.Omega.{arith}
 use borrow.Author.Needs.{needs}
 use Rattle.preprocessor.proofs.compose.start_constraint.Statement.{statement}
 use Rattle.preprocessor.proofs.compose.start_constraint.Tie as tie
@@ -9,49 +12,42 @@ use Rattle.preprocessor.proofs.compose.product.Reads as product-reads
 use Rattle.preprocessor.proofs.compose.query.Reads as query-reads
 use Rattle.preprocessor.proofs.compose.sum.Reads as sum-reads
 
--- src/compose.rt:249:9
 push-requires : tie.Need-push-requires
 push-requires c κs = search needs
 
--- src/compose.rt:250:28
 add-query : tie.Need-add-query
 add-query c = search needs
 
--- src/compose.rt:250:49
 mul-query : tie.Need-mul-query
 mul-query c = search needs
 
--- src/compose.rt:250:28
 add-query-2 : tie.Need-add-query-2
 add-query-2 c = search needs
 
--- src/compose.rt:250:9
 query-requires : tie.Need-query-requires
 query-requires c κs = search needs
 
--- src/compose.rt:251:9
 push-requires-2 : tie.Need-push-requires-2
-push-requires-2 c κs = ?
+unfolding body
+push-requires-2 c κs = omega (arith, (c .before .before .before .before .before .before .before .before .before .before .before .before .pre))
 
--- src/compose.rt:252:9
 negated-requires : tie.Need-negated-requires
-negated-requires c κs = ?
+unfolding body
+negated-requires c κs = omega (arith, (c .before .before .before .before .before .before .before .before .before .before .before .before .before .before .before .before .pre), (c .before .before .before .before .before .before .before .query .ensures .number), (c .before .before .before .before .before .before .before .before .before .before .before .before .before .push .ensures .number))
 
--- src/compose.rt:253:9
 sum-requires : tie.Need-sum-requires
-sum-requires c κs = ?
+unfolding body
+sum-requires c κs = omega (arith, (c .before .before .before .before .before .before .before .before .before .before .before .before .before .before .before .before .before .before .before .before .pre), (c .before .before .before .before .before .before .before .before .before .before .before .query .ensures .number), (c .before .before .before .before .before .before .before .before .before .before .before .before .before .before .before .before .before .push .ensures .number))
 
--- src/compose.rt:254:5
 product-requires : tie.Need-product-requires
-product-requires c κs = ?
+unfolding body
+product-requires c κs = omega (arith, (c .before .before .before .before .before .before .before .before .before .before .before .before .before .before .before .before .before .before .before .before .before .before .before .before .pre), (c .before .before .before .before .before .before .before .before .before .before .before .before .before .before .before .query .ensures .number), (c .before .before .before .before .before .before .before .before .before .before .before .before .before .before .before .before .before .before .before .before .before .push .ensures .number))
 
--- src/compose.rt:245:1
 same-length : tie.Need-same-length
 same-length c = search needs
 
--- src/compose.rt:245:1
 returns : tie.Need-returns
-returns c = ?
+returns c = parts.start-written (c .before .before .before .before .before .before .before .before .before .before .before .before .before .before .before .before .before .before .before .before .before .before .before .before .before .before .before .args .v) _ (omega arith) (c .before .before .before .before .before .before .before .before .before .before .before .before .before .before .before .before .before .before .before .before .before .before .before .before .push .ensures) (c .before .before .before .before .before .before .before .before .before .before .before .before .before .before .before .before .before .before .query .ensures) (c .before .before .before .before .before .before .before .before .before .before .before .before .before .before .push2 .ensures) (c .before .before .before .before .before .before .before .before .before .before .negated .ensures) (c .before .before .before .before .before .before .sum .ensures) (c .before .before .product .ensures)
 
 pub start-constraint-spec : {M : Type 1} → statement M
 start-constraint-spec =

@@ -1,3 +1,6 @@
+use Rattle.expression.proofs.Written as written
+use Rattle.expression.specs.Flat.{body}
+use native.Mathlib.Omega.{arith}
 use borrow.Author.Needs.{needs}
 use Rattle.preprocessor.proofs.compose.z_identities.Statement.{statement}
 use Rattle.preprocessor.proofs.compose.z_identities.Tie as tie
@@ -7,41 +10,35 @@ use Rattle.preprocessor.proofs.compose.identity_product.Reads as identi
 use Rattle.preprocessor.proofs.compose.product.Reads as product-reads
 use Rattle.preprocessor.proofs.compose.query.Reads as query-reads
 
--- src/compose.rt:208:29
 add-query : tie.Need-add-query
 add-query c = search needs
 
--- src/compose.rt:208:50
 mul-query : tie.Need-mul-query
 mul-query c = search needs
 
--- src/compose.rt:208:29
 add-query-2 : tie.Need-add-query-2
 add-query-2 c = search needs
 
--- src/compose.rt:208:29
 add-query-3 : tie.Need-add-query-3
 add-query-3 c = search needs
 
--- src/compose.rt:208:9
 query-requires : tie.Need-query-requires
 query-requires c κs = search needs
 
--- src/compose.rt:209:9
 identity-product-requires : tie.Need-identity-product-requires
-identity-product-requires c κs = ?
+unfolding body
+identity-product-requires c κs = ((c .before .before .before .before .before .before .before .before .before .pre .0), ((c .before .before .before .before .before .before .before .before .before .pre .1 .1 .0), ((c .before .before .before .before .before .before .before .before .before .pre .1 .1 .1 .0), ((c .before .before .before .before .before .before .before .before .before .pre .1 .1 .1 .1 .0), omega (arith, (c .before .before .before .before .before .before .before .before .before .pre .1 .1 .1 .1 .1), (c .before .before .before .query .ensures .number))))))
 
--- src/compose.rt:210:5
 product-requires : tie.Need-product-requires
-product-requires c κs = ?
+unfolding body
+product-requires c κs = omega (arith, (c .before .before .before .before .before .before .before .before .before .before .before .before .before .pre .1 .1 .1 .1 .1), (c .before .before .before .before .before .before .before .query .ensures .number), (c .before .before .before .identity-product .ensures .0))
 
--- src/compose.rt:196:1
 same-length : tie.Need-same-length
 same-length c = search needs
 
--- src/compose.rt:196:1
 returns : tie.Need-returns
-returns c = ?
+unfolding body
+returns c = (omega (arith, (c .before .before .product .ensures .number), (c .before .before .before .before .before .before .identity-product .ensures .0), (c .before .before .before .before .before .before .before .before .before .before .query .ensures .number)), written.written-product (c .before .before .before .before .before .before .before .before .before .before .query .ensures) (c .before .before .before .before .before .before .identity-product .ensures .1) (c .before .before .product .ensures))
 
 pub z-identities-spec : {M : Type 1} → statement M
 z-identities-spec =

@@ -1,3 +1,6 @@
+use Rattle.expression.proofs.Written as written
+use Rattle.preprocessor.proofs.Parts as parts
+use native.Mathlib.Omega.{arith}
 use borrow.Author.Needs.{needs}
 use Rattle.preprocessor.proofs.compose.z_permutations.Statement.{statement}
 use Rattle.preprocessor.proofs.compose.z_permutations.Tie as tie
@@ -7,25 +10,20 @@ use Rattle.preprocessor.proofs.compose.next_z.Reads as next-z-reads
 use Rattle.preprocessor.proofs.compose.permutation_product.Reads as permutation-product-reads
 use Rattle.preprocessor.proofs.compose.product.Reads as product-reads
 
--- src/compose.rt:226:9
 next-z-requires : tie.Need-next-z-requires
 next-z-requires c κs = search needs
 
--- src/compose.rt:227:9
 permutation-product-requires : tie.Need-permutation-product-requires
-permutation-product-requires c κs = ?
+permutation-product-requires c κs = ((c .before .before .before .before .before .before .before .pre .0), ((c .before .before .before .before .before .before .before .pre .1 .1 .0), ((c .before .before .before .before .before .before .before .pre .1 .1 .1 .0), ((c .before .before .before .before .before .before .before .pre .1 .1 .1 .1 .0), omega (arith, (c .before .before .before .before .before .before .before .pre .1 .1 .1 .1 .1), (c .before .before .before .next-z .ensures .number), parts.next-size (c .before .before .before .before .before .before .before .args .v) (c .before .before .before .before .before .before .before .args .i))))))
 
--- src/compose.rt:228:5
 product-requires : tie.Need-product-requires
-product-requires c κs = ?
+product-requires c κs = omega (arith, (c .before .before .before .before .before .before .before .before .before .before .before .pre .1 .1 .1 .1 .1), (c .before .before .before .before .before .before .before .next-z .ensures .number), (c .before .before .before .permutation-product .ensures .0), parts.next-size (c .before .before .before .before .before .before .before .before .before .before .before .args .v) (c .before .before .before .before .before .before .before .before .before .before .before .args .i))
 
--- src/compose.rt:214:1
 same-length : tie.Need-same-length
 same-length c = search needs
 
--- src/compose.rt:214:1
 returns : tie.Need-returns
-returns c = ?
+returns c = (omega (arith, (c .before .before .product .ensures .number), (c .before .before .before .before .before .before .permutation-product .ensures .0), (c .before .before .before .before .before .before .before .before .before .before .next-z .ensures .number), parts.next-size (c .before .before .before .before .before .before .before .before .before .before .before .before .before .before .args .v) (c .before .before .before .before .before .before .before .before .before .before .before .before .before .before .args .i)), written.written-product (c .before .before .before .before .before .before .before .before .before .before .next-z .ensures) (c .before .before .before .before .before .before .permutation-product .ensures .1) (c .before .before .product .ensures))
 
 pub z-permutations-spec : {M : Type 1} → statement M
 z-permutations-spec =

@@ -1,3 +1,7 @@
+use Rattle.expression.proofs.Written as written
+use Rattle.preprocessor.proofs.Handed as handed
+use Rattle.preprocessor.specs.Pieces.{handedTrees, zeroTree}
+use native.Mathlib.Omega.{arith}
 use borrow.Author.Needs.{needs}
 use Rattle.preprocessor.proofs.compose.zero_check.Statement.{statement}
 use Rattle.preprocessor.proofs.compose.zero_check.Tie as tie
@@ -7,25 +11,30 @@ use Rattle.expression.proofs.copy.push.Reads as push-reads
 use Rattle.preprocessor.proofs.compose.constraint_powers.Reads as constraint-powers-reads
 use Rattle.preprocessor.proofs.compose.product.Reads as product-reads
 
--- src/compose.rt:528:9
 constraint-powers-requires : tie.Need-constraint-powers-requires
-constraint-powers-requires c κs = ?
+constraint-powers-requires c κs =
+    let a = (c .before .before .before .before .before .before .before .args) in
+    let q = handed.zero-size (a .v) (handedTrees (a .v) (a .copied .now) (a .user .now) (a .roots .now) (a .widths .now) (a .pairs .now)) in
+    ((c .before .before .before .before .before .before .before .pre .0), omega (arith, (c .before .before .before .before .before .before .before .pre .1)))
 
--- src/compose.rt:529:9
 push-requires : tie.Need-push-requires
-push-requires c κs = ?
+push-requires c κs =
+    let a = (c .before .before .before .before .before .before .before .before .before .before .before .args) in
+    let q = handed.zero-size (a .v) (handedTrees (a .v) (a .copied .now) (a .user .now) (a .roots .now) (a .widths .now) (a .pairs .now)) in
+    omega (arith, (c .before .before .before .before .before .before .before .before .before .before .before .pre .1), (c .before .before .before .constraint-powers .ensures .number))
 
--- src/compose.rt:530:5
 product-requires : tie.Need-product-requires
-product-requires c κs = ?
+product-requires c κs =
+    let a = (c .before .before .before .before .before .before .before .before .before .before .before .before .before .before .before .args) in
+    let q = handed.zero-size (a .v) (handedTrees (a .v) (a .copied .now) (a .user .now) (a .roots .now) (a .widths .now) (a .pairs .now)) in
+    omega (arith, (c .before .before .before .before .before .before .before .before .before .before .before .before .before .before .before .pre .1), (c .before .before .before .before .before .before .before .constraint-powers .ensures .number), (c .before .before .before .push .ensures .number))
 
--- src/compose.rt:515:1
 same-length : tie.Need-same-length
 same-length c = search needs
 
--- src/compose.rt:515:1
 returns : tie.Need-returns
-returns c = ?
+unfolding zeroTree
+returns c = written.written-product (c .before .before .before .before .before .before .before .before .before .before .constraint-powers .ensures) (written.written-eq-xy (c .before .before .before .before .before .before .push .ensures)) (c .before .before .product .ensures)
 
 pub zero-check-spec : {M : Type 1} → statement M
 zero-check-spec =
