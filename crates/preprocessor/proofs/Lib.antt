@@ -6,3 +6,5 @@ pub mod Sizes
 pub mod Lists
 pub mod Parts
 pub mod Handed
+pub mod Composed
+pub mod Nodes

@@ -6,13 +6,13 @@ use Prim.Native.Nat.{ℕ, zero, suc, _+_, _-_, _*_, _/_, _≤_, _<_}
 use lib.ListN.{length, getD, drop}
 use lib.Dec.{eqb, ltb}
 use lib.IntN.{ℤ, pos}
-use Rattle.util.specs.Lists.{below, column, cut, ceilDiv, split, total, All}
+use Rattle.util.specs.Lists.{below, column, cut, ceilDiv, split, total, over, All}
 use Rattle.expression.specs.Expr.{Expr, Exprs, minus, at, exprsOf, distributePowers, productOf}
 use Rattle.expression.specs.Nodes.{exprOf}
 use Rattle.expression.specs.Flat.{size}
-use Rattle.backend.specs.Circuit.{Circuit, Pair, pairAt, rowsOf, numPoly, numUser, numCopied, numLookups}
+use Rattle.backend.specs.Circuit.{Circuit, Pair, pairAt, rowsOf, numPoly, numUser, copied, numCopied, numLookups}
 use Rattle.backend.specs.Constraints.{inputsOf, tablesOf, lookupTree, maxDegree}
-use Rattle.preprocessor.specs.Compose.{numZ}
+use Rattle.preprocessor.specs.Compose.{numZ, composedWords, composedNodes}
 use Rattle.preprocessor.specs.declared.compose.Numbers.{Numbers}
 
 -- the numbers of a circuit that the composed expression names
@@ -138,15 +138,31 @@ pub record Limits (v : Numbers) : Type 0 where
   pub some-part : 0 < v .part
   pub parts-are : v .parts ≡ ceilDiv (v .copied) (v .part)
 
--- the words that go with them
-pub record Handed (v : Numbers) (names nodes roots widths pairs : List ℕ) : Type 0 where
+-- the words that go with them: every root is a node
+pub record Words (v : Numbers) (nodes roots widths pairs : List ℕ) : Type 0 where
   pub limits : Limits v
-  pub all-copied : v .copied ≤ length names
   pub all-lookups : v .lookups ≡ length widths
   pub all-pairs : total widths * 2 ≤ length pairs
   pub constraints-named : All (IsNode nodes) roots
   pub pairs-named : All (IsNode nodes) pairs
 
+-- and the copied columns
+pub record Handed (v : Numbers) (names nodes roots widths pairs : List ℕ) : Type 0 where
+  pub words : Words v nodes roots widths pairs
+  pub all-copied : v .copied ≤ length names
+
 -- how many constraints there are, with as many of the user's own
 unfoldable pub numConstraints : ℕ → Numbers → ℕ
 numConstraints own v = own + v .lookups + cond (eqb (v .copied) 0) 0 (suc (v .parts))
+
+-- the pieces are those of a circuit
+pub record PiecesOf (c : Circuit) (v : Numbers) (names nodes roots widths pairs : List ℕ) : Type 0 where
+  pub numbers-are : v ≡ numbersOf c
+  pub copied-are : names ≡ copied c
+  pub constraints-are : map (exprOf nodes) roots ≡ c .constraints
+  pub lookups-are : lookupsOf nodes widths pairs ≡ c .lookups
+
+-- the composed nodes of a circuit stand from node 0 on
+pub record Composed (c : Circuit) (before after : List ℕ) (next : ℕ) : Type 0 where
+  pub number : next ≡ composedNodes c
+  pub buffer : after ≡ over before 0 (composedWords c)

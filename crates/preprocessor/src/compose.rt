@@ -12,8 +12,9 @@ ghost use Rattle.expression.specs.Expr.{Expr, distributePowers, productOf};
 ghost use Rattle.expression.specs.Nodes.{exprOf};
 ghost use Rattle.expression.specs.Flat.{size, sizes, extra, flat};
 ghost use Rattle.expression.specs.Written.{Pushed, Written, WrittenBase, WrittenList};
+ghost use Rattle.backend.specs.Circuit.{Circuit};
 ghost use Rattle.backend.specs.Constraints.{lookupTree};
-ghost use Rattle.preprocessor.specs.Pieces.{zAt, labelTree, identityTree, permutationTree, nextTree, partOf, partTree, startTree, lookupsOf, sideExprs, sideTree, handedTrees, zeroTree, outerTrees, composeTree, exprsFrom, IsNode, Limits, Handed, numConstraints};
+ghost use Rattle.preprocessor.specs.Pieces.{zAt, labelTree, identityTree, permutationTree, nextTree, partOf, partTree, startTree, lookupsOf, sideExprs, sideTree, handedTrees, zeroTree, outerTrees, composeTree, exprsFrom, IsNode, Limits, Handed, numConstraints, PiecesOf, Composed};
 
 // The numbers of a circuit that the composed expression names: Rust `num_poly`, the copied columns n, the lookups, the user
 // challenges, the rows, D − 1 and N.
@@ -555,8 +556,8 @@ fn outer_items(
     list_end(out, x, v.user + 2)
 }
 
-// Rust `compose`: the node words of the composed expression into the first words of `out`; returns the number of nodes.
-pub fn compose(
+// The composed expression from node 0 on.
+fn outer(
     copied: &[u64],
     user: &[u64],
     roots: &[u64],
@@ -573,4 +574,20 @@ pub fn compose(
     }
     let l = outer_items(copied, user, roots, widths, pairs, out, v, 0, 0);
     list_head(out, l)
+}
+
+// Rust `compose`: the node words of the composed expression into the first words of `out`; returns the number of nodes.
+pub fn compose(
+    copied: &[u64],
+    user: &[u64],
+    roots: &[u64],
+    widths: &[u64],
+    pairs: &[u64],
+    out: &mut [u64],
+    v: Numbers,
+) -> usize
+    requires { ⌜ Handed v (now copied) (now user) (now roots) (now widths) (now pairs) × (size (composeTree v (handedTrees v (now copied) (now user) (now roots) (now widths) (now pairs))) * 4 ≤ length (now out)) ⌝ }
+    ensures { λ r. ⌜ ((c : Circuit) → PiecesOf c v (now (copied .entry)) (now (user .entry)) (now (roots .entry)) (now (widths .entry)) (now (pairs .entry)) → Composed c (now (out .entry)) (now (out .exit)) r) ⌝ }
+{
+    outer(copied, user, roots, widths, pairs, out, v)
 }

@@ -53,7 +53,7 @@ constraint-items-num-constraints-requires :
       list-end-reads.Asked,
       list-end-reads.Learnt,
     ) (constraint-items-at t) constraint-items.Post
-constraint-items-num-constraints-requires t c κs = ((c .before .before .before .before .before .before .pre .1 .0 .limits), omega arith)
+constraint-items-num-constraints-requires t c κs = ((c .before .before .before .before .before .before .pre .1 .0 .words .limits), omega arith)
 
 constraint-items-constraint-requires : (t : ℕ) → constraint-items-lts.Need-constraint-requires (
   num-constraints-reads.Asked,
@@ -204,7 +204,7 @@ constraint-items-add-list-end : (t : ℕ) → constraint-items-lts.Need-add-list
   list-end-reads.Asked,
   list-end-reads.Learnt,
 ) (constraint-items-at t) constraint-items.Post
-constraint-items-add-list-end t c = omega (arith, (c .before .before .before .before .before .before .before .before .before .before .before .before .before .before .pre .1 .0 .limits))
+constraint-items-add-list-end t c = omega (arith, (c .before .before .before .before .before .before .before .before .before .before .before .before .before .before .pre .1 .0 .words .limits))
 
 constraint-items-list-end-requires : (t : ℕ) → constraint-items-lts.Need-list-end-requires (
   num-constraints-reads.Asked,

@@ -44,7 +44,7 @@ outer-items-add-query : (t : ℕ) → outer-items-lts.Need-add-query (
   list-end-reads.Asked,
   list-end-reads.Learnt,
 ) (outer-items-at t) outer-items.Post
-outer-items-add-query t c = omega (arith, (c .before .before .before .before .before .before .before .before .before .before .pre .1 .0 .limits))
+outer-items-add-query t c = omega (arith, (c .before .before .before .before .before .before .before .before .before .before .pre .1 .0 .words .limits))
 
 outer-items-add-query-2 : (t : ℕ) → outer-items-lts.Need-add-query-2 (
   query-reads.Asked,
@@ -58,7 +58,7 @@ outer-items-add-query-2 : (t : ℕ) → outer-items-lts.Need-add-query-2 (
   list-end-reads.Asked,
   list-end-reads.Learnt,
 ) (outer-items-at t) outer-items.Post
-outer-items-add-query-2 t c = omega (arith, (c .before .before .before .before .before .before .before .before .before .before .before .pre .1 .0 .limits))
+outer-items-add-query-2 t c = omega (arith, (c .before .before .before .before .before .before .before .before .before .before .before .pre .1 .0 .words .limits))
 
 outer-items-add-query-3 : (t : ℕ) → outer-items-lts.Need-add-query-3 (
   query-reads.Asked,
@@ -72,7 +72,7 @@ outer-items-add-query-3 : (t : ℕ) → outer-items-lts.Need-add-query-3 (
   list-end-reads.Asked,
   list-end-reads.Learnt,
 ) (outer-items-at t) outer-items.Post
-outer-items-add-query-3 t c = omega (arith, (c .before .before .before .before .before .before .before .before .before .before .before .pre .1 .0 .limits), (c .before .before .before .if1 .taken))
+outer-items-add-query-3 t c = omega (arith, (c .before .before .before .before .before .before .before .before .before .before .before .pre .1 .0 .words .limits), (c .before .before .before .if1 .taken))
 
 outer-items-query-requires : (t : ℕ) → outer-items-lts.Need-query-requires (
   query-reads.Asked,
@@ -100,7 +100,7 @@ outer-items-add-outer-items : (t : ℕ) → outer-items-lts.Need-add-outer-items
   list-end-reads.Asked,
   list-end-reads.Learnt,
 ) (outer-items-at t) outer-items.Post
-outer-items-add-outer-items t c = omega (arith, (c .before .before .before .before .before .before .before .if1 .taken), (c .before .before .before .before .before .before .before .before .before .before .before .before .before .before .before .pre .1 .0 .limits))
+outer-items-add-outer-items t c = omega (arith, (c .before .before .before .before .before .before .before .if1 .taken), (c .before .before .before .before .before .before .before .before .before .before .before .before .before .before .before .pre .1 .0 .words .limits))
 
 outer-items-outer-items-requires : (t : ℕ) → outer-items-lts.Need-outer-items-requires (
   query-reads.Asked,
@@ -228,7 +228,7 @@ outer-items-add-list-end : (t : ℕ) → outer-items-lts.Need-add-list-end (
   list-end-reads.Asked,
   list-end-reads.Learnt,
 ) (outer-items-at t) outer-items.Post
-outer-items-add-list-end t c = omega (arith, (c .before .before .before .before .before .before .before .before .before .before .before .before .before .before .pre .1 .0 .limits))
+outer-items-add-list-end t c = omega (arith, (c .before .before .before .before .before .before .before .before .before .before .before .before .before .before .pre .1 .0 .words .limits))
 
 outer-items-list-end-requires : (t : ℕ) → outer-items-lts.Need-list-end-requires (
   query-reads.Asked,

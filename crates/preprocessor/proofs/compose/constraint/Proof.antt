@@ -34,7 +34,7 @@ copy-expr-requires c κs =
     let v = a .v in
     let n = (c .before .index .result) in
     let q = ap size (handed.own-nth v (a .copied .now) (a .user .now) (a .roots .now) (a .widths .now) (a .pairs .now) (a .i) n (c .before .before .before .if1 .taken) (c .before .index .ensures)) in
-    (handed.root-node (a .user .now) (a .roots .now) (a .i) n (c .before .before .before .before .before .before .before .before .before .before .pre .0 .constraints-named) (c .before .before .before .if1 .taken) (c .before .index .ensures), omega (arith, (c .before .before .before .before .before .before .before .before .before .before .pre .1 .1)))
+    (handed.root-node (a .user .now) (a .roots .now) (a .i) n (c .before .before .before .before .before .before .before .before .before .before .pre .0 .words .constraints-named) (c .before .before .before .if1 .taken) (c .before .index .ensures), omega (arith, (c .before .before .before .before .before .before .before .before .before .before .pre .1 .1)))
 
 same-length : tie.Need-same-length
 same-length c = search needs
@@ -61,7 +61,7 @@ mul-lookup-constraint : tie.Need-mul-lookup-constraint
 mul-lookup-constraint c =
     let a = (c .before .before .before .before .before .before .before .before .before .before .before .before .before .args) in
     let v = a .v in
-    let q = handed.words-end (a .user .now) (a .widths .now) (a .pairs .now) (c .before .before .before .before .before .before .before .before .before .before .before .before .before .pre .0 .all-pairs) (a .i - length (a .roots .now)) (omega (arith, (c .before .before .before .before .before .before .before .before .before .before .before .before .before .pre .0 .all-lookups), (c .before .before .before .before .if2 .taken))) in
+    let q = handed.words-end (a .user .now) (a .widths .now) (a .pairs .now) (c .before .before .before .before .before .before .before .before .before .before .before .before .before .pre .0 .words .all-pairs) (a .i - length (a .roots .now)) (omega (arith, (c .before .before .before .before .before .before .before .before .before .before .before .before .before .pre .0 .words .all-lookups), (c .before .before .before .before .if2 .taken))) in
     omega (arith, (c .before .pairs-before .ensures))
 
 lookup-constraint-requires : tie.Need-lookup-constraint-requires
@@ -71,10 +71,10 @@ lookup-constraint-requires c κs =
     let s = (c .before .pairs-before .result) in
     let w = (c .before .before .index2 .result) in
     let j = a .i - length (a .roots .now) in
-    let q = handed.words-end (a .user .now) (a .widths .now) (a .pairs .now) (c .before .before .before .before .before .before .before .before .before .before .before .before .before .pre .0 .all-pairs) j (omega (arith, (c .before .before .before .before .before .before .before .before .before .before .before .before .before .pre .0 .all-lookups), (c .before .before .before .before .if2 .taken))) in
-    let t = ap size (handed.lookup-nth v (a .copied .now) (a .user .now) (a .roots .now) (a .widths .now) (a .pairs .now) (a .i) j s w (omega (arith, (c .before .before .before .before .before .before .if1 .left))) (c .before .before .before .before .if2 .taken) (c .before .before .before .before .before .before .before .before .before .before .before .before .before .pre .0 .all-lookups) (c .before .before .before .before .before .before .before .before .before .before .before .before .before .pre .0 .all-pairs) (c .before .pairs-before .ensures) (c .before .before .index2 .ensures)) in
+    let q = handed.words-end (a .user .now) (a .widths .now) (a .pairs .now) (c .before .before .before .before .before .before .before .before .before .before .before .before .before .pre .0 .words .all-pairs) j (omega (arith, (c .before .before .before .before .before .before .before .before .before .before .before .before .before .pre .0 .words .all-lookups), (c .before .before .before .before .if2 .taken))) in
+    let t = ap size (handed.lookup-nth v (a .copied .now) (a .user .now) (a .roots .now) (a .widths .now) (a .pairs .now) (a .i) j s w (omega (arith, (c .before .before .before .before .before .before .if1 .left))) (c .before .before .before .before .if2 .taken) (c .before .before .before .before .before .before .before .before .before .before .before .before .before .pre .0 .words .all-lookups) (c .before .before .before .before .before .before .before .before .before .before .before .before .before .pre .0 .words .all-pairs) (c .before .pairs-before .ensures) (c .before .before .index2 .ensures)) in
     let u = handed.lookup-size (mAt v j) (hAt v j) (sideTree (a .user .now) (a .pairs .now) (v .user) (s * 2) w) (sideTree (a .user .now) (a .pairs .now) (v .user) (s * 2 + 1) w) in
-    ((c .before .before .before .before .before .before .before .before .before .before .before .before .before .pre .0 .pairs-named), ((c .before .before .before .before .before .before .before .before .before .before .before .before .before .pre .0 .limits), ((c .before .before .before .before .if2 .taken), (omega (arith, (c .before .pairs-before .ensures), (c .before .before .index2 .ensures)), omega (arith, (c .before .before .before .before .before .before .before .before .before .before .before .before .before .pre .1 .1))))))
+    ((c .before .before .before .before .before .before .before .before .before .before .before .before .before .pre .0 .words .pairs-named), ((c .before .before .before .before .before .before .before .before .before .before .before .before .before .pre .0 .words .limits), ((c .before .before .before .before .if2 .taken), (omega (arith, (c .before .pairs-before .ensures), (c .before .before .index2 .ensures)), omega (arith, (c .before .before .before .before .before .before .before .before .before .before .before .before .before .pre .1 .1))))))
 
 same-length-2 : tie.Need-same-length-2
 same-length-2 c = search needs
@@ -84,7 +84,7 @@ returns-2 c =
     let a = (c .before .before .before .before .before .before .before .before .before .before .before .before .before .before .before .before .args) in
     let v = a .v in
     let j = a .i - length (a .roots .now) in
-    written.written-as (handed.lookup-nth v (a .copied .now) (a .user .now) (a .roots .now) (a .widths .now) (a .pairs .now) (a .i) j (c .before .before .before .before .pairs-before .result) (c .before .before .before .before .before .index2 .result) (omega (arith, (c .before .before .before .before .before .before .before .before .before .if1 .left))) (c .before .before .before .before .before .before .before .if2 .taken) (c .before .before .before .before .before .before .before .before .before .before .before .before .before .before .before .before .pre .0 .all-lookups) (c .before .before .before .before .before .before .before .before .before .before .before .before .before .before .before .before .pre .0 .all-pairs) (c .before .before .before .before .pairs-before .ensures) (c .before .before .before .before .before .index2 .ensures)) (c .before .before .lookup-constraint .ensures)
+    written.written-as (handed.lookup-nth v (a .copied .now) (a .user .now) (a .roots .now) (a .widths .now) (a .pairs .now) (a .i) j (c .before .before .before .before .pairs-before .result) (c .before .before .before .before .before .index2 .result) (omega (arith, (c .before .before .before .before .before .before .before .before .before .if1 .left))) (c .before .before .before .before .before .before .before .if2 .taken) (c .before .before .before .before .before .before .before .before .before .before .before .before .before .before .before .before .pre .0 .words .all-lookups) (c .before .before .before .before .before .before .before .before .before .before .before .before .before .before .before .before .pre .0 .words .all-pairs) (c .before .before .before .before .pairs-before .ensures) (c .before .before .before .before .before .index2 .ensures)) (c .before .before .lookup-constraint .ensures)
 
 start-constraint-requires : tie.Need-start-constraint-requires
 start-constraint-requires c κs =
@@ -92,7 +92,7 @@ start-constraint-requires c κs =
     let v = a .v in
     let q = ap size (handed.start-nth v (a .copied .now) (a .user .now) (a .roots .now) (a .widths .now) (a .pairs .now) (a .i) (omega (arith, (c .before .before .before .before .before .if1 .left), (c .before .before .before .if2 .left), (c .before .if3 .taken))) (c .before .before .before .before .before .before .before .before .before .before .before .before .pre .1 .0)) in
     let r = parts.start-size v in
-    ((c .before .before .before .before .before .before .before .before .before .before .before .before .pre .0 .limits), omega (arith, (c .before .before .before .before .before .before .before .before .before .before .before .before .pre .1 .1)))
+    ((c .before .before .before .before .before .before .before .before .before .before .before .before .pre .0 .words .limits), omega (arith, (c .before .before .before .before .before .before .before .before .before .before .before .before .pre .1 .1)))
 
 same-length-3 : tie.Need-same-length-3
 same-length-3 c = search needs
@@ -114,8 +114,8 @@ part-constraint-requires c κs =
     let e : a .i ≡ length (a .roots .now) + (v .lookups + suc p) = omega (arith, (c .before .before .before .before .before .if1 .left), (c .before .before .before .if2 .left), (c .before .if3 .left)) in
     let h = handed.part-below v (a .copied .now) (a .user .now) (a .roots .now) (a .widths .now) (a .pairs .now) (a .i) p e (c .before .before .before .before .before .before .before .before .before .before .before .before .pre .1 .0) in
     let q = ap size (handed.part-nth v (a .copied .now) (a .user .now) (a .roots .now) (a .widths .now) (a .pairs .now) (a .i) p e (c .before .before .before .before .before .before .before .before .before .before .before .before .pre .1 .0)) in
-    let r = parts.part-size v (c .before .before .before .before .before .before .before .before .before .before .before .before .pre .0 .limits) p h (a .copied .now) in
-    ((c .before .before .before .before .before .before .before .before .before .before .before .before .pre .0 .limits), (h, ((c .before .before .before .before .before .before .before .before .before .before .before .before .pre .0 .all-copied), omega (arith, (c .before .before .before .before .before .before .before .before .before .before .before .before .pre .1 .1)))))
+    let r = parts.part-size v (c .before .before .before .before .before .before .before .before .before .before .before .before .pre .0 .words .limits) p h (a .copied .now) in
+    ((c .before .before .before .before .before .before .before .before .before .before .before .before .pre .0 .words .limits), (h, ((c .before .before .before .before .before .before .before .before .before .before .before .before .pre .0 .all-copied), omega (arith, (c .before .before .before .before .before .before .before .before .before .before .before .before .pre .1 .1)))))
 
 same-length-4 : tie.Need-same-length-4
 same-length-4 c = search needs

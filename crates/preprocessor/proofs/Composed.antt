@@ -1,0 +1,104 @@
+-- The trees over the pieces are those of the circuit that the pieces are of. Proved.
+use mathlib.Core.Path.{_≡_, refl, sym, ap, _∙_, subst}
+use mathlib.Core.List.{List, map}
+use Prim.Native.Nat.{ℕ, suc, _+_, _-_, _*_, _/_, _≤_}
+use native.Mathlib.Omega.{arith}
+use lib.ListN.{length}
+use Rattle.util.specs.Lists.{column, split, below, cut, ceilDiv, over}
+use Rattle.util.proofs.Columns.{below-length}
+use Rattle.util.proofs.Totals.{cut-length}
+use Rattle.expression.specs.Expr.{Expr}
+use Rattle.expression.specs.Nodes.{exprOf}
+use Rattle.expression.specs.Flat.{size, flat}
+use Rattle.expression.specs.Written.{Written}
+use Rattle.backend.specs.Circuit.{Circuit, Pair, Section, circuitOf, bodyOf, entries, pairAt, copied, numCopied}
+use Rattle.backend.specs.Constraints.{lookupConstraint, lookupConstraints, maxDegree}
+use Rattle.preprocessor.specs.Compose.{
+  numZ,
+  constraintCut,
+  identityFactor,
+  permutationFactor,
+  nextZ,
+  partConstraint,
+  startConstraint,
+  permutationConstraints,
+  composedConstraints,
+  zeroCheck,
+  compose,
+  composedWords,
+  composedNodes,
+}
+use Rattle.preprocessor.specs.Pieces.{
+  numbersOf,
+  identityTree,
+  permutationTree,
+  nextTree,
+  partTree,
+  startTree,
+  lookupsOf,
+  lookupTreeOf,
+  constraintTrees,
+  handedTrees,
+  zeroTree,
+  outerTrees,
+  composeTree,
+  PiecesOf,
+  Composed,
+}
+use Rattle.preprocessor.specs.declared.compose.Numbers.{Numbers}
+
+-- "the constraints cut by D − 1" have N parts
+pub constraint-parts : (c : Circuit) → length (constraintCut c) ≡ numZ c
+unfolding constraintCut numZ
+constraint-parts c =
+    cut-length (maxDegree c - 1) (below (numCopied c))
+    ∙ ap (λ (n : ℕ). ceilDiv n (maxDegree c - 1)) (below-length (numCopied c))
+
+pub constraint-trees : (c : Circuit)
+    → constraintTrees (numbersOf c) (copied c) (c .constraints) (c .lookups) ≡ composedConstraints c
+unfolding constraintTrees lookupTreeOf startTree partTree identityTree permutationTree nextTree numbersOf composedConstraints lookupConstraints lookupConstraint permutationConstraints startConstraint partConstraint identityFactor permutationFactor nextZ constraintCut
+constraint-trees c = refl
+
+compose-tree : (c : Circuit) → composeTree (numbersOf c) (composedConstraints c) ≡ compose c
+unfolding composeTree outerTrees zeroTree numbersOf compose zeroCheck
+compose-tree c = refl
+
+module _ {c : Circuit} {v : Numbers} {names nodes roots widths pairs : List ℕ} where
+  pub handed-are : PiecesOf c v names nodes roots widths pairs → handedTrees v names nodes roots widths pairs ≡ composedConstraints c
+  handed-are p =
+      ap (λ (u : Numbers). constraintTrees u names (map (exprOf nodes) roots) (lookupsOf nodes widths pairs)) (p .numbers-are)
+      ∙ ap (λ (ns : List ℕ). constraintTrees (numbersOf c) ns (map (exprOf nodes) roots) (lookupsOf nodes widths pairs)) (p .copied-are)
+      ∙ ap (λ (es : List Expr). constraintTrees (numbersOf c) (copied c) es (lookupsOf nodes widths pairs)) (p .constraints-are)
+      ∙ ap (λ (ls : List (List Pair)). constraintTrees (numbersOf c) (copied c) (c .constraints) ls) (p .lookups-are)
+      ∙ constraint-trees c
+
+  pub composed-is : PiecesOf c v names nodes roots widths pairs → composeTree v (handedTrees v names nodes roots widths pairs) ≡ compose c
+  composed-is p =
+      ap (composeTree v) (handed-are p) ∙ ap (λ (u : Numbers). composeTree u (composedConstraints c)) (p .numbers-are) ∙ compose-tree c
+
+  pub composed-written : {d d1 : List ℕ} {next : ℕ} → PiecesOf c v names nodes roots widths pairs
+      → Written (composeTree v (handedTrees v names nodes roots widths pairs)) 0 d d1 next
+      → Composed c d d1 next
+  unfolding composedNodes composedWords
+  composed-written {d} {d1} {next} p w =
+      let u : Written (compose c) 0 d d1 next = subst (λ (e : Expr). Written e 0 d d1 next) (composed-is p) w in
+      record { number = omega (arith, u .number); buffer = u .buffer }
+
+-- the pieces of circuit words, whose pairs are all there
+pub circuit-pieces : (ws : List ℕ) → length (bodyOf ws Section.pairs) / 2 ≡ entries ws Section.pairs
+    → PiecesOf (circuitOf ws) (numbersOf (circuitOf ws)) (copied (circuitOf ws)) (bodyOf ws Section.nodes)
+    (bodyOf ws Section.constraints)
+    (bodyOf ws Section.widths)
+    (bodyOf ws Section.pairs)
+unfolding circuitOf lookupsOf
+circuit-pieces ws h =
+    record {
+      numbers-are = refl;
+      copied-are = refl;
+      constraints-are = refl;
+      lookups-are =
+          ap
+          (λ (n : ℕ).
+          split (bodyOf ws Section.widths) (column (pairAt (bodyOf ws Section.nodes) (bodyOf ws Section.pairs)) n))
+          h;
+    }

@@ -1,0 +1,178 @@
+-- How many nodes the composed expression takes, in closed form. Proved.
+use mathlib.Core.Path.{_≡_, refl, sym, ap, ap₂, _∙_}
+use mathlib.Core.Bool.{Bool, true, false, cond}
+use mathlib.Core.List.{List, [], _∷_, _++_, map}
+use Prim.Native.Nat.{ℕ, zero, suc, _+_, _-_, _*_, _≤_, _<_}
+use native.Mathlib.Omega.{arith}
+use lib.Dec.{eqb}
+use lib.ListN.{length, getD, take, drop, length-append}
+use Rattle.util.specs.Lists.{column, total, cut, below, concat, ceilDiv}
+use Rattle.util.proofs.Lists.{concat-length}
+use Rattle.util.proofs.Columns.{column-length, column-cong, column-of, map-column, below-length}
+use Rattle.util.proofs.Totals.{total-append, concat-cut, cut-length}
+use Rattle.expression.specs.Expr.{Expr, Exprs, at, exprsOf, distributePowers}
+use Rattle.expression.specs.Nodes.{exprOf}
+use Rattle.expression.specs.Flat.{body, sizes, extra, size}
+use Rattle.backend.specs.Circuit.{Circuit, Pair, numUser, numLookups, numCopied, copied}
+use Rattle.backend.specs.Constraints.{inputsOf, tablesOf, lookupTree}
+use Rattle.preprocessor.specs.Compose.{numZ, compose, composedConstraints, composedNodes}
+use Rattle.preprocessor.specs.Pieces.{
+  Limits,
+  hAt,
+  partOf,
+  startTree,
+  partTree,
+  lookupTreeOf,
+  constraintTrees,
+  zeroTree,
+  outerTrees,
+  composeTree,
+  numConstraints,
+  numbersOf,
+}
+use Rattle.preprocessor.specs.Count.{nodesIn, listNodes}
+use Rattle.preprocessor.specs.declared.compose.Numbers.{Numbers}
+use Rattle.preprocessor.proofs.Parts.{part-size, start-size}
+use Rattle.preprocessor.proofs.Handed.{outer-length, zero-size}
+
+pub nodes-append : (es fs : List Expr) → nodesIn (es ++ fs) ≡ nodesIn es + nodesIn fs
+unfolding nodesIn
+nodes-append [] fs = omega arith
+nodes-append (e ∷ es) fs = let q = nodes-append es fs in omega arith
+
+pub nodes-one : (e : Expr) → nodesIn (e ∷ []) ≡ size e
+unfolding nodesIn
+nodes-one e = omega arith
+
+pub nodes-column : (f : ℕ → Expr) (n : ℕ) → nodesIn (column f n) ≡ total (column (λ i. size (f i)) n)
+unfolding nodesIn column total
+nodes-column f zero = refl
+nodes-column f (suc n) =
+    nodes-append (column f n) (f n ∷ [])
+    ∙ ap (λ (m : ℕ). m + (size (f n) + 0)) (nodes-column f n)
+    ∙ sym (total-append (column (λ i. size (f i)) n) (size (f n) ∷ []))
+
+-- ---- lists
+exprs-sizes : (e : Expr) (es : List Expr) → sizes (exprsOf e es) ≡ size e + nodesIn es
+unfolding exprsOf nodesIn body
+exprs-sizes e [] = omega arith
+exprs-sizes e (f ∷ es) = let q = exprs-sizes f es in omega arith
+
+exprs-extra : (e : Expr) (es : List Expr) → extra (exprsOf e es) ≡ length es
+unfolding exprsOf body
+exprs-extra e [] = refl
+exprs-extra e (f ∷ es) = ap suc (exprs-extra f es)
+
+pub list-size : (b : Expr) → size b ≡ 1 → (es : List Expr) → size (distributePowers es b) ≡ nodesIn es + listNodes (length es)
+unfolding distributePowers nodesIn listNodes body
+list-size b h [] = refl
+list-size b h (e ∷ []) = omega arith
+list-size b h (e ∷ (f ∷ es)) =
+    let p = exprs-sizes e (f ∷ es) in
+    let q = exprs-extra e (f ∷ es) in
+    omega arith
+
+pub challenge-size : (i : ℕ) → size (Expr.challenge i) ≡ 1
+unfolding body
+challenge-size i = refl
+
+query-size : (q : ℕ) → size (at q) ≡ 1
+unfolding body
+query-size q = refl
+
+-- ---- the outer list
+queries-nodes : (f : ℕ → ℕ) (n : ℕ) → nodesIn (column (λ j. at (f j)) n) ≡ n
+unfolding column nodesIn
+queries-nodes f zero = refl
+queries-nodes f (suc n) =
+    nodes-append (column (λ j. at (f j)) n) (at (f n) ∷ [])
+    ∙ ap₂ _+_ (queries-nodes f n) (nodes-one (at (f n)) ∙ query-size (f n))
+    ∙ omega arith
+
+outer-nodes : (v : Numbers) (es : List Expr) → nodesIn (outerTrees v es) ≡ v .lookups + size (zeroTree v es)
+unfolding outerTrees
+outer-nodes v es =
+    nodes-append (column (λ j. at (hAt v j)) (v .lookups)) (zeroTree v es ∷ [])
+    ∙ ap₂ _+_ (queries-nodes (hAt v) (v .lookups)) (nodes-one (zeroTree v es))
+
+pub compose-size : (v : Numbers) (es : List Expr)
+    → size (composeTree v es) ≡ nodesIn es + listNodes (length es) + 2 + v .lookups + listNodes (suc (v .lookups))
+unfolding composeTree
+compose-size v es =
+    let b : Expr = Expr.challenge (v .user + 2) in
+    let p = list-size b (challenge-size (v .user + 2)) (outerTrees v es) in
+    let q = outer-nodes v es in
+    let r = zero-size v es in
+    let s = list-size b (challenge-size (v .user + 2)) es in
+    let t : listNodes (length (outerTrees v es)) ≡ listNodes (suc (v .lookups)) = ap listNodes (outer-length v es) in
+    omega arith
+
+-- ---- a lookup
+pub lookup-nodes : (v : Numbers) (lookups : List (List Pair)) (j : ℕ)
+    → size (lookupTreeOf v lookups j)
+    ≡ (nodesIn (inputsOf (getD lookups j [])) + listNodes (length (inputsOf (getD lookups j [])))) * 2
+    + (nodesIn (tablesOf (getD lookups j [])) + listNodes (length (tablesOf (getD lookups j [])))) * 2
+    + 16
+unfolding lookupTreeOf body
+lookup-nodes v lookups j =
+    let b : Expr = Expr.challenge (v .user) in
+    let p = list-size b (challenge-size (v .user)) (inputsOf (getD lookups j [])) in
+    let q = list-size b (challenge-size (v .user)) (tablesOf (getD lookups j [])) in
+    omega arith
+
+-- ---- the permutation
+scaled-total : (a : ℕ → ℕ) (n : ℕ) → total (column (λ i. a i * 18 + 4) n) ≡ total (column a n) * 18 + n * 4
+unfolding column total
+scaled-total a zero = refl
+scaled-total a (suc n) =
+    let p = total-append (column (λ i. a i * 18 + 4) n) ((a n * 18 + 4) ∷ []) in
+    let q = total-append (column a n) (a n ∷ []) in
+    let r = scaled-total a n in
+    omega arith
+
+-- the parts hold each copied column once
+parts-total : (v : Numbers) → Limits v → total (column (λ i. length (partOf v i)) (v .parts)) ≡ v .copied
+parts-total v l =
+    let C : List (List ℕ) = cut (v .part) (below (v .copied)) in
+    let n : v .parts ≡ length C =
+    l .parts-are
+    ∙ ap (λ (n : ℕ). ceilDiv n (v .part)) (sym (below-length (v .copied)))
+    ∙ sym (cut-length (v .part) (below (v .copied))) in
+    ap (λ (m : ℕ). total (column (λ i. length (getD C i [])) m)) n
+    ∙ ap total
+    (sym (map-column (λ (xs : List ℕ). length xs) (λ i. getD C i []) (length C)) ∙ ap (map (λ (xs : List ℕ). length xs)) (column-of C []))
+    ∙ sym (concat-length C)
+    ∙ ap length (concat-cut (v .part) (below (v .copied)) (l .some-part))
+    ∙ below-length (v .copied)
+
+pub permutation-nodes : (v : Numbers) (l : Limits v) (names : List ℕ)
+    → nodesIn (startTree v ∷ column (partTree v names) (v .parts)) ≡ 6 + v .copied * 18 + v .parts * 4
+unfolding nodesIn
+permutation-nodes v l names =
+    let p =
+    nodes-column (partTree v names) (v .parts)
+    ∙ ap total
+    (column-cong (λ i. size (partTree v names i)) (λ i. length (partOf v i) * 18 + 4) (v .parts) (λ i h. part-size v l i h names))
+    ∙ scaled-total (λ i. length (partOf v i)) (v .parts) in
+    let q = parts-total v l in
+    let s = start-size v in
+    omega arith
+
+-- ---- all constraints
+some-nodes : (v : Numbers) (l : Limits v) (names : List ℕ) (t : Bool)
+    → nodesIn (cond t [] (startTree v ∷ column (partTree v names) (v .parts))) ≡ cond t 0 (6 + v .copied * 18 + v .parts * 4)
+unfolding nodesIn
+some-nodes v l names true = refl
+some-nodes v l names false = permutation-nodes v l names
+
+pub constraints-nodes : (v : Numbers) (l : Limits v) (names : List ℕ) (user : List Expr) (lookups : List (List Pair))
+    → nodesIn (constraintTrees v names user lookups)
+    ≡ nodesIn user + nodesIn (column (lookupTreeOf v lookups) (v .lookups))
+    + cond (eqb (v .copied) 0) 0 (6 + v .copied * 18 + v .parts * 4)
+unfolding constraintTrees
+constraints-nodes v l names user lookups =
+    let P : List Expr = cond (eqb (v .copied) 0) [] (startTree v ∷ column (partTree v names) (v .parts)) in
+    let a = nodes-append user (column (lookupTreeOf v lookups) (v .lookups) ++ P) in
+    let b = nodes-append (column (lookupTreeOf v lookups) (v .lookups)) P in
+    let c = some-nodes v l names (eqb (v .copied) 0) in
+    omega arith
