@@ -59,7 +59,7 @@ pub constraint-trees : (c : Circuit)
 unfolding constraintTrees lookupTreeOf startTree partTree identityTree permutationTree nextTree numbersOf composedConstraints lookupConstraints lookupConstraint permutationConstraints startConstraint partConstraint identityFactor permutationFactor nextZ constraintCut
 constraint-trees c = refl
 
-compose-tree : (c : Circuit) → composeTree (numbersOf c) (composedConstraints c) ≡ compose c
+pub compose-tree : (c : Circuit) → composeTree (numbersOf c) (composedConstraints c) ≡ compose c
 unfolding composeTree outerTrees zeroTree numbersOf compose zeroCheck
 compose-tree c = refl
 

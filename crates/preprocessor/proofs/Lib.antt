@@ -8,3 +8,4 @@ pub mod Parts
 pub mod Handed
 pub mod Composed
 pub mod Nodes
+pub mod Counts

@@ -28,12 +28,14 @@ use Rattle.preprocessor.specs.Pieces.{
   outerTrees,
   composeTree,
   numConstraints,
+  permutationNodes,
   numbersOf,
 }
 use Rattle.preprocessor.specs.Count.{nodesIn, listNodes}
 use Rattle.preprocessor.specs.declared.compose.Numbers.{Numbers}
 use Rattle.preprocessor.proofs.Parts.{part-size, start-size}
 use Rattle.preprocessor.proofs.Handed.{outer-length, zero-size}
+use Rattle.preprocessor.proofs.Composed.{constraint-trees, compose-tree}
 
 pub nodes-append : (es fs : List Expr) → nodesIn (es ++ fs) ≡ nodesIn es + nodesIn fs
 unfolding nodesIn
@@ -168,11 +170,28 @@ some-nodes v l names false = permutation-nodes v l names
 pub constraints-nodes : (v : Numbers) (l : Limits v) (names : List ℕ) (user : List Expr) (lookups : List (List Pair))
     → nodesIn (constraintTrees v names user lookups)
     ≡ nodesIn user + nodesIn (column (lookupTreeOf v lookups) (v .lookups))
-    + cond (eqb (v .copied) 0) 0 (6 + v .copied * 18 + v .parts * 4)
-unfolding constraintTrees
+    + permutationNodes v
+unfolding constraintTrees permutationNodes
 constraints-nodes v l names user lookups =
     let P : List Expr = cond (eqb (v .copied) 0) [] (startTree v ∷ column (partTree v names) (v .parts)) in
     let a = nodes-append user (column (lookupTreeOf v lookups) (v .lookups) ++ P) in
     let b = nodes-append (column (lookupTreeOf v lookups) (v .lookups)) P in
     let c = some-nodes v l names (eqb (v .copied) 0) in
+    omega arith
+
+-- user nodes, lookups, permutation, what the lists add, the product with EqXY(0), the h queries
+pub composed-nodes : (c : Circuit) → Limits (numbersOf c)
+    → composedNodes c
+    ≡ nodesIn (c .constraints) + nodesIn (column (lookupTreeOf (numbersOf c) (c .lookups)) (numLookups c))
+    + permutationNodes (numbersOf c)
+    + listNodes (length (composedConstraints c))
+    + 2
+    + numLookups c
+    + listNodes (suc (numLookups c))
+unfolding composedNodes numbersOf
+composed-nodes c l =
+    let p = compose-size (numbersOf c) (composedConstraints c) in
+    let q = ap size (compose-tree c) in
+    let r = constraints-nodes (numbersOf c) l (copied c) (c .constraints) (c .lookups) in
+    let s = ap nodesIn (constraint-trees c) in
     omega arith

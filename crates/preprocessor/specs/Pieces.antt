@@ -155,6 +155,10 @@ pub record Handed (v : Numbers) (names nodes roots widths pairs : List ℕ) : Ty
 unfoldable pub numConstraints : ℕ → Numbers → ℕ
 numConstraints own v = own + v .lookups + cond (eqb (v .copied) 0) 0 (suc (v .parts))
 
+-- the nodes of the permutation's constraints
+unfoldable pub permutationNodes : Numbers → ℕ
+permutationNodes v = cond (eqb (v .copied) 0) 0 (6 + v .copied * 18 + v .parts * 4)
+
 -- the pieces are those of a circuit
 pub record PiecesOf (c : Circuit) (v : Numbers) (names nodes roots widths pairs : List ℕ) : Type 0 where
   pub numbers-are : v ≡ numbersOf c

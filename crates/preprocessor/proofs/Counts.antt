@@ -1,0 +1,204 @@
+-- Counts that stop at 2^60, one expression after another. Proved.
+use mathlib.Core.Path.{_≡_, refl, sym, ap, ap₂, _∙_}
+use mathlib.Core.Bool.{Bool, cond}
+use mathlib.Core.List.{List, [], _∷_, _++_, map}
+use borrow.Author.Tests.{eq-eqb, ne-eqb}
+use Prim.Native.Nat.{ℕ, zero, suc, _+_, _-_, _*_, _≤_, _<_, min}
+use native.Mathlib.Nat.{mul-le-mul-right, suc-mul, mul-one, zero-add}
+use native.Mathlib.Numerals.{add-one}
+use native.Mathlib.Omega.{arith}
+use lib.ListN.{length, getD, take}
+use Rattle.util.specs.Lists.{column, total, All}
+use Rattle.util.proofs.Columns.{column-suc, column-cong, column-of, map-column}
+use Rattle.expression.specs.Expr.{Expr, distributePowers}
+use Rattle.expression.specs.Nodes.{exprOf}
+use Rattle.expression.specs.Flat.{size}
+use Rattle.backend.specs.Circuit.{Circuit}
+use Rattle.preprocessor.specs.Compose.{compose, composedNodes}
+use Rattle.preprocessor.specs.Pieces.{
+  Limits,
+  Words,
+  mAt,
+  hAt,
+  sideExprs,
+  sideTree,
+  lookupsOf,
+  lookupTreeOf,
+  handedTrees,
+  composeTree,
+  numConstraints,
+  permutationNodes,
+  PiecesOf,
+}
+use Rattle.preprocessor.specs.Count.{nodesIn, listNodes, most}
+use Rattle.preprocessor.specs.declared.compose.Numbers.{Numbers}
+use Rattle.preprocessor.proofs.Handed.{handed-length, lookup-tree, lookup-size, side-length, side-size}
+use Rattle.preprocessor.proofs.Composed.{composed-is}
+use Rattle.preprocessor.proofs.Nodes.{nodes-append, nodes-one, list-size, challenge-size, compose-size, constraints-nodes}
+
+-- the capped sum of two capped counts
+pub capped : (r a b A B : ℕ) → r ≡ min most (a + b) → a ≡ min most A → b ≡ min most B → r ≡ min most (A + B)
+capped r a b A B h p q = omega arith
+
+-- root i of w, which stand `step` words apart from s on
+pub root-below : (s step w len i : ℕ) → s + w * step < len + step → i < w → s + i * step < len
+root-below s step w len i h l =
+    let m : suc i * step ≤ w * step = mul-le-mul-right step l in
+    let e = suc-mul i step in
+    omega arith
+
+-- one expression more
+pub nodes-more : (f : ℕ → Expr) (i : ℕ) → nodesIn (column f (i + 1)) ≡ nodesIn (column f i) + size (f i)
+nodes-more f i =
+    ap (λ (n : ℕ). nodesIn (column f n)) (add-one i) ∙ ap nodesIn (column-suc f i) ∙ nodes-append (column f i) (f i ∷ [])
+    ∙ ap (λ (n : ℕ). nodesIn (column f i) + n) (nodes-one (f i))
+
+pub count-more : (f : ℕ → Expr) (i r sum x : ℕ) → r ≡ min most (sum + x) → sum ≡ min most (nodesIn (column f i))
+    → x ≡ min most (size (f i))
+    → r ≡ min most (nodesIn (column f (i + 1)))
+count-more f i r sum x h p q =
+    capped r sum x (nodesIn (column f i)) (size (f i)) h p q ∙ ap (min most) (sym (nodes-more f i))
+
+pub count-none : (f : ℕ → Expr) → 0 ≡ min most (nodesIn (column f 0))
+unfolding column nodesIn
+count-none f = refl
+
+pub count-all : (f : ℕ → Expr) (sum i n : ℕ) → i ≡ n → sum ≡ min most (nodesIn (column f i)) → sum ≡ min most (nodesIn (column f n))
+count-all f sum i n e h = h ∙ ap (λ (m : ℕ). min most (nodesIn (column f m))) e
+
+-- what a list adds
+pub list-none : 1 ≡ min most (listNodes 0)
+unfolding listNodes
+list-none = refl
+
+pub list-one : 0 ≡ min most (listNodes 1)
+unfolding listNodes
+list-one = refl
+
+pub list-many : (n r : ℕ) → (n ≡ 0 → ⊥) → (n ≡ 1 → ⊥) → r ≡ min most (n + 2) → r ≡ min most (listNodes n)
+unfolding listNodes
+list-many zero r h k e = absurd (h refl)
+list-many (suc zero) r h k e = absurd (k refl)
+list-many (suc (suc n)) r h k e = omega arith
+
+-- a side, a lookup
+pub side-counted : (nodes pairs : List ℕ) (beta s w r x y : ℕ) → r ≡ min most (x + y)
+    → x ≡ min most (nodesIn (column (λ i. exprOf nodes (getD pairs (s + i * 2) 0)) w))
+    → y ≡ min most (listNodes w)
+    → r ≡ min most (size (distributePowers (sideExprs nodes pairs s w) (Expr.challenge beta)))
+unfolding sideExprs
+side-counted nodes pairs beta s w r x y h p q =
+    let es : List Expr = column (λ i. exprOf nodes (getD pairs (s + i * 2) 0)) w in
+    capped r x y (nodesIn es) (listNodes w) h p q
+    ∙ ap (min most)
+    (ap (λ (n : ℕ). nodesIn es + listNodes n) (sym (side-length nodes pairs s w))
+    ∙ sym (list-size (Expr.challenge beta) (challenge-size beta) es))
+
+pub lookup-counted : (nodes pairs : List ℕ) (beta s w r a b x y : ℕ) → r ≡ min most (y + 16) → y ≡ min most (x + x)
+    → x ≡ min most (a + b)
+    → a ≡ min most (size (distributePowers (sideExprs nodes pairs s w) (Expr.challenge beta)))
+    → b ≡ min most (size (distributePowers (sideExprs nodes pairs (s + 1) w) (Expr.challenge beta)))
+    → r ≡ min most (size (sideTree nodes pairs beta s w) * 2 + size (sideTree nodes pairs beta (s + 1) w) * 2 + 8)
+lookup-counted nodes pairs beta s w r a b x y h p q ea eb =
+    let A : ℕ = size (distributePowers (sideExprs nodes pairs s w) (Expr.challenge beta)) in
+    let B : ℕ = size (distributePowers (sideExprs nodes pairs (s + 1) w) (Expr.challenge beta)) in
+    let e : x ≡ min most (A + B) = capped x a b A B q ea eb in
+    let f : y ≡ min most (A + B + (A + B)) = capped y x x (A + B) (A + B) p e e in
+    let u = side-size nodes pairs beta s w in
+    let t = side-size nodes pairs beta (s + 1) w in
+    plain r y A B (size (sideTree nodes pairs beta s w)) (size (sideTree nodes pairs beta (s + 1) w)) h f u t
+  where
+    plain : (r y A B S T : ℕ) → r ≡ min most (y + 16) → y ≡ min most (A + B + (A + B)) → S ≡ A + 2 → T ≡ B + 2
+        → r ≡ min most (S * 2 + T * 2 + 8)
+    plain r y A B S T h f u t = omega arith
+
+-- the constraint of lookup j, whose pairs begin at s
+pub lookup-is : (v : Numbers) (nodes widths pairs : List ℕ) (j s w r : ℕ) → total widths * 2 ≤ length pairs → j < length widths
+    → s ≡ total (take j widths)
+    → w ≡ getD widths j 0
+    → r ≡ min most (size (sideTree nodes pairs (v .user) (s * 2) w) * 2 + size (sideTree nodes pairs (v .user) (s * 2 + 1) w) * 2 + 8)
+    → r ≡ min most (size (lookupTreeOf v (lookupsOf nodes widths pairs) j))
+lookup-is v nodes widths pairs j s w r enough h es ew e =
+    e
+    ∙ ap₂
+    (λ (s w : ℕ).
+    min most (size (sideTree nodes pairs (v .user) (s * 2) w) * 2 + size (sideTree nodes pairs (v .user) (s * 2 + 1) w) * 2 + 8))
+    es
+    ew
+    ∙ ap (min most)
+    (sym
+    (ap size (lookup-tree nodes widths pairs enough j h v)
+    ∙ lookup-size (mAt v j) (hAt v j) (sideTree nodes pairs (v .user) (total (take j widths) * 2) (getD widths j 0))
+    (sideTree nodes pairs (v .user) (total (take j widths) * 2 + 1) (getD widths j 0))))
+
+-- the permutation's
+pub permutation-none : (v : Numbers) → v .copied ≡ 0 → permutationNodes v ≡ 0
+unfolding permutationNodes
+permutation-none v h = ap (λ (t : Bool). cond t 0 (6 + v .copied * 18 + v .parts * 4)) (eq-eqb (v .copied) 0 h)
+
+pub permutation-some : (v : Numbers) → (v .copied ≡ 0 → ⊥) → permutationNodes v ≡ 6 + v .copied * 18 + v .parts * 4
+unfolding permutationNodes
+permutation-some v h = ap (λ (t : Bool). cond t 0 (6 + v .copied * 18 + v .parts * 4)) (ne-eqb (v .copied) 0 h)
+
+-- the user's own constraints
+pub own-nodes : (nodes roots : List ℕ)
+    → nodesIn (column (λ i. exprOf nodes (getD roots (0 + i * 1) 0)) (length roots)) ≡ nodesIn (map (exprOf nodes) roots)
+own-nodes nodes roots =
+    ap nodesIn
+    (column-cong (λ i. exprOf nodes (getD roots (0 + i * 1) 0)) (λ i. exprOf nodes (getD roots i 0)) (length roots)
+    (λ i l. ap (λ (n : ℕ). exprOf nodes (getD roots n 0)) (zero-add (i * 1) ∙ mul-one i))
+    ∙ sym (map-column (exprOf nodes) (λ i. getD roots i 0) (length roots))
+    ∙ ap (map (exprOf nodes)) (column-of roots 0))
+
+-- all of it
+module _ {c : Circuit} {v : Numbers} {names nodes roots widths pairs : List ℕ} where
+  counted : Limits v → PiecesOf c v names nodes roots widths pairs
+      → composedNodes c
+      ≡ nodesIn (map (exprOf nodes) roots) + nodesIn (column (lookupTreeOf v (lookupsOf nodes widths pairs)) (v .lookups))
+      + permutationNodes v
+      + listNodes (numConstraints (length roots) v)
+      + 2
+      + v .lookups
+      + listNodes (suc (v .lookups))
+  unfolding composedNodes
+  counted l p =
+      let es : List Expr = handedTrees v names nodes roots widths pairs in
+      let a = ap size (composed-is p) in
+      let b = compose-size v es in
+      let d = constraints-nodes v l names (map (exprOf nodes) roots) (lookupsOf nodes widths pairs) in
+      let e = ap listNodes (handed-length v names nodes roots widths pairs) in
+      omega arith
+
+  pub composed-counted : (r own looks perm x y z u m k : ℕ) → Limits v → PiecesOf c v names nodes roots widths pairs
+      → own ≡ min most (nodesIn (column (λ i. exprOf nodes (getD roots (0 + i * 1) 0)) (length roots)))
+      → looks ≡ min most (nodesIn (column (lookupTreeOf v (lookupsOf nodes widths pairs)) (v .lookups)))
+      → perm ≡ permutationNodes v
+      → m ≡ min most (listNodes (numConstraints (length roots) v))
+      → k ≡ min most (listNodes (v .lookups + 1))
+      → x ≡ min most (own + looks)
+      → y ≡ min most (x + perm)
+      → z ≡ min most (y + m)
+      → u ≡ min most (z + (v .lookups + 2))
+      → r ≡ min most (u + k)
+      → r ≡ min most (composedNodes c)
+  composed-counted r own looks perm x y z u m k l p ho hl hp hm hk hx hy hz hu hr =
+      let A : ℕ = nodesIn (map (exprOf nodes) roots) in
+      let B : ℕ = nodesIn (column (lookupTreeOf v (lookupsOf nodes widths pairs)) (v .lookups)) in
+      let M : ℕ = listNodes (numConstraints (length roots) v) in
+      let K : ℕ = listNodes (v .lookups + 1) in
+      let ex : x ≡ min most (A + B) = capped x own looks A B hx (ho ∙ ap (min most) (own-nodes nodes roots)) hl in
+      let ey : y ≡ min most (A + B + permutationNodes v) = plain y x perm (A + B) (permutationNodes v) hy ex hp in
+      let ez : z ≡ min most (A + B + permutationNodes v + M) = capped z y m (A + B + permutationNodes v) M hz ey hm in
+      let eu : u ≡ min most (A + B + permutationNodes v + M + (v .lookups + 2)) =
+      plain u z (v .lookups + 2) (A + B + permutationNodes v + M) (v .lookups + 2) hu ez refl in
+      let er : r ≡ min most (A + B + permutationNodes v + M + (v .lookups + 2) + K) =
+      capped r u k (A + B + permutationNodes v + M + (v .lookups + 2)) K hr eu hk in
+      er
+      ∙ ap (min most)
+      (sum A B (permutationNodes v) M (v .lookups) K ∙ ap (λ (n : ℕ). A + B + permutationNodes v + M + 2 + v .lookups + listNodes n) (add-one (v .lookups)) ∙ sym (counted l p))
+    where
+      plain : (r a b A B : ℕ) → r ≡ min most (a + b) → a ≡ min most A → b ≡ B → r ≡ min most (A + B)
+      plain r a b A B h p q = omega arith
+
+      sum : (A B P M L K : ℕ) → A + B + P + M + (L + 2) + K ≡ A + B + P + M + 2 + L + K
+      sum A B P M L K = omega arith

@@ -1,0 +1,25 @@
+use Prim.Native.Nat.{ℕ, min}
+use Rattle.preprocessor.proofs.Counts as counts
+use Rattle.preprocessor.specs.Count.{listNodes, most}
+use mathlib.Core.Path.{_≡_, sym, ap, _∙_}
+use borrow.Author.Needs.{needs}
+use Rattle.preprocessor.proofs.count.list_nodes.Statement.{statement}
+use Rattle.preprocessor.proofs.count.list_nodes.Tie as tie
+use Rattle.preprocessor.proofs.count.list_nodes.Reads as reads
+use Rattle.preprocessor.proofs.count.list_nodes.Lts as lts
+use Rattle.preprocessor.proofs.count.plus.Reads as plus-reads
+
+returns : tie.Need-returns
+returns c = counts.list-none ∙ ap (λ (n : ℕ). min most (listNodes n)) (sym (c .if1 .taken))
+
+returns-2 : tie.Need-returns-2
+returns-2 c = counts.list-one ∙ ap (λ (n : ℕ). min most (listNodes n)) (sym (c .if2 .taken))
+
+plus-requires : tie.Need-plus-requires
+plus-requires c κs = search needs
+
+returns-3 : tie.Need-returns-3
+returns-3 c = counts.list-many (c .before .before .before .args .n) (c .plus .result) (c .before .before .if1 .left) (c .before .if2 .left) (c .plus .ensures)
+
+pub list-nodes-spec : {M : Type 1} → statement M
+list-nodes-spec = tie.close (tie.spec returns returns-2 plus-requires returns-3)
