@@ -1,8 +1,8 @@
 // How many nodes `compose` writes, counted beforehand from the sizes of the user's expressions; 2^60 where there are more.
-use expression::degree::size_of;
-use expression::node::index;
 use crate::compose::Numbers;
 use crate::compose::num_constraints;
+use expression::degree::size_of;
+use expression::node::index;
 ghost use mathlib.Core.Path.{_≡_};
 ghost use mathlib.Core.List.{List};
 ghost use Prim.Native.Nat.{ℕ, suc, _+_, _*_, _≤_, _<_, _^_, min};
