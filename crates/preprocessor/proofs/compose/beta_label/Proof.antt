@@ -4,12 +4,6 @@ use native.Mathlib.Omega.{arith}
 use borrow.Author.Needs.{needs}
 use Rattle.preprocessor.proofs.compose.beta_label.Statement.{statement}
 use Rattle.preprocessor.proofs.compose.beta_label.Tie as tie
-use Rattle.preprocessor.proofs.compose.beta_label.Reads as reads
-use Rattle.preprocessor.proofs.compose.beta_label.Lts as lts
-use Rattle.expression.proofs.copy.push.Reads as push-reads
-use Rattle.preprocessor.proofs.compose.challenge.Reads as challenge-reads
-use Rattle.preprocessor.proofs.compose.product.Reads as product-reads
-use Rattle.preprocessor.proofs.compose.sum.Reads as sum-reads
 
 challenge-requires : tie.Need-challenge-requires
 challenge-requires c κs = search needs

@@ -4,11 +4,6 @@ use native.Mathlib.Omega.{arith}
 use borrow.Author.Needs.{needs}
 use Rattle.preprocessor.proofs.compose.beta_query.Statement.{statement}
 use Rattle.preprocessor.proofs.compose.beta_query.Tie as tie
-use Rattle.preprocessor.proofs.compose.beta_query.Reads as reads
-use Rattle.preprocessor.proofs.compose.beta_query.Lts as lts
-use Rattle.preprocessor.proofs.compose.challenge.Reads as challenge-reads
-use Rattle.preprocessor.proofs.compose.product.Reads as product-reads
-use Rattle.preprocessor.proofs.compose.query.Reads as query-reads
 
 challenge-requires : tie.Need-challenge-requires
 challenge-requires c κs = search needs

@@ -1,21 +1,14 @@
-use Prim.Native.Nat.{ℕ, suc, _+_, _*_, _-_, _≤_, _<_}
-use Rattle.expression.specs.Expr.{Expr, distributePowers}
+use Prim.Native.Nat.{_+_}
+use Rattle.expression.specs.Expr.{Expr}
 use Rattle.expression.specs.Flat.{body}
 use Rattle.preprocessor.proofs.Handed as handed
 use Rattle.preprocessor.proofs.Lists as lists
-use Rattle.preprocessor.specs.Pieces.{handedTrees, numConstraints, exprsFrom}
-use mathlib.Core.Path.{_≡_, refl, sym, ap, _∙_}
+use Rattle.preprocessor.specs.Pieces.{handedTrees}
+use mathlib.Core.Path.{sym, _∙_}
 use native.Mathlib.Omega.{arith}
 use borrow.Author.Needs.{needs}
 use Rattle.preprocessor.proofs.compose.constraint_powers.Statement.{statement}
 use Rattle.preprocessor.proofs.compose.constraint_powers.Tie as tie
-use Rattle.preprocessor.proofs.compose.constraint_powers.Reads as reads
-use Rattle.preprocessor.proofs.compose.constraint_powers.Lts as lts
-use Rattle.expression.proofs.copy.push.Reads as push-reads
-use Rattle.preprocessor.proofs.compose.constraint.Reads as constraint-reads
-use Rattle.preprocessor.proofs.compose.constraint_items.Reads as constraint-items-reads
-use Rattle.preprocessor.proofs.compose.list_head.Reads as list-head-reads
-use Rattle.preprocessor.proofs.compose.num_constraints.Reads as num-constraints-reads
 
 num-constraints-requires : tie.Need-num-constraints-requires
 num-constraints-requires c κs = search needs
@@ -37,13 +30,14 @@ returns c =
 
 constraint-requires : tie.Need-constraint-requires
 constraint-requires c κs =
-    let a = (c .before .before .before .before .before .before .before .before .before .before .args) in
+    let entry = c .before .before .before .before .before .before .before .before .before .before in
+    let a = (entry .args) in
     let v = a .v in
     let es = handedTrees v (a .copied .now) (a .user .now) (a .roots .now) (a .widths .now) (a .pairs .now) in
     let long = handed.handed-length v (a .copied .now) (a .user .now) (a .roots .now) (a .widths .now) (a .pairs .now) in
     let b = Expr.challenge (v .user + 2) in
     let q = lists.one-size b es (long ∙ sym (c .before .before .before .num-constraints .ensures) ∙ (c .before .if2 .taken)) in
-    ((c .before .before .before .before .before .before .before .before .before .before .pre .0), (omega (arith, (c .before .before .before .num-constraints .ensures), (c .before .if2 .taken)), omega (arith, (c .before .before .before .before .before .before .before .before .before .before .pre .1))))
+    ((entry .pre .0), (omega (arith, (c .before .before .before .num-constraints .ensures), (c .before .if2 .taken)), omega (arith, (entry .pre .1))))
 
 same-length-2 : tie.Need-same-length-2
 same-length-2 c = search needs
@@ -60,25 +54,27 @@ returns-2 c =
 constraint-items-requires : tie.Need-constraint-items-requires
 unfolding body
 constraint-items-requires c κs =
-    let a = (c .before .before .before .before .before .before .before .before .before .before .args) in
+    let entry = c .before .before .before .before .before .before .before .before .before .before in
+    let a = (entry .args) in
     let v = a .v in
     let es = handedTrees v (a .copied .now) (a .user .now) (a .roots .now) (a .widths .now) (a .pairs .now) in
     let long = handed.handed-length v (a .copied .now) (a .user .now) (a .roots .now) (a .widths .now) (a .pairs .now) in
     let b = Expr.challenge (v .user + 2) in
     let q = lists.many-size b es (omega (arith, (c .before .before .before .num-constraints .ensures), (c .before .before .if1 .left), (c .before .if2 .left))) in
-    ((c .before .before .before .before .before .before .before .before .before .before .pre .0), (omega (arith, (c .before .before .before .num-constraints .ensures), (c .before .before .if1 .left)), omega (arith, (c .before .before .before .before .before .before .before .before .before .before .pre .1))))
+    ((entry .pre .0), (omega (arith, (c .before .before .before .num-constraints .ensures), (c .before .before .if1 .left)), omega (arith, (entry .pre .1))))
 
 list-head-requires : tie.Need-list-head-requires
 unfolding body
 list-head-requires c κs =
-    let a = (c .before .before .before .before .before .before .before .before .before .before .before .before .before .before .args) in
+    let entry = c .before .before .before .before .before .before .before .before .before .before .before .before .before .before in
+    let a = (entry .args) in
     let v = a .v in
     let es = handedTrees v (a .copied .now) (a .user .now) (a .roots .now) (a .widths .now) (a .pairs .now) in
     let long = handed.handed-length v (a .copied .now) (a .user .now) (a .roots .now) (a .widths .now) (a .pairs .now) in
     let b = Expr.challenge (v .user + 2) in
     let q = lists.many-size b es (omega (arith, (c .before .before .before .before .before .before .before .num-constraints .ensures), (c .before .before .before .before .before .before .if1 .left), (c .before .before .before .before .before .if2 .left))) in
     let y = (c .before .before .before .constraint-items .ensures .number) in
-    omega (arith, (c .before .before .before .before .before .before .before .before .before .before .before .before .before .before .pre .1))
+    omega (arith, (entry .pre .1))
 
 same-length-3 : tie.Need-same-length-3
 same-length-3 c = search needs

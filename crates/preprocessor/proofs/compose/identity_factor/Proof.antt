@@ -6,12 +6,6 @@ use native.Mathlib.Omega.{arith}
 use borrow.Author.Needs.{needs}
 use Rattle.preprocessor.proofs.compose.identity_factor.Statement.{statement}
 use Rattle.preprocessor.proofs.compose.identity_factor.Tie as tie
-use Rattle.preprocessor.proofs.compose.identity_factor.Reads as reads
-use Rattle.preprocessor.proofs.compose.identity_factor.Lts as lts
-use Rattle.preprocessor.proofs.compose.beta_label.Reads as beta-label-reads
-use Rattle.preprocessor.proofs.compose.challenge.Reads as challenge-reads
-use Rattle.preprocessor.proofs.compose.query.Reads as query-reads
-use Rattle.preprocessor.proofs.compose.sum.Reads as sum-reads
 
 mul-query : tie.Need-mul-query
 mul-query c = search needs
@@ -23,7 +17,9 @@ query-requires : tie.Need-query-requires
 query-requires c κs = search needs
 
 mul-beta-label : tie.Need-mul-beta-label
-mul-beta-label c = sizes.label-fits ((c .before .before .before .before .before .before .before .before .before .args .v)) ((c .before .before .before .before .before .before .before .before .before .pre .0)) ((c .before .before .before .before .before .before .before .before .before .args .i)) ((c .before .before .before .before .before .before .before .before .before .pre .1 .0))
+mul-beta-label c =
+    let entry = c .before .before .before .before .before .before .before .before .before in
+    sizes.label-fits ((entry .args .v)) ((entry .pre .0)) ((entry .args .i)) ((entry .pre .1 .0))
 
 beta-label-requires : tie.Need-beta-label-requires
 unfolding body

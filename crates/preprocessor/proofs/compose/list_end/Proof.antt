@@ -4,10 +4,6 @@ use native.Mathlib.Omega.{arith}
 use borrow.Author.Needs.{needs}
 use Rattle.preprocessor.proofs.compose.list_end.Statement.{statement}
 use Rattle.preprocessor.proofs.compose.list_end.Tie as tie
-use Rattle.preprocessor.proofs.compose.list_end.Reads as reads
-use Rattle.preprocessor.proofs.compose.list_end.Lts as lts
-use Rattle.expression.proofs.copy.push.Reads as push-reads
-use Rattle.preprocessor.proofs.compose.challenge.Reads as challenge-reads
 
 challenge-requires : tie.Need-challenge-requires
 challenge-requires c κs = search needs

@@ -2,16 +2,8 @@ use Rattle.expression.proofs.Written as written
 use Rattle.expression.specs.Flat.{body}
 use borrow.Author.Needs.{needs}
 use native.Mathlib.Omega.{arith}
-use borrow.Author.Needs.{needs}
 use Rattle.preprocessor.proofs.compose.lookup_constraint.Statement.{statement}
 use Rattle.preprocessor.proofs.compose.lookup_constraint.Tie as tie
-use Rattle.preprocessor.proofs.compose.lookup_constraint.Reads as reads
-use Rattle.preprocessor.proofs.compose.lookup_constraint.Lts as lts
-use Rattle.preprocessor.proofs.compose.negated.Reads as negated-reads
-use Rattle.preprocessor.proofs.compose.product.Reads as product-reads
-use Rattle.preprocessor.proofs.compose.query_side.Reads as query-side-reads
-use Rattle.preprocessor.proofs.compose.side.Reads as side-reads
-use Rattle.preprocessor.proofs.compose.sum.Reads as sum-reads
 
 add-m : tie.Need-add-m
 add-m c = search needs

@@ -3,10 +3,6 @@ use native.Mathlib.Omega.{arith}
 use borrow.Author.Needs.{needs}
 use Rattle.preprocessor.proofs.compose.next_z.Statement.{statement}
 use Rattle.preprocessor.proofs.compose.next_z.Tie as tie
-use Rattle.preprocessor.proofs.compose.next_z.Reads as reads
-use Rattle.preprocessor.proofs.compose.next_z.Lts as lts
-use Rattle.expression.proofs.copy.push.Reads as push-reads
-use Rattle.preprocessor.proofs.compose.query.Reads as query-reads
 
 add-z : tie.Need-add-z
 add-z c = search needs
@@ -33,7 +29,9 @@ same-length : tie.Need-same-length
 same-length c = search needs
 
 returns : tie.Need-returns
-returns c = parts.next-written (c .before .before .before .before .before .before .before .before .before .args .v) (c .before .before .before .before .before .before .before .before .before .args .i) _ (omega arith) (omega (arith, (c .before .before .before .before .if1 .taken))) (c .before .before .query .ensures)
+returns c =
+    let entry = c .before .before .before .before .before .before .before .before .before in
+    parts.next-written (entry .args .v) (entry .args .i) _ (omega arith) (omega (arith, (c .before .before .before .before .if1 .taken))) (c .before .before .query .ensures)
 
 push-requires : tie.Need-push-requires
 push-requires c κs = search needs
@@ -42,7 +40,9 @@ same-length-2 : tie.Need-same-length-2
 same-length-2 c = search needs
 
 returns-2 : tie.Need-returns-2
-returns-2 c = parts.around-written (c .before .before .before .before .before .before .before .before .before .args .v) (c .before .before .before .before .before .before .before .before .before .args .i) _ (omega arith) (omega (arith, (c .before .before .before .before .if1 .left))) (c .before .before .push .ensures)
+returns-2 c =
+    let entry = c .before .before .before .before .before .before .before .before .before in
+    parts.around-written (entry .args .v) (entry .args .i) _ (omega arith) (omega (arith, (c .before .before .before .before .if1 .left))) (c .before .before .push .ensures)
 
 pub next-z-spec : {M : Type 1} → statement M
 next-z-spec =

@@ -5,26 +5,32 @@ use native.Mathlib.Omega.{arith}
 use borrow.Author.Needs.{needs}
 use Rattle.preprocessor.proofs.compose.num_constraints.Statement.{statement}
 use Rattle.preprocessor.proofs.compose.num_constraints.Tie as tie
-use Rattle.preprocessor.proofs.compose.num_constraints.Reads as reads
-use Rattle.preprocessor.proofs.compose.num_constraints.Lts as lts
 
 add-result : tie.Need-add-result
 add-result c = search needs
 
 returns : tie.Need-returns
-returns c = sym (handed.num-none (c .before .before .before .args .own) (c .before .before .before .args .v) (c .before .if1 .taken))
+returns c =
+    let entry = c .before .before .before in
+    sym (handed.num-none (entry .args .own) (entry .args .v) (c .before .if1 .taken))
 
 add-result-2 : tie.Need-add-result-2
 add-result-2 c = search needs
 
 add-result-3 : tie.Need-add-result-3
-add-result-3 c = let f = parts.parts-few (c .before .before .before .before .args .v) (c .before .before .before .before .pre .0) in omega (arith, (c .before .before .before .before .pre))
+add-result-3 c =
+    let entry = c .before .before .before .before in
+    let f = parts.parts-few (entry .args .v) (entry .pre .0) in omega (arith, (entry .pre))
 
 add-result-4 : tie.Need-add-result-4
-add-result-4 c = let f = parts.parts-few (c .before .before .before .before .args .v) (c .before .before .before .before .pre .0) in omega (arith, (c .before .before .before .before .pre))
+add-result-4 c =
+    let entry = c .before .before .before .before in
+    let f = parts.parts-few (entry .args .v) (entry .pre .0) in omega (arith, (entry .pre))
 
 returns-2 : tie.Need-returns-2
-returns-2 c = sym (handed.num-some (c .before .before .before .before .args .own) (c .before .before .before .before .args .v) (c .before .before .if1 .left))
+returns-2 c =
+    let entry = c .before .before .before .before in
+    sym (handed.num-some (entry .args .own) (entry .args .v) (c .before .before .if1 .left))
 
 pub num-constraints-spec : {M : Type 1} → statement M
 num-constraints-spec =

@@ -1,31 +1,27 @@
-use Prim.Native.Nat.{ℕ, suc, _+_, _*_, _-_, _≤_, _<_}
+use Prim.Native.Nat.{_+_}
 use Rattle.expression.proofs.Written as written
-use Rattle.expression.specs.Expr.{Expr, distributePowers}
+use Rattle.expression.specs.Expr.{Expr}
 use Rattle.expression.specs.Flat.{body, size}
 use Rattle.preprocessor.proofs.Handed as handed
 use Rattle.preprocessor.proofs.Lists as lists
-use Rattle.preprocessor.specs.Pieces.{handedTrees, zeroTree, outerTrees, composeTree, exprsFrom}
-use mathlib.Core.Path.{_≡_, refl, sym, ap, _∙_}
+use Rattle.preprocessor.specs.Pieces.{handedTrees, outerTrees, composeTree}
+use mathlib.Core.Path.{ap}
 use native.Mathlib.Omega.{arith}
 use borrow.Author.Needs.{needs}
 use Rattle.preprocessor.proofs.compose.outer.Statement.{statement}
 use Rattle.preprocessor.proofs.compose.outer.Tie as tie
-use Rattle.preprocessor.proofs.compose.outer.Reads as reads
-use Rattle.preprocessor.proofs.compose.outer.Lts as lts
-use Rattle.preprocessor.proofs.compose.list_head.Reads as list-head-reads
-use Rattle.preprocessor.proofs.compose.outer_items.Reads as outer-items-reads
-use Rattle.preprocessor.proofs.compose.zero_check.Reads as zero-check-reads
 
 zero-check-requires : tie.Need-zero-check-requires
 zero-check-requires c κs =
-    let a = (c .before .before .before .before .before .before .before .before .before .args) in
+    let entry = c .before .before .before .before .before .before .before .before .before in
+    let a = (entry .args) in
     let v = a .v in
     let hs = handedTrees v (a .copied .now) (a .user .now) (a .roots .now) (a .widths .now) (a .pairs .now) in
     let es = outerTrees v hs in
     let b = Expr.challenge (v .user + 2) in
     let long = handed.outer-length v hs in
     let q = ap size (handed.compose-alone v hs (c .before .if1 .taken)) in
-    ((c .before .before .before .before .before .before .before .before .before .pre .0), omega (arith, (c .before .before .before .before .before .before .before .before .before .pre .1)))
+    ((entry .pre .0), omega (arith, (entry .pre .1)))
 
 same-length : tie.Need-same-length
 same-length c = search needs
@@ -43,19 +39,21 @@ returns c =
 outer-items-requires : tie.Need-outer-items-requires
 unfolding composeTree body
 outer-items-requires c κs =
-    let a = (c .before .before .before .before .before .before .before .before .before .args) in
+    let entry = c .before .before .before .before .before .before .before .before .before in
+    let a = (entry .args) in
     let v = a .v in
     let hs = handedTrees v (a .copied .now) (a .user .now) (a .roots .now) (a .widths .now) (a .pairs .now) in
     let es = outerTrees v hs in
     let b = Expr.challenge (v .user + 2) in
     let long = handed.outer-length v hs in
     let q = lists.many-size b es (omega (arith, (c .before .if1 .left))) in
-    ((c .before .before .before .before .before .before .before .before .before .pre .0), (omega arith, omega (arith, (c .before .before .before .before .before .before .before .before .before .pre .1))))
+    ((entry .pre .0), (omega arith, omega (arith, (entry .pre .1))))
 
 list-head-requires : tie.Need-list-head-requires
 unfolding composeTree body
 list-head-requires c κs =
-    let a = (c .before .before .before .before .before .before .before .before .before .before .before .before .before .args) in
+    let entry = c .before .before .before .before .before .before .before .before .before .before .before .before .before in
+    let a = (entry .args) in
     let v = a .v in
     let hs = handedTrees v (a .copied .now) (a .user .now) (a .roots .now) (a .widths .now) (a .pairs .now) in
     let es = outerTrees v hs in
@@ -63,7 +61,7 @@ list-head-requires c κs =
     let long = handed.outer-length v hs in
     let q = lists.many-size b es (omega (arith, (c .before .before .before .before .before .if1 .left))) in
     let y = (c .before .before .before .outer-items .ensures .number) in
-    omega (arith, (c .before .before .before .before .before .before .before .before .before .before .before .before .before .pre .1))
+    omega (arith, (entry .pre .1))
 
 same-length-2 : tie.Need-same-length-2
 same-length-2 c = search needs

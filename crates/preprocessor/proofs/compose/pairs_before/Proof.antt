@@ -7,9 +7,6 @@ use mathlib.Core.Path.{_≡_, sym, ap, _∙_}
 use native.Mathlib.Omega.{arith}
 use Rattle.preprocessor.proofs.compose.pairs_before.Statement.{statement}
 use Rattle.preprocessor.proofs.compose.pairs_before.Tie as tie
-use Rattle.preprocessor.proofs.compose.pairs_before.Reads as reads
-use Rattle.preprocessor.proofs.compose.pairs_before.Lts as lts
-use Rattle.expression.proofs.node.index.Reads as index-reads
 
 abbrev Inv-loop : tie.InvT-loop
 Inv-loop widths j sum₀ i₀ sum i = (i ≤ j) × (sum ≡ total (take i widths))
@@ -48,7 +45,9 @@ loop-again : tie.Need-loop-again Inv-loop μ-loop
 loop-again c = (omega arith, handed.total-step (c .before .before .before .before .before .args .widths .now) (c .before .before .before .loop .i) (c .before .before .before .loop .sum) (c .index .result) (omega arith) (c .before .before .before .loop .inv .1) (c .index .ensures))
 
 returns : tie.Need-returns Inv-loop μ-loop
-returns c = let e : (c .before .loop .i) ≡ (c .before .before .before .args .j) = omega arith in (c .before .loop .inv .1) ∙ ap (λ (k : ℕ). total (take k (c .before .before .before .args .widths .now))) e
+returns c =
+    let entry = c .before .before .before in
+    let e : (c .before .loop .i) ≡ (entry .args .j) = omega arith in (c .before .loop .inv .1) ∙ ap (λ (k : ℕ). total (take k (entry .args .widths .now))) e
 
 pub pairs-before-spec : {M : Type 1} → statement M
 pairs-before-spec =

@@ -3,13 +3,6 @@ use native.Mathlib.Omega.{arith}
 use borrow.Author.Needs.{needs}
 use Rattle.preprocessor.proofs.compose.part_constraint.Statement.{statement}
 use Rattle.preprocessor.proofs.compose.part_constraint.Tie as tie
-use Rattle.preprocessor.proofs.compose.part_constraint.Reads as reads
-use Rattle.preprocessor.proofs.compose.part_constraint.Lts as lts
-use Rattle.preprocessor.proofs.compose.negated.Reads as negated-reads
-use Rattle.preprocessor.proofs.compose.part_count.Reads as part-count-reads
-use Rattle.preprocessor.proofs.compose.sum.Reads as sum-reads
-use Rattle.preprocessor.proofs.compose.z_identities.Reads as z-identities-reads
-use Rattle.preprocessor.proofs.compose.z_permutations.Reads as z-permutations-reads
 
 part-count-requires : tie.Need-part-count-requires
 part-count-requires c κs = search needs
@@ -19,15 +12,17 @@ mul-first c = search needs
 
 z-identities-requires : tie.Need-z-identities-requires
 z-identities-requires c κs =
-    let f = parts.parts-few (c .before .before .before .before .before .args .v) (c .before .before .before .before .before .pre .0) in
+    let entry = c .before .before .before .before .before in
+    let f = parts.parts-few (entry .args .v) (entry .pre .0) in
     let n = (c .before .before .part-count .ensures .0) in
-    ((c .before .before .before .before .before .pre .0), (omega (arith, (c .before .before .before .before .before .pre)), ((c .before .before .part-count .ensures .1 .0), ((c .before .before .part-count .ensures .1 .1), ((c .before .before .before .before .before .pre .1 .1 .0), omega (arith, (c .before .before .before .before .before .pre .1 .1 .1)))))))
+    ((entry .pre .0), (omega (arith, (entry .pre)), ((c .before .before .part-count .ensures .1 .0), ((c .before .before .part-count .ensures .1 .1), ((entry .pre .1 .1 .0), omega (arith, (entry .pre .1 .1 .1)))))))
 
 z-permutations-requires : tie.Need-z-permutations-requires
 z-permutations-requires c κs =
-    let f = parts.parts-few (c .before .before .before .before .before .before .before .before .before .args .v) (c .before .before .before .before .before .before .before .before .before .pre .0) in
+    let entry = c .before .before .before .before .before .before .before .before .before in
+    let f = parts.parts-few (entry .args .v) (entry .pre .0) in
     let n = (c .before .before .before .before .before .before .part-count .ensures .0) in
-    ((c .before .before .before .before .before .before .before .before .before .pre .0), (omega (arith, (c .before .before .before .before .before .before .before .before .before .pre .0), (c .before .before .before .before .before .before .before .before .before .pre .1 .0)), ((c .before .before .before .before .before .before .part-count .ensures .1 .0), ((c .before .before .before .before .before .before .part-count .ensures .1 .1), ((c .before .before .before .before .before .before .before .before .before .pre .1 .1 .0), omega (arith, (c .before .before .before .before .before .before .before .before .before .pre .1 .1 .1), (c .before .before .before .z-identities .ensures .0)))))))
+    ((entry .pre .0), (omega (arith, (entry .pre .0), (entry .pre .1 .0)), ((c .before .before .before .before .before .before .part-count .ensures .1 .0), ((c .before .before .before .before .before .before .part-count .ensures .1 .1), ((entry .pre .1 .1 .0), omega (arith, (entry .pre .1 .1 .1), (c .before .before .before .z-identities .ensures .0)))))))
 
 negated-requires : tie.Need-negated-requires
 negated-requires c κs = omega (arith, (c .before .before .before .before .before .before .before .before .before .before .before .before .before .pre .1 .1 .1), (c .before .before .before .before .before .before .before .z-identities .ensures .0), (c .before .before .before .z-permutations .ensures .0), (c .before .before .before .before .before .before .before .before .before .before .part-count .ensures .0))
@@ -39,7 +34,9 @@ same-length : tie.Need-same-length
 same-length c = search needs
 
 returns : tie.Need-returns
-returns c = parts.part-written (c .before .before .before .before .before .before .before .before .before .before .before .before .before .before .before .before .before .before .before .before .args .v) (c .before .before .before .before .before .before .before .before .before .before .before .before .before .before .before .before .before .before .before .before .pre .0) (c .before .before .before .before .before .before .before .before .before .before .before .before .before .before .before .before .before .before .before .before .args .i) (c .before .before .before .before .before .before .before .before .before .before .before .before .before .before .before .before .before .before .before .before .pre .1 .0) (c .before .before .before .before .before .before .before .before .before .before .before .before .before .before .before .before .before .before .before .before .args .copied .now) (c .before .before .before .before .before .before .before .before .before .before .before .before .before .before .before .before .before .part-count .result) (c .before .before .before .before .before .before .before .before .before .before .before .before .before .before .before .before .before .part-count .ensures .0) (c .before .before .before .before .before .before .before .before .before .before .before .before .before .before .z-identities .ensures .1) (c .before .before .before .before .before .before .before .before .before .before .z-permutations .ensures .1) (c .before .before .before .before .before .before .negated .ensures) (c .before .before .sum .ensures)
+returns c =
+    let entry = c .before .before .before .before .before .before .before .before .before .before .before .before .before .before .before .before .before .before .before .before in
+    parts.part-written (entry .args .v) (entry .pre .0) (entry .args .i) (entry .pre .1 .0) (entry .args .copied .now) (c .before .before .before .before .before .before .before .before .before .before .before .before .before .before .before .before .before .part-count .result) (c .before .before .before .before .before .before .before .before .before .before .before .before .before .before .before .before .before .part-count .ensures .0) (c .before .before .before .before .before .before .before .before .before .before .before .before .before .before .z-identities .ensures .1) (c .before .before .before .before .before .before .before .before .before .before .z-permutations .ensures .1) (c .before .before .before .before .before .before .negated .ensures) (c .before .before .sum .ensures)
 
 pub part-constraint-spec : {M : Type 1} → statement M
 part-constraint-spec =

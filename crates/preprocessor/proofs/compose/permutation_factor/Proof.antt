@@ -5,12 +5,6 @@ use native.Mathlib.Omega.{arith}
 use borrow.Author.Needs.{needs}
 use Rattle.preprocessor.proofs.compose.permutation_factor.Statement.{statement}
 use Rattle.preprocessor.proofs.compose.permutation_factor.Tie as tie
-use Rattle.preprocessor.proofs.compose.permutation_factor.Reads as reads
-use Rattle.preprocessor.proofs.compose.permutation_factor.Lts as lts
-use Rattle.preprocessor.proofs.compose.beta_query.Reads as beta-query-reads
-use Rattle.preprocessor.proofs.compose.challenge.Reads as challenge-reads
-use Rattle.preprocessor.proofs.compose.query.Reads as query-reads
-use Rattle.preprocessor.proofs.compose.sum.Reads as sum-reads
 
 mul-query : tie.Need-mul-query
 mul-query c = search needs

@@ -4,18 +4,15 @@ use native.Mathlib.Omega.{arith}
 use borrow.Author.Needs.{needs}
 use Rattle.preprocessor.proofs.compose.query_side.Statement.{statement}
 use Rattle.preprocessor.proofs.compose.query_side.Tie as tie
-use Rattle.preprocessor.proofs.compose.query_side.Reads as reads
-use Rattle.preprocessor.proofs.compose.query_side.Lts as lts
-use Rattle.preprocessor.proofs.compose.product.Reads as product-reads
-use Rattle.preprocessor.proofs.compose.query.Reads as query-reads
-use Rattle.preprocessor.proofs.compose.side.Reads as side-reads
 
 query-requires : tie.Need-query-requires
 query-requires c κs = search needs
 
 side-requires : tie.Need-side-requires
 unfolding body
-side-requires c κs = ((c .before .before .before .before .before .before .before .before .pre .0), ((c .before .before .before .before .before .before .before .before .pre .1 .0), ((c .before .before .before .before .before .before .before .before .pre .1 .1 .0), omega (arith, (c .before .before .before .before .before .before .before .before .pre .1 .1 .1), (c .before .before .before .query .ensures .number)))))
+side-requires c κs =
+    let entry = c .before .before .before .before .before .before .before .before in
+    ((entry .pre .0), ((entry .pre .1 .0), ((entry .pre .1 .1 .0), omega (arith, (entry .pre .1 .1 .1), (c .before .before .before .query .ensures .number)))))
 
 product-requires : tie.Need-product-requires
 unfolding body

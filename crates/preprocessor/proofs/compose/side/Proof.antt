@@ -6,35 +6,33 @@ use native.Mathlib.Omega.{arith}
 use borrow.Author.Needs.{needs}
 use Rattle.preprocessor.proofs.compose.side.Statement.{statement}
 use Rattle.preprocessor.proofs.compose.side.Tie as tie
-use Rattle.preprocessor.proofs.compose.side.Reads as reads
-use Rattle.preprocessor.proofs.compose.side.Lts as lts
-use Rattle.preprocessor.proofs.compose.challenge.Reads as challenge-reads
-use Rattle.preprocessor.proofs.compose.side_powers.Reads as side-powers-reads
-use Rattle.preprocessor.proofs.compose.sum.Reads as sum-reads
 
 side-powers-requires : tie.Need-side-powers-requires
 side-powers-requires c κs =
-    let a = (c .before .before .before .before .args) in
+    let entry = c .before .before .before .before in
+    let a = (entry .args) in
     let q = handed.side-size (a .user .now) (a .pairs .now) (a .beta) (a .s) (a .w) in
-    ((c .before .before .before .before .pre .0), ((c .before .before .before .before .pre .1 .0), omega (arith, (c .before .before .before .before .pre .1 .1 .1))))
+    ((entry .pre .0), ((entry .pre .1 .0), omega (arith, (entry .pre .1 .1 .1))))
 
 add-challenge : tie.Need-add-challenge
 add-challenge c = search needs
 
 challenge-requires : tie.Need-challenge-requires
 challenge-requires c κs =
-    let a = (c .before .before .before .before .before .before .before .before .args) in
+    let entry = c .before .before .before .before .before .before .before .before in
+    let a = (entry .args) in
     let q = handed.side-size (a .user .now) (a .pairs .now) (a .beta) (a .s) (a .w) in
     let x = (c .before .before .before .side-powers .ensures .number) in
-    omega (arith, (c .before .before .before .before .before .before .before .before .pre .1 .1 .1))
+    omega (arith, (entry .pre .1 .1 .1))
 
 sum-requires : tie.Need-sum-requires
 unfolding body
 sum-requires c κs =
-    let a = (c .before .before .before .before .before .before .before .before .before .before .before .before .args) in
+    let entry = c .before .before .before .before .before .before .before .before .before .before .before .before in
+    let a = (entry .args) in
     let q = handed.side-size (a .user .now) (a .pairs .now) (a .beta) (a .s) (a .w) in
     let x = (c .before .before .before .before .before .before .before .side-powers .ensures .number) in
-    omega (arith, (c .before .before .before .before .before .before .before .before .before .before .before .before .pre .1 .1 .1), (c .before .before .before .challenge .ensures .number))
+    omega (arith, (entry .pre .1 .1 .1), (c .before .before .before .challenge .ensures .number))
 
 same-length : tie.Need-same-length
 same-length c = search needs

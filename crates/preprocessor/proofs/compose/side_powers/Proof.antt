@@ -1,24 +1,16 @@
-use Prim.Native.Nat.{ℕ, suc, _+_, _*_, _-_, _≤_, _<_}
+use Prim.Native.Nat.{ℕ, _+_, _*_}
 use Rattle.expression.proofs.Written as written
-use Rattle.expression.specs.Expr.{Expr, distributePowers}
+use Rattle.expression.specs.Expr.{Expr}
 use Rattle.expression.specs.Flat.{body, size}
-use Rattle.expression.specs.Nodes.{exprOf}
 use Rattle.preprocessor.proofs.Handed as handed
 use Rattle.preprocessor.proofs.Lists as lists
-use Rattle.preprocessor.specs.Pieces.{sideExprs, exprsFrom}
+use Rattle.preprocessor.specs.Pieces.{sideExprs}
 use lib.ListN.{getD}
-use mathlib.Core.Path.{_≡_, refl, sym, ap, _∙_}
+use mathlib.Core.Path.{_≡_, ap, _∙_}
 use native.Mathlib.Omega.{arith}
 use borrow.Author.Needs.{needs}
 use Rattle.preprocessor.proofs.compose.side_powers.Statement.{statement}
 use Rattle.preprocessor.proofs.compose.side_powers.Tie as tie
-use Rattle.preprocessor.proofs.compose.side_powers.Reads as reads
-use Rattle.preprocessor.proofs.compose.side_powers.Lts as lts
-use Rattle.expression.proofs.copy.copy_expr.Reads as copy-expr-reads
-use Rattle.expression.proofs.copy.push.Reads as push-reads
-use Rattle.expression.proofs.node.index.Reads as index-reads
-use Rattle.preprocessor.proofs.compose.list_head.Reads as list-head-reads
-use Rattle.preprocessor.proofs.compose.side_items.Reads as side-items-reads
 
 zeroth : (s : ℕ) → s ≡ s + 0 * 2
 zeroth s = omega arith
@@ -48,7 +40,8 @@ index-requires c κs = search needs
 
 copy-expr-requires : tie.Need-copy-expr-requires
 copy-expr-requires c κs =
-    let a = (c .before .before .before .before .before .before .before .before .args) in
+    let entry = c .before .before .before .before .before .before .before .before in
+    let a = (entry .args) in
     let es = sideExprs (a .user .now) (a .pairs .now) (a .s) (a .w) in
     let long = handed.side-length (a .user .now) (a .pairs .now) (a .s) (a .w) in
     let b = Expr.challenge (a .beta) in
@@ -56,7 +49,7 @@ copy-expr-requires c κs =
     let at0 : n ≡ getD (a .pairs .now) (a .s + 0 * 2) 0 = (c .before .index .ensures) ∙ ap (λ (k : ℕ). getD (a .pairs .now) k 0) (zeroth (a .s)) in
     let same = handed.side-nth (a .user .now) (a .pairs .now) (a .s) (a .w) 0 n (omega (arith, (c .before .before .before .if2 .taken))) at0 in
     let q = lists.one-size b es (long ∙ (c .before .before .before .if2 .taken)) in
-    (handed.root-node (a .user .now) (a .pairs .now) (a .s) n (c .before .before .before .before .before .before .before .before .pre .0) (omega (arith, (c .before .before .before .before .before .before .before .before .pre .1 .0), (c .before .before .before .if2 .taken))) (c .before .index .ensures), omega (arith, (c .before .before .before .before .before .before .before .before .pre .1 .1), ap size same))
+    (handed.root-node (a .user .now) (a .pairs .now) (a .s) n (entry .pre .0) (omega (arith, (entry .pre .1 .0), (c .before .before .before .if2 .taken))) (c .before .index .ensures), omega (arith, (entry .pre .1 .1), ap size same))
 
 same-length-2 : tie.Need-same-length-2
 same-length-2 c = search needs
@@ -75,23 +68,25 @@ returns-2 c =
 side-items-requires : tie.Need-side-items-requires
 unfolding body
 side-items-requires c κs =
-    let a = (c .before .before .before .before .before .before .args) in
+    let entry = c .before .before .before .before .before .before in
+    let a = (entry .args) in
     let es = sideExprs (a .user .now) (a .pairs .now) (a .s) (a .w) in
     let long = handed.side-length (a .user .now) (a .pairs .now) (a .s) (a .w) in
     let b = Expr.challenge (a .beta) in
     let q = lists.many-size b es (omega (arith, (c .before .before .if1 .left), (c .before .if2 .left))) in
-    ((c .before .before .before .before .before .before .pre .0), ((c .before .before .before .before .before .before .pre .1 .0), (omega (arith, (c .before .before .if1 .left)), omega (arith, (c .before .before .before .before .before .before .pre .1 .1)))))
+    ((entry .pre .0), ((entry .pre .1 .0), (omega (arith, (c .before .before .if1 .left)), omega (arith, (entry .pre .1 .1)))))
 
 list-head-requires : tie.Need-list-head-requires
 unfolding body
 list-head-requires c κs =
-    let a = (c .before .before .before .before .before .before .before .before .before .before .args) in
+    let entry = c .before .before .before .before .before .before .before .before .before .before in
+    let a = (entry .args) in
     let es = sideExprs (a .user .now) (a .pairs .now) (a .s) (a .w) in
     let long = handed.side-length (a .user .now) (a .pairs .now) (a .s) (a .w) in
     let b = Expr.challenge (a .beta) in
     let q = lists.many-size b es (omega (arith, (c .before .before .before .before .before .before .if1 .left), (c .before .before .before .before .before .if2 .left))) in
     let y = (c .before .before .before .side-items .ensures .number) in
-    omega (arith, (c .before .before .before .before .before .before .before .before .before .before .pre .1 .1))
+    omega (arith, (entry .pre .1 .1))
 
 same-length-3 : tie.Need-same-length-3
 same-length-3 c = search needs

@@ -4,13 +4,6 @@ use native.Mathlib.Omega.{arith}
 use borrow.Author.Needs.{needs}
 use Rattle.preprocessor.proofs.compose.start_constraint.Statement.{statement}
 use Rattle.preprocessor.proofs.compose.start_constraint.Tie as tie
-use Rattle.preprocessor.proofs.compose.start_constraint.Reads as reads
-use Rattle.preprocessor.proofs.compose.start_constraint.Lts as lts
-use Rattle.expression.proofs.copy.push.Reads as push-reads
-use Rattle.preprocessor.proofs.compose.negated.Reads as negated-reads
-use Rattle.preprocessor.proofs.compose.product.Reads as product-reads
-use Rattle.preprocessor.proofs.compose.query.Reads as query-reads
-use Rattle.preprocessor.proofs.compose.sum.Reads as sum-reads
 
 push-requires : tie.Need-push-requires
 push-requires c κs = search needs

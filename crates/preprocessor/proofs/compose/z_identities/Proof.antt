@@ -4,11 +4,6 @@ use native.Mathlib.Omega.{arith}
 use borrow.Author.Needs.{needs}
 use Rattle.preprocessor.proofs.compose.z_identities.Statement.{statement}
 use Rattle.preprocessor.proofs.compose.z_identities.Tie as tie
-use Rattle.preprocessor.proofs.compose.z_identities.Reads as reads
-use Rattle.preprocessor.proofs.compose.z_identities.Lts as lts
-use Rattle.preprocessor.proofs.compose.identity_product.Reads as identity-product-reads
-use Rattle.preprocessor.proofs.compose.product.Reads as product-reads
-use Rattle.preprocessor.proofs.compose.query.Reads as query-reads
 
 add-query : tie.Need-add-query
 add-query c = search needs
@@ -27,7 +22,9 @@ query-requires c κs = search needs
 
 identity-product-requires : tie.Need-identity-product-requires
 unfolding body
-identity-product-requires c κs = ((c .before .before .before .before .before .before .before .before .before .pre .0), ((c .before .before .before .before .before .before .before .before .before .pre .1 .1 .0), ((c .before .before .before .before .before .before .before .before .before .pre .1 .1 .1 .0), ((c .before .before .before .before .before .before .before .before .before .pre .1 .1 .1 .1 .0), omega (arith, (c .before .before .before .before .before .before .before .before .before .pre .1 .1 .1 .1 .1), (c .before .before .before .query .ensures .number))))))
+identity-product-requires c κs =
+    let entry = c .before .before .before .before .before .before .before .before .before in
+    ((entry .pre .0), ((entry .pre .1 .1 .0), ((entry .pre .1 .1 .1 .0), ((entry .pre .1 .1 .1 .1 .0), omega (arith, (entry .pre .1 .1 .1 .1 .1), (c .before .before .before .query .ensures .number))))))
 
 product-requires : tie.Need-product-requires
 unfolding body

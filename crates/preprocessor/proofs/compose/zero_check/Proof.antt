@@ -5,29 +5,27 @@ use native.Mathlib.Omega.{arith}
 use borrow.Author.Needs.{needs}
 use Rattle.preprocessor.proofs.compose.zero_check.Statement.{statement}
 use Rattle.preprocessor.proofs.compose.zero_check.Tie as tie
-use Rattle.preprocessor.proofs.compose.zero_check.Reads as reads
-use Rattle.preprocessor.proofs.compose.zero_check.Lts as lts
-use Rattle.expression.proofs.copy.push.Reads as push-reads
-use Rattle.preprocessor.proofs.compose.constraint_powers.Reads as constraint-powers-reads
-use Rattle.preprocessor.proofs.compose.product.Reads as product-reads
 
 constraint-powers-requires : tie.Need-constraint-powers-requires
 constraint-powers-requires c κs =
-    let a = (c .before .before .before .before .before .before .before .args) in
+    let entry = c .before .before .before .before .before .before .before in
+    let a = (entry .args) in
     let q = handed.zero-size (a .v) (handedTrees (a .v) (a .copied .now) (a .user .now) (a .roots .now) (a .widths .now) (a .pairs .now)) in
-    ((c .before .before .before .before .before .before .before .pre .0), omega (arith, (c .before .before .before .before .before .before .before .pre .1)))
+    ((entry .pre .0), omega (arith, (entry .pre .1)))
 
 push-requires : tie.Need-push-requires
 push-requires c κs =
-    let a = (c .before .before .before .before .before .before .before .before .before .before .before .args) in
+    let entry = c .before .before .before .before .before .before .before .before .before .before .before in
+    let a = (entry .args) in
     let q = handed.zero-size (a .v) (handedTrees (a .v) (a .copied .now) (a .user .now) (a .roots .now) (a .widths .now) (a .pairs .now)) in
-    omega (arith, (c .before .before .before .before .before .before .before .before .before .before .before .pre .1), (c .before .before .before .constraint-powers .ensures .number))
+    omega (arith, (entry .pre .1), (c .before .before .before .constraint-powers .ensures .number))
 
 product-requires : tie.Need-product-requires
 product-requires c κs =
-    let a = (c .before .before .before .before .before .before .before .before .before .before .before .before .before .before .before .args) in
+    let entry = c .before .before .before .before .before .before .before .before .before .before .before .before .before .before .before in
+    let a = (entry .args) in
     let q = handed.zero-size (a .v) (handedTrees (a .v) (a .copied .now) (a .user .now) (a .roots .now) (a .widths .now) (a .pairs .now)) in
-    omega (arith, (c .before .before .before .before .before .before .before .before .before .before .before .before .before .before .before .pre .1), (c .before .before .before .before .before .before .before .constraint-powers .ensures .number), (c .before .before .before .push .ensures .number))
+    omega (arith, (entry .pre .1), (c .before .before .before .before .before .before .before .constraint-powers .ensures .number), (c .before .before .before .push .ensures .number))
 
 same-length : tie.Need-same-length
 same-length c = search needs

@@ -1,18 +1,10 @@
 use Prim.Native.Nat.{ℕ, min}
 use Rattle.preprocessor.proofs.Counts as counts
 use Rattle.preprocessor.specs.Count.{listNodes, most}
-use mathlib.Core.Path.{_≡_, ap, _∙_}
+use mathlib.Core.Path.{ap, _∙_}
 use borrow.Author.Needs.{needs}
 use Rattle.preprocessor.proofs.count.composed_nodes.Statement.{statement}
 use Rattle.preprocessor.proofs.count.composed_nodes.Tie as tie
-use Rattle.preprocessor.proofs.count.composed_nodes.Reads as reads
-use Rattle.preprocessor.proofs.count.composed_nodes.Lts as lts
-use Rattle.preprocessor.proofs.compose.num_constraints.Reads as num-constraints-reads
-use Rattle.preprocessor.proofs.count.list_nodes.Reads as list-nodes-reads
-use Rattle.preprocessor.proofs.count.lookups_nodes.Reads as lookups-nodes-reads
-use Rattle.preprocessor.proofs.count.permutation_nodes.Reads as permutation-nodes-reads
-use Rattle.preprocessor.proofs.count.plus.Reads as plus-reads
-use Rattle.preprocessor.proofs.count.roots_nodes.Reads as roots-nodes-reads
 
 roots-nodes-requires : tie.Need-roots-nodes-requires
 roots-nodes-requires c κs = search needs

@@ -1,13 +1,10 @@
 use Prim.Native.Nat.{ℕ, min}
 use Rattle.preprocessor.proofs.Counts as counts
 use Rattle.preprocessor.specs.Count.{listNodes, most}
-use mathlib.Core.Path.{_≡_, sym, ap, _∙_}
+use mathlib.Core.Path.{sym, ap, _∙_}
 use borrow.Author.Needs.{needs}
 use Rattle.preprocessor.proofs.count.list_nodes.Statement.{statement}
 use Rattle.preprocessor.proofs.count.list_nodes.Tie as tie
-use Rattle.preprocessor.proofs.count.list_nodes.Reads as reads
-use Rattle.preprocessor.proofs.count.list_nodes.Lts as lts
-use Rattle.preprocessor.proofs.count.plus.Reads as plus-reads
 
 returns : tie.Need-returns
 returns c = counts.list-none ∙ ap (λ (n : ℕ). min most (listNodes n)) (sym (c .if1 .taken))

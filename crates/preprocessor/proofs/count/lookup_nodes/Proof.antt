@@ -2,10 +2,6 @@ use Rattle.preprocessor.proofs.Counts as counts
 use borrow.Author.Needs.{needs}
 use Rattle.preprocessor.proofs.count.lookup_nodes.Statement.{statement}
 use Rattle.preprocessor.proofs.count.lookup_nodes.Tie as tie
-use Rattle.preprocessor.proofs.count.lookup_nodes.Reads as reads
-use Rattle.preprocessor.proofs.count.lookup_nodes.Lts as lts
-use Rattle.preprocessor.proofs.count.plus.Reads as plus-reads
-use Rattle.preprocessor.proofs.count.side_nodes.Reads as side-nodes-reads
 
 side-nodes-requires : tie.Need-side-nodes-requires
 side-nodes-requires c κs = search needs
@@ -26,7 +22,9 @@ plus-requires-3 : tie.Need-plus-requires-3
 plus-requires-3 c κs = search needs
 
 returns : tie.Need-returns
-returns c = counts.lookup-counted (c .before .before .before .before .before .before .before .args .user .now) (c .before .before .before .before .before .before .before .args .pairs .now) (c .before .before .before .before .before .before .before .args .beta) (c .before .before .before .before .before .before .before .args .s) (c .before .before .before .before .before .before .before .args .w) (c .plus3 .result) (c .before .before .before .before .side-nodes .result) (c .before .before .before .side-nodes2 .result) (c .before .before .plus .result) (c .before .plus2 .result) (c .plus3 .ensures) (c .before .plus2 .ensures) (c .before .before .plus .ensures) (c .before .before .before .before .side-nodes .ensures) (c .before .before .before .side-nodes2 .ensures)
+returns c =
+    let entry = c .before .before .before .before .before .before .before in
+    counts.lookup-counted (entry .args .user .now) (entry .args .pairs .now) (entry .args .beta) (entry .args .s) (entry .args .w) (c .plus3 .result) (c .before .before .before .before .side-nodes .result) (c .before .before .before .side-nodes2 .result) (c .before .before .plus .result) (c .before .plus2 .result) (c .plus3 .ensures) (c .before .plus2 .ensures) (c .before .before .plus .ensures) (c .before .before .before .before .side-nodes .ensures) (c .before .before .before .side-nodes2 .ensures)
 
 pub lookup-nodes-spec : {M : Type 1} → statement M
 lookup-nodes-spec =

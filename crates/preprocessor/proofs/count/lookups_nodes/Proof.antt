@@ -1,4 +1,4 @@
-use Prim.Native.Nat.{ℕ, _+_, _*_, _-_, _≤_, _<_, min}
+use Prim.Native.Nat.{ℕ, _-_, _≤_, _<_, min}
 use Rattle.expression.specs.Expr.{Expr}
 use Rattle.preprocessor.proofs.Counts as counts
 use Rattle.preprocessor.proofs.Handed as handed
@@ -6,16 +6,11 @@ use Rattle.preprocessor.specs.Count.{nodesIn, most}
 use Rattle.preprocessor.specs.Pieces.{lookupsOf, lookupTreeOf}
 use Rattle.util.specs.Lists.{column, total}
 use borrow.Author.Needs.{needs}
-use lib.ListN.{length, getD, take}
-use mathlib.Core.Path.{_≡_, sym, ap, _∙_}
+use lib.ListN.{length, take}
+use mathlib.Core.Path.{_≡_, sym}
 use native.Mathlib.Omega.{arith}
 use Rattle.preprocessor.proofs.count.lookups_nodes.Statement.{statement}
 use Rattle.preprocessor.proofs.count.lookups_nodes.Tie as tie
-use Rattle.preprocessor.proofs.count.lookups_nodes.Reads as reads
-use Rattle.preprocessor.proofs.count.lookups_nodes.Lts as lts
-use Rattle.expression.proofs.node.index.Reads as index-reads
-use Rattle.preprocessor.proofs.count.lookup_nodes.Reads as lookup-nodes-reads
-use Rattle.preprocessor.proofs.count.plus.Reads as plus-reads
 
 abbrev Inv-loop : tie.InvT-loop
 Inv-loop user roots widths pairs v sum₀ s₀ j₀ sum s j = (j ≤ v .lookups) × ((s ≡ total (take j widths)) × (sum ≡ min most (nodesIn (column (lookupTreeOf v (lookupsOf user widths pairs)) j))))
@@ -39,23 +34,26 @@ index-requires c κs = search needs
 
 mul-lookup-nodes : tie.Need-mul-lookup-nodes Inv-loop μ-loop
 mul-lookup-nodes c =
-    let a = (c .before .before .before .before .before .before .before .before .before .args) in
-    let q = handed.words-end (a .user .now) (a .widths .now) (a .pairs .now) (c .before .before .before .before .before .before .before .before .before .pre .all-pairs) (c .before .before .before .before .loop .j) (omega (arith, (c .before .before .before .before .before .before .before .before .before .pre .all-lookups))) in
+    let entry = c .before .before .before .before .before .before .before .before .before in
+    let a = (entry .args) in
+    let q = handed.words-end (a .user .now) (a .widths .now) (a .pairs .now) (entry .pre .all-pairs) (c .before .before .before .before .loop .j) (omega (arith, (entry .pre .all-lookups))) in
     omega (arith, (c .before .before .before .before .loop .inv .1 .0))
 
 lookup-nodes-requires : tie.Need-lookup-nodes-requires Inv-loop μ-loop
 lookup-nodes-requires c κs =
-    let a = (c .before .before .before .before .before .before .before .before .before .args) in
-    let q = handed.words-end (a .user .now) (a .widths .now) (a .pairs .now) (c .before .before .before .before .before .before .before .before .before .pre .all-pairs) (c .before .before .before .before .loop .j) (omega (arith, (c .before .before .before .before .before .before .before .before .before .pre .all-lookups))) in
-    ((c .before .before .before .before .before .before .before .before .before .pre .pairs-named), omega (arith, (c .before .before .before .before .loop .inv .1 .0), (c .index .ensures)))
+    let entry = c .before .before .before .before .before .before .before .before .before in
+    let a = (entry .args) in
+    let q = handed.words-end (a .user .now) (a .widths .now) (a .pairs .now) (entry .pre .all-pairs) (c .before .before .before .before .loop .j) (omega (arith, (entry .pre .all-lookups))) in
+    ((entry .pre .pairs-named), omega (arith, (c .before .before .before .before .loop .inv .1 .0), (c .index .ensures)))
 
 plus-requires : tie.Need-plus-requires Inv-loop μ-loop
 plus-requires c κs = search needs
 
 add-s : tie.Need-add-s Inv-loop μ-loop
 add-s c =
-    let a = (c .before .before .before .before .before .before .before .before .before .before .before .args) in
-    let q = handed.words-end (a .user .now) (a .widths .now) (a .pairs .now) (c .before .before .before .before .before .before .before .before .before .before .before .pre .all-pairs) (c .before .before .before .before .before .before .loop .j) (omega (arith, (c .before .before .before .before .before .before .before .before .before .before .before .pre .all-lookups))) in
+    let entry = c .before .before .before .before .before .before .before .before .before .before .before in
+    let a = (entry .args) in
+    let q = handed.words-end (a .user .now) (a .widths .now) (a .pairs .now) (entry .pre .all-pairs) (c .before .before .before .before .before .before .loop .j) (omega (arith, (entry .pre .all-lookups))) in
     omega (arith, (c .before .before .before .before .before .before .loop .inv .1 .0), (c .before .before .index .ensures))
 
 add-j : tie.Need-add-j Inv-loop μ-loop
@@ -66,10 +64,11 @@ loop-less c = omega arith
 
 loop-again : tie.Need-loop-again Inv-loop μ-loop
 loop-again c =
-    let a = (c .before .before .before .before .before .before .before .before .before .before .before .args) in
+    let entry = c .before .before .before .before .before .before .before .before .before .before .before in
+    let a = (entry .args) in
     let f : ℕ → Expr = lookupTreeOf (a .v) (lookupsOf (a .user .now) (a .widths .now) (a .pairs .now)) in
-    let h : (c .before .before .before .before .before .before .loop .j) < length (a .widths .now) = omega (arith, (c .before .before .before .before .before .before .before .before .before .before .before .pre .all-lookups)) in
-    let e = counts.lookup-is (a .v) (a .user .now) (a .widths .now) (a .pairs .now) (c .before .before .before .before .before .before .loop .j) (c .before .before .before .before .before .before .loop .s) (c .before .before .index .result) (c .before .lookup-nodes .result) (c .before .before .before .before .before .before .before .before .before .before .before .pre .all-pairs) h (c .before .before .before .before .before .before .loop .inv .1 .0) (c .before .before .index .ensures) (c .before .lookup-nodes .ensures) in
+    let h : (c .before .before .before .before .before .before .loop .j) < length (a .widths .now) = omega (arith, (entry .pre .all-lookups)) in
+    let e = counts.lookup-is (a .v) (a .user .now) (a .widths .now) (a .pairs .now) (c .before .before .before .before .before .before .loop .j) (c .before .before .before .before .before .before .loop .s) (c .before .before .index .result) (c .before .lookup-nodes .result) (entry .pre .all-pairs) h (c .before .before .before .before .before .before .loop .inv .1 .0) (c .before .before .index .ensures) (c .before .lookup-nodes .ensures) in
     (omega arith, (handed.total-step (a .widths .now) (c .before .before .before .before .before .before .loop .j) (c .before .before .before .before .before .before .loop .s) (c .before .before .index .result) h (c .before .before .before .before .before .before .loop .inv .1 .0) (c .before .before .index .ensures), counts.count-more f (c .before .before .before .before .before .before .loop .j) (c .plus .result) (c .before .before .before .before .before .before .loop .sum) (c .before .lookup-nodes .result) (c .plus .ensures) (c .before .before .before .before .before .before .loop .inv .1 .1) e))
 
 returns : tie.Need-returns Inv-loop μ-loop

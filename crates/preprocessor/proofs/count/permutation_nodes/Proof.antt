@@ -5,8 +5,6 @@ use native.Mathlib.Omega.{arith}
 use borrow.Author.Needs.{needs}
 use Rattle.preprocessor.proofs.count.permutation_nodes.Statement.{statement}
 use Rattle.preprocessor.proofs.count.permutation_nodes.Tie as tie
-use Rattle.preprocessor.proofs.count.permutation_nodes.Reads as reads
-use Rattle.preprocessor.proofs.count.permutation_nodes.Lts as lts
 
 returns : tie.Need-returns
 returns c = sym (counts.permutation-none (c .before .before .args .v) (c .if1 .taken))
@@ -18,10 +16,14 @@ add-result : tie.Need-add-result
 add-result c = search needs
 
 mul-result-2 : tie.Need-mul-result-2
-mul-result-2 c = let f = parts.parts-few (c .before .before .before .before .args .v) (c .before .before .before .before .pre) in omega (arith, (c .before .before .before .before .pre))
+mul-result-2 c =
+    let entry = c .before .before .before .before in
+    let f = parts.parts-few (entry .args .v) (entry .pre) in omega (arith, (entry .pre))
 
 add-result-2 : tie.Need-add-result-2
-add-result-2 c = let f = parts.parts-few (c .before .before .before .before .args .v) (c .before .before .before .before .pre) in omega (arith, (c .before .before .before .before .pre))
+add-result-2 c =
+    let entry = c .before .before .before .before in
+    let f = parts.parts-few (entry .args .v) (entry .pre) in omega (arith, (entry .pre))
 
 returns-2 : tie.Need-returns-2
 returns-2 c = sym (counts.permutation-some (c .before .before .before .before .args .v) (c .before .before .if1 .left))

@@ -1,4 +1,4 @@
-use Prim.Native.Nat.{ℕ, _+_, _*_, _-_, _≤_, _<_, min}
+use Prim.Native.Nat.{ℕ, _+_, _*_, _-_, _≤_, min}
 use Rattle.expression.specs.Expr.{Expr}
 use Rattle.expression.specs.Flat.{size}
 use Rattle.expression.specs.Nodes.{exprOf}
@@ -8,15 +8,10 @@ use Rattle.preprocessor.specs.Count.{nodesIn, most}
 use Rattle.util.specs.Lists.{column}
 use borrow.Author.Needs.{needs}
 use lib.ListN.{length, getD}
-use mathlib.Core.Path.{_≡_, sym, ap, _∙_}
+use mathlib.Core.Path.{_≡_, ap, _∙_}
 use native.Mathlib.Omega.{arith}
 use Rattle.preprocessor.proofs.count.roots_nodes.Statement.{statement}
 use Rattle.preprocessor.proofs.count.roots_nodes.Tie as tie
-use Rattle.preprocessor.proofs.count.roots_nodes.Reads as reads
-use Rattle.preprocessor.proofs.count.roots_nodes.Lts as lts
-use Rattle.expression.proofs.degree.size_of.Reads as size-of-reads
-use Rattle.expression.proofs.node.index.Reads as index-reads
-use Rattle.preprocessor.proofs.count.plus.Reads as plus-reads
 
 abbrev Inv-loop : tie.InvT-loop
 Inv-loop user roots s step w sum₀ i₀ sum i = (i ≤ w) × (sum ≡ min most (nodesIn (column (λ j. exprOf user (getD roots (s + j * step) 0)) i)))
@@ -25,27 +20,38 @@ abbrev μ-loop : tie.MeasureT-loop
 μ-loop user roots s step w sum₀ i₀ sum i = w - i
 
 loop-holds : tie.Need-loop-holds Inv-loop μ-loop
-loop-holds c = (omega arith, counts.count-none (λ j. exprOf (c .before .before .args .user .now) (getD (c .before .before .args .roots .now) ((c .before .before .args .s) + j * (c .before .before .args .step)) 0)))
+loop-holds c =
+    let entry = c .before .before in
+    (omega arith, counts.count-none (λ j. exprOf (entry .args .user .now) (getD (entry .args .roots .now) ((entry .args .s) + j * (entry .args .step)) 0)))
 
 mul-index : tie.Need-mul-index Inv-loop μ-loop
-mul-index c = let b = counts.root-below (c .before .before .before .before .args .s) (c .before .before .before .before .args .step) (c .before .before .before .before .args .w) (length (c .before .before .before .before .args .roots .now)) (c .before .loop .i) (c .before .before .before .before .pre .1) (omega arith) in omega arith
+mul-index c =
+    let entry = c .before .before .before .before in
+    let b = counts.root-below (entry .args .s) (entry .args .step) (entry .args .w) (length (entry .args .roots .now)) (c .before .loop .i) (entry .pre .1) (omega arith) in omega arith
 
 add-index : tie.Need-add-index Inv-loop μ-loop
-add-index c = let b = counts.root-below (c .before .before .before .before .args .s) (c .before .before .before .before .args .step) (c .before .before .before .before .args .w) (length (c .before .before .before .before .args .roots .now)) (c .before .loop .i) (c .before .before .before .before .pre .1) (omega arith) in omega arith
+add-index c =
+    let entry = c .before .before .before .before in
+    let b = counts.root-below (entry .args .s) (entry .args .step) (entry .args .w) (length (entry .args .roots .now)) (c .before .loop .i) (entry .pre .1) (omega arith) in omega arith
 
 mul-index-2 : tie.Need-mul-index-2 Inv-loop μ-loop
-mul-index-2 c = let b = counts.root-below (c .before .before .before .before .args .s) (c .before .before .before .before .args .step) (c .before .before .before .before .args .w) (length (c .before .before .before .before .args .roots .now)) (c .before .loop .i) (c .before .before .before .before .pre .1) (omega arith) in omega arith
+mul-index-2 c =
+    let entry = c .before .before .before .before in
+    let b = counts.root-below (entry .args .s) (entry .args .step) (entry .args .w) (length (entry .args .roots .now)) (c .before .loop .i) (entry .pre .1) (omega arith) in omega arith
 
 shared-slice-read-index : tie.Need-shared-slice-read-index Inv-loop μ-loop
-shared-slice-read-index c = counts.root-below (c .before .before .before .before .before .args .s) (c .before .before .before .before .before .args .step) (c .before .before .before .before .before .args .w) (length (c .before .before .before .before .before .args .roots .now)) (c .before .before .loop .i) (c .before .before .before .before .before .pre .1) (omega arith)
+shared-slice-read-index c =
+    let entry = c .before .before .before .before .before in
+    counts.root-below (entry .args .s) (entry .args .step) (entry .args .w) (length (entry .args .roots .now)) (c .before .before .loop .i) (entry .pre .1) (omega arith)
 
 index-requires : tie.Need-index-requires Inv-loop μ-loop
 index-requires c κs = search needs
 
 size-of-requires : tie.Need-size-of-requires Inv-loop μ-loop
 size-of-requires c κs =
-    let b = counts.root-below (c .before .before .before .before .before .before .args .s) (c .before .before .before .before .before .before .args .step) (c .before .before .before .before .before .before .args .w) (length (c .before .before .before .before .before .before .args .roots .now)) (c .before .before .before .loop .i) (c .before .before .before .before .before .before .pre .1) (omega arith) in
-    handed.root-node (c .before .before .before .before .before .before .args .user .now) (c .before .before .before .before .before .before .args .roots .now) ((c .before .before .before .before .before .before .args .s) + (c .before .before .before .loop .i) * (c .before .before .before .before .before .before .args .step)) (c .index .result) (c .before .before .before .before .before .before .pre .0) b (c .index .ensures)
+    let entry = c .before .before .before .before .before .before in
+    let b = counts.root-below (entry .args .s) (entry .args .step) (entry .args .w) (length (entry .args .roots .now)) (c .before .before .before .loop .i) (entry .pre .1) (omega arith) in
+    handed.root-node (entry .args .user .now) (entry .args .roots .now) ((entry .args .s) + (c .before .before .before .loop .i) * (entry .args .step)) (c .index .result) (entry .pre .0) b (c .index .ensures)
 
 plus-requires : tie.Need-plus-requires Inv-loop μ-loop
 plus-requires c κs = search needs
