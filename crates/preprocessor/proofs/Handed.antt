@@ -4,17 +4,16 @@ use mathlib.Core.Bool.{Bool, true, false, cond}
 use mathlib.Core.List.{List, [], _∷_, _++_, map}
 use Prim.Native.Nat.{ℕ, zero, suc, _+_, _-_, _*_, _/_, _≤_, _<_, min}
 use native.Mathlib.Nat.{le-div-iff-mul-le, add-zero}
-use native.Mathlib.Numerals.{add-one}
 use native.Mathlib.Omega.{arith}
 use lib.Dec.{eqb}
 use lib.IntN.{pos}
 use lib.ListN.{length, getD, take, drop, length-append, length-map}
-use lib.Seq.{drop-drop, drop-cons}
 use borrow.Author.Tests.{eq-eqb, ne-eqb}
 use Rattle.util.specs.Lists.{column, split, total, All}
 use Rattle.util.proofs.Lists.{get-left, get-past, get-map}
 use Rattle.util.proofs.Columns.{column-length, get-column, column-cong, map-column}
 use Rattle.util.proofs.All.{all-get}
+use Rattle.util.proofs.Runs.{part-column, get-split, total-more, total-first}
 use Rattle.expression.specs.Expr.{Expr, minus, at, distributePowers}
 use Rattle.expression.specs.Nodes.{exprOf}
 use Rattle.expression.specs.Flat.{body, size}
@@ -42,35 +41,8 @@ use Rattle.preprocessor.specs.Pieces.{
 }
 use Rattle.preprocessor.specs.declared.compose.Numbers.{Numbers}
 use Rattle.preprocessor.proofs.Lists.{nth}
-use Rattle.preprocessor.proofs.Parts.{part-column}
-
--- ---- sums of the first widths
-pub total-more : (ns : List ℕ) (i : ℕ) → i < length ns → total (take (suc i) ns) ≡ total (take i ns) + getD ns i 0
-unfolding total
-total-more [] i h = absurd (omega arith)
-total-more (n ∷ ns) zero h = omega arith
-total-more (n ∷ ns) (suc i) h = let q = total-more ns i (omega arith) in omega arith
-
-pub total-first : (ns : List ℕ) (i : ℕ) → total (take i ns) ≤ total ns
-unfolding total
-total-first [] zero = omega arith
-total-first [] (suc i) = omega arith
-total-first (n ∷ ns) zero = omega arith
-total-first (n ∷ ns) (suc i) = let q = total-first ns i in omega arith
-
-pub total-none : (ns : List ℕ) → total (take 0 ns) ≡ 0
-unfolding total
-total-none ns = refl
 
 -- ---- a lookup's pairs
-pub get-split : {A : Type 0} (ns : List ℕ) (xs : List A) (j : ℕ) → j < length ns
-    → getD (split ns xs) j [] ≡ take (getD ns j 0) (drop (total (take j ns)) xs)
-unfolding split total
-get-split [] xs j h = absurd (omega arith)
-get-split (n ∷ ns) xs zero h = refl
-get-split (n ∷ ns) xs (suc j) h =
-    get-split ns (drop n xs) j (omega arith) ∙ ap (take (getD ns j 0)) (drop-drop (total (take j ns)) n xs)
-
 module _ (nodes widths pairs : List ℕ) (enough : total widths * 2 ≤ length pairs) (j : ℕ) (h : j < length widths) where
   abbrev before : ℕ
   before = total (take j widths)
@@ -120,11 +92,6 @@ module _ (nodes widths pairs : List ℕ) (enough : total widths * 2 ≤ length p
       (Expr.sum (distributePowers b (Expr.challenge (v .user))) (Expr.challenge (v .user + 1))))
       inputs-are
       tables-are
-
-pub total-step : (ns : List ℕ) (i sum n : ℕ) → i < length ns → sum ≡ total (take i ns) → n ≡ getD ns i 0
-    → sum + n ≡ total (take (i + 1) ns)
-total-step ns i sum n h p q =
-    ap₂ _+_ p q ∙ sym (total-more ns i h) ∙ ap (λ (j : ℕ). total (take j ns)) (sym (add-one i))
 
 -- a root that stands in a list of roots
 pub root-node : (nodes roots : List ℕ) (i n : ℕ) → All (IsNode nodes) roots → i < length roots → n ≡ getD roots i 0 → n * 4 + 4 ≤ length nodes

@@ -3,17 +3,18 @@ use mathlib.Core.Path.{_≡_, refl, sym, ap, ap₂, _∙_, subst}
 use mathlib.Core.Bool.{Bool, true, false, cond}
 use mathlib.Core.List.{List, [], _∷_, _++_, map}
 use Prim.Native.Nat.{ℕ, zero, suc, _+_, _-_, _*_, _≤_, _<_, min}
-use native.Mathlib.Nat.{mul-le-mul-left}
-use native.Mathlib.Decide.{decLt}
+use native.Mathlib.Nat.{mul-le-mul, mul-le-mul-left}
 use native.Mathlib.Omega.{arith}
 use lib.Dec.{ltb}
 use lib.IntN.{pos}
 use lib.ListN.{length, getD, take, drop, length-take, length-drop}
-use lib.Seq.{take-all, take-at, drop-at}
+use mir.Val.{Fits}
+use mir.Syntax.{w64}
 use borrow.Author.Tests.{lt-ltb, le-ltb}
 use Rattle.util.specs.Lists.{column, below, cut, ceilDiv, All}
-use Rattle.util.proofs.Columns.{column-length, column-append, column-first, column-cong, map-column, below-length}
+use Rattle.util.proofs.Columns.{column-length, column-first, map-column, below-length}
 use Rattle.util.proofs.Totals.{ceil-below, ceil-le, get-cut}
+use Rattle.util.proofs.Runs.{drop-column, take-min}
 use Rattle.util.proofs.All.{all-column}
 use Rattle.expression.specs.Expr.{Expr, minus, at, productOf}
 use Rattle.expression.specs.Flat.{body, size}
@@ -23,31 +24,14 @@ use Rattle.preprocessor.specs.Pieces.{Limits, partOf, identityTree, perm
 use Rattle.preprocessor.specs.declared.compose.Numbers.{Numbers}
 use Rattle.preprocessor.proofs.Lists.{product-size}
 
--- ---- runs of a column
-module _ {A : Type 0} (f : ℕ → A) where
-  pub drop-column : (s n : ℕ) → s ≤ n → drop s (column f n) ≡ column (λ i. f (s + i)) (n - s)
-  drop-column s n h =
-      let e : n ≡ s + (n - s) = omega arith in
-      ap (λ (m : ℕ). drop s (column f m)) e ∙ ap (drop s) (column-append f s (n - s))
-      ∙ drop-at (column f s) (column (λ i. f (s + i)) (n - s)) s (column-length f s)
+-- a label is a word
+label-small : (v : Numbers) → Limits v → (i : ℕ) → i < v .copied → i * v .rows ≤ 75497472
+label-small v l i h =
+    let m : i * v .rows ≤ 72 * 1048576 = mul-le-mul {n₂ = 72} {m₂ = 1048576} (omega arith) (l .few-rows) in
+    omega arith
 
-  pub take-column : (w n : ℕ) → w ≤ n → take w (column f n) ≡ column f w
-  take-column w n h =
-      let e : n ≡ w + (n - w) = omega arith in
-      ap (λ (m : ℕ). take w (column f m)) e ∙ ap (take w) (column-append f w (n - w))
-      ∙ take-at (column f w) (column (λ i. f (w + i)) (n - w)) w (column-length f w)
-
-  pub take-min : (w n : ℕ) → take w (column f n) ≡ column f (min w n)
-  take-min w n = go (decLt n w)
-    where
-      go : Dec (n < w) → take w (column f n) ≡ column f (min w n)
-      go (yes h) =
-          take-all w (column f n) (let e = column-length f n in omega arith) ∙ ap (column f) (omega arith)
-      go (no h) = take-column w n (omega arith) ∙ ap (column f) (omega arith)
-
-pub part-column : {A : Type 0} (f : ℕ → A) (s w n : ℕ) → s + w ≤ n → take w (drop s (column f n)) ≡ column (λ i. f (s + i)) w
-part-column f s w n h =
-    ap (take w) (drop-column f s n (omega arith)) ∙ take-column (λ i. f (s + i)) w (n - s) (omega arith)
+pub label-fits : (v : Numbers) → Limits v → (i : ℕ) → i < v .copied → Fits w64 (i * v .rows)
+label-fits v l i h = omega (arith, label-small v l i h)
 
 -- N is at most n
 pub parts-few : (v : Numbers) → Limits v → v .parts ≤ v .copied

@@ -15,3 +15,4 @@ pub mod Fill
 pub mod Rising
 pub mod Parts
 pub mod Splits
+pub mod Runs

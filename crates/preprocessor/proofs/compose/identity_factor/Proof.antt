@@ -1,6 +1,6 @@
 use Rattle.expression.proofs.Written as written
 use Rattle.expression.specs.Flat.{body}
-use Rattle.preprocessor.proofs.Sizes as sizes
+use Rattle.preprocessor.proofs.Parts as parts
 use Rattle.preprocessor.specs.Pieces.{identityTree}
 use native.Mathlib.Omega.{arith}
 use borrow.Author.Needs.{needs}
@@ -19,7 +19,7 @@ query-requires c κs = search needs
 mul-beta-label : tie.Need-mul-beta-label
 mul-beta-label c =
     let entry = c .before .before .before .before .before .before .before .before .before in
-    sizes.label-fits ((entry .args .v)) ((entry .pre .0)) ((entry .args .i)) ((entry .pre .1 .0))
+    parts.label-fits ((entry .args .v)) ((entry .pre .0)) ((entry .args .i)) ((entry .pre .1 .0))
 
 beta-label-requires : tie.Need-beta-label-requires
 unfolding body

@@ -1,5 +1,5 @@
+use Rattle.util.proofs.Runs as runs
 use Prim.Native.Nat.{ℕ, suc, _≤_, _-_}
-use Rattle.preprocessor.proofs.Handed as handed
 use Rattle.util.specs.Lists.{total}
 use borrow.Author.Needs.{needs}
 use lib.ListN.{take}
@@ -15,7 +15,7 @@ abbrev μ-loop : tie.MeasureT-loop
 μ-loop widths j sum₀ i₀ sum i = j - i
 
 loop-holds : tie.Need-loop-holds Inv-loop μ-loop
-loop-holds c = (omega arith, sym (handed.total-none (c .before .args .widths .now)))
+loop-holds c = (omega arith, sym (runs.total-none (c .before .args .widths .now)))
 
 mul-index : tie.Need-mul-index Inv-loop μ-loop
 mul-index c = omega arith
@@ -31,8 +31,8 @@ add-sum c =
     let ws = (c .before .before .before .before .before .args .widths .now) in
     let i = (c .before .before .before .loop .i) in
     let e = (c .index .ensures) in
-    let p = handed.total-more ws i (omega arith) in
-    let q = handed.total-first ws (suc i) in
+    let p = runs.total-more ws i (omega arith) in
+    let q = runs.total-first ws (suc i) in
     omega arith
 
 add-i : tie.Need-add-i Inv-loop μ-loop
@@ -42,7 +42,7 @@ loop-less : tie.Need-loop-less Inv-loop μ-loop
 loop-less c = omega arith
 
 loop-again : tie.Need-loop-again Inv-loop μ-loop
-loop-again c = (omega arith, handed.total-step (c .before .before .before .before .before .args .widths .now) (c .before .before .before .loop .i) (c .before .before .before .loop .sum) (c .index .result) (omega arith) (c .before .before .before .loop .inv .1) (c .index .ensures))
+loop-again c = (omega arith, runs.total-step (c .before .before .before .before .before .args .widths .now) (c .before .before .before .loop .i) (c .before .before .before .loop .sum) (c .index .result) (omega arith) (c .before .before .before .loop .inv .1) (c .index .ensures))
 
 returns : tie.Need-returns Inv-loop μ-loop
 returns c =

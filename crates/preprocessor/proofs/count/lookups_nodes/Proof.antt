@@ -1,3 +1,4 @@
+use Rattle.util.proofs.Runs as runs
 use Prim.Native.Nat.{ℕ, _-_, _≤_, _<_, min}
 use Rattle.expression.specs.Expr.{Expr}
 use Rattle.preprocessor.proofs.Counts as counts
@@ -21,7 +22,7 @@ abbrev μ-loop : tie.MeasureT-loop
 loop-holds : tie.Need-loop-holds Inv-loop μ-loop
 loop-holds c =
     let a = (c .before .before .before .before .args) in
-    (omega arith, (sym (handed.total-none (a .widths .now)), counts.count-none (lookupTreeOf (a .v) (lookupsOf (a .user .now) (a .widths .now) (a .pairs .now)))))
+    (omega arith, (sym (runs.total-none (a .widths .now)), counts.count-none (lookupTreeOf (a .v) (lookupsOf (a .user .now) (a .widths .now) (a .pairs .now)))))
 
 mul-index : tie.Need-mul-index Inv-loop μ-loop
 mul-index c = omega (arith, (c .before .before .before .before .before .before .before .pre .all-lookups))
@@ -69,7 +70,7 @@ loop-again c =
     let f : ℕ → Expr = lookupTreeOf (a .v) (lookupsOf (a .user .now) (a .widths .now) (a .pairs .now)) in
     let h : (c .before .before .before .before .before .before .loop .j) < length (a .widths .now) = omega (arith, (entry .pre .all-lookups)) in
     let e = counts.lookup-is (a .v) (a .user .now) (a .widths .now) (a .pairs .now) (c .before .before .before .before .before .before .loop .j) (c .before .before .before .before .before .before .loop .s) (c .before .before .index .result) (c .before .lookup-nodes .result) (entry .pre .all-pairs) h (c .before .before .before .before .before .before .loop .inv .1 .0) (c .before .before .index .ensures) (c .before .lookup-nodes .ensures) in
-    (omega arith, (handed.total-step (a .widths .now) (c .before .before .before .before .before .before .loop .j) (c .before .before .before .before .before .before .loop .s) (c .before .before .index .result) h (c .before .before .before .before .before .before .loop .inv .1 .0) (c .before .before .index .ensures), counts.count-more f (c .before .before .before .before .before .before .loop .j) (c .plus .result) (c .before .before .before .before .before .before .loop .sum) (c .before .lookup-nodes .result) (c .plus .ensures) (c .before .before .before .before .before .before .loop .inv .1 .1) e))
+    (omega arith, (runs.total-step (a .widths .now) (c .before .before .before .before .before .before .loop .j) (c .before .before .before .before .before .before .loop .s) (c .before .before .index .result) h (c .before .before .before .before .before .before .loop .inv .1 .0) (c .before .before .index .ensures), counts.count-more f (c .before .before .before .before .before .before .loop .j) (c .plus .result) (c .before .before .before .before .before .before .loop .sum) (c .before .lookup-nodes .result) (c .plus .ensures) (c .before .before .before .before .before .before .loop .inv .1 .1) e))
 
 returns : tie.Need-returns Inv-loop μ-loop
 returns c =
