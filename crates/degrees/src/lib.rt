@@ -1,5 +1,5 @@
 // Question 10 and D: the degrees of the user and lookup constraints, each 1025 where it is more.
-use expression::degree::degree_of;
+use degree::degree_of;
 ghost use mathlib.Core.Path.{_≡_};
 ghost use mathlib.Core.Bool.{true};
 ghost use mathlib.Core.List.{_++_, map};

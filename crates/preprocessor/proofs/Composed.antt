@@ -45,7 +45,7 @@ use Rattle.preprocessor.specs.Pieces.{
   PiecesOf,
   Composed,
 }
-use Rattle.preprocessor.specs.declared.compose.Numbers.{Numbers}
+use Rattle.preprocessor.specs.declared.Numbers.{Numbers}
 
 -- "the constraints cut by D − 1" have N parts
 pub constraint-parts : (c : Circuit) → length (constraintCut c) ≡ numZ c

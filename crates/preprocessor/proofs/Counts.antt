@@ -31,7 +31,7 @@ use Rattle.preprocessor.specs.Pieces.{
   PiecesOf,
 }
 use Rattle.preprocessor.specs.Count.{nodesIn, listNodes, most}
-use Rattle.preprocessor.specs.declared.compose.Numbers.{Numbers}
+use Rattle.preprocessor.specs.declared.Numbers.{Numbers}
 use Rattle.preprocessor.proofs.Handed.{handed-length, lookup-tree, lookup-size, side-length, side-size}
 use Rattle.preprocessor.proofs.Composed.{composed-is}
 use Rattle.preprocessor.proofs.Nodes.{nodes-append, nodes-one, list-size, challenge-size, compose-size, constraints-nodes}

@@ -39,7 +39,7 @@ use Rattle.preprocessor.specs.Pieces.{
   composeTree,
   numConstraints,
 }
-use Rattle.preprocessor.specs.declared.compose.Numbers.{Numbers}
+use Rattle.preprocessor.specs.declared.Numbers.{Numbers}
 use Rattle.preprocessor.proofs.Lists.{nth}
 
 -- ---- a lookup's pairs

@@ -32,7 +32,7 @@ use Rattle.preprocessor.specs.Pieces.{
   numbersOf,
 }
 use Rattle.preprocessor.specs.Count.{nodesIn, listNodes}
-use Rattle.preprocessor.specs.declared.compose.Numbers.{Numbers}
+use Rattle.preprocessor.specs.declared.Numbers.{Numbers}
 use Rattle.preprocessor.proofs.Parts.{part-size, start-size}
 use Rattle.preprocessor.proofs.Handed.{outer-length, zero-size}
 use Rattle.preprocessor.proofs.Composed.{constraint-trees, compose-tree}

@@ -21,7 +21,7 @@ use Rattle.expression.specs.Flat.{body, size}
 use Rattle.expression.specs.Written.{Pushed, Written}
 use Rattle.expression.proofs.Written.{written-as, written-minus, written-poly, written-product, written-lagrange, written-constant}
 use Rattle.preprocessor.specs.Pieces.{Limits, partOf, identityTree, permutationTree, nextTree, partTree, startTree, zAt}
-use Rattle.preprocessor.specs.declared.compose.Numbers.{Numbers}
+use Rattle.preprocessor.specs.declared.Numbers.{Numbers}
 use Rattle.preprocessor.proofs.Lists.{product-size}
 
 -- a label is a word

@@ -13,7 +13,7 @@ use Rattle.expression.specs.Flat.{size}
 use Rattle.backend.specs.Circuit.{Circuit, Pair, pairAt, rowsOf, numPoly, numUser, copied, numCopied, numLookups}
 use Rattle.backend.specs.Constraints.{inputsOf, tablesOf, lookupTree, maxDegree}
 use Rattle.preprocessor.specs.Compose.{numZ, composedWords, composedNodes}
-use Rattle.preprocessor.specs.declared.compose.Numbers.{Numbers}
+use Rattle.preprocessor.specs.declared.Numbers.{Numbers}
 
 -- the numbers of a circuit that the composed expression names
 unfoldable pub numbersOf : Circuit → Numbers

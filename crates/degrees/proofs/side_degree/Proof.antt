@@ -12,7 +12,7 @@ use Rattle.degrees.proofs.side_degree.Tie as tie
 use Rattle.degrees.proofs.side_degree.Reads as reads
 use Rattle.degrees.proofs.side_degree.Lts as lts
 use Rattle.degrees.proofs.most.Reads as most-reads
-use Rattle.expression.proofs.degree.degree_of.Reads as degree-of-reads
+use Rattle.degree.proofs.degree_of.Reads as degree-of-reads
 
 abbrev Inv-loop : tie.InvT-loop
 Inv-loop nodes pairs start n side degree₀ i₀ degree i = Most (λ j. degreeAt (exprOf nodes (getD pairs ((start + j) * 2 + side) 0))) n degree i

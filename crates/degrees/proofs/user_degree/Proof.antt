@@ -13,7 +13,7 @@ use Rattle.degrees.proofs.user_degree.Tie as tie
 use Rattle.degrees.proofs.user_degree.Reads as reads
 use Rattle.degrees.proofs.user_degree.Lts as lts
 use Rattle.degrees.proofs.most.Reads as most-reads
-use Rattle.expression.proofs.degree.degree_of.Reads as degree-of-reads
+use Rattle.degree.proofs.degree_of.Reads as degree-of-reads
 
 abbrev Inv-loop : tie.InvT-loop
 Inv-loop nodes constraints degree₀ i₀ degree i = Most (λ j. degreeAt (exprOf nodes (getD constraints j 0))) (length constraints) degree i
