@@ -30,7 +30,7 @@ use Rattle.backend.specs.Constraints.{inputsOf, tablesOf}
 use Rattle.prover.specs.Columns.{pow, powerSum}
 use Rattle.prover.specs.Words.{wordsOf}
 use Rattle.prover.specs.Lent.{Given, pairsOf, rootsOf, compressedIn, compressedPolysIn, lentEnvironment}
-use Rattle.prover.specs.declared.compressed.Roots.{Roots}
+use Rattle.prover.specs.declared.Roots.{Roots}
 use Rattle.prover.proofs.Words.{words-none, words-length}
 use Rattle.prover.proofs.Lent.{lent-point, lent-same, compressed-same, compressed-column}
 

@@ -15,7 +15,7 @@ use Rattle.backend.specs.Circuit.{Pair, pairAt}
 use Rattle.backend.specs.Constraints.{inputsOf, tablesOf}
 use Rattle.prover.specs.Running.{factorOf}
 use Rattle.prover.specs.Columns.{powerSum}
-use Rattle.prover.specs.declared.compressed.Roots.{Roots}
+use Rattle.prover.specs.declared.Roots.{Roots}
 
 -- the layout of the given polynomials: instance, preprocess and witness columns of 2^k rows, and no others
 pub record Given (k : ℕ) (l : Layout) : Type 0 where

@@ -1,0 +1,244 @@
+// The compressed columns: the sum of beta^i times expression i, at each row.
+use bh::next;
+use expression::node::index;
+use expression::node::word_at;
+use expression::poly::Layout;
+use expression::value::Point;
+use expression::value::value;
+use prover::Roots;
+use prover::rows_of;
+ghost use mathlib.Core.Path.{_≡_};
+ghost use mathlib.Core.List.{[], _∷_};
+ghost use Prim.Native.Nat.{_+_, _*_, _/_, _%_, _^_, _≤_, _<_};
+ghost use lib.ListN.{length, take, drop};
+ghost use Rattle.field.specs.Field.{𝔾, el, val};
+ghost use Rattle.bh.specs.Rows.{rowAt};
+ghost use Rattle.util.specs.Lists.{column, over, split, total};
+ghost use Rattle.expression.specs.Nodes.{exprOf};
+ghost use Rattle.expression.specs.Value.{valueAt};
+ghost use Rattle.expression.specs.Reader.{Small};
+ghost use Rattle.expression.specs.Point.{Placed, environmentOf};
+ghost use Rattle.backend.specs.Constraints.{inputsOf, tablesOf};
+ghost use Rattle.prover.specs.Words.{wordsOf};
+ghost use Rattle.prover.specs.Lent.{Behind, lentEnvironment, compressedIn, compressedPolysIn, rootsOf, pairsOf};
+
+// The value of the expression at a root, 0 where there is no such node.
+fn value_of_root(
+    nodes: &[u64],
+    circuit: &[u64],
+    witness: &[u64],
+    columns: &[u64],
+    challenges: &[u64],
+    layout: Layout,
+    point: Point,
+    root: u64,
+) -> u64
+    requires { ⌜ (length (now nodes) % 4 ≡ 0) × (Small layout × Placed point) ⌝ }
+    ensures { λ r. ⌜ el r ≡ valueAt 𝔾 (environmentOf (now (circuit .entry)) (now (witness .entry)) (now (columns .entry)) (now (challenges .entry)) layout point) (exprOf (now (nodes .entry)) root) (point .row) ⌝ }
+{
+    let n = index(root);
+    if n < nodes.len() / 4 {
+        return value(
+            nodes,
+            circuit,
+            witness,
+            columns,
+            challenges,
+            layout,
+            point,
+            n,
+        );
+    }
+    0
+}
+
+// The compressed value at a point.
+fn compressed_at(
+    nodes: &[u64],
+    circuit: &[u64],
+    witness: &[u64],
+    columns: &[u64],
+    challenges: &[u64],
+    layout: Layout,
+    point: Point,
+    pairs: &[u64],
+    roots: Roots,
+    beta: u64,
+) -> u64
+    requires { ⌜ (length (now nodes) % 4 ≡ 0) × (Small layout × Placed point) × ((roots .start + roots .width) * 2 ≤ length (now pairs)) × (roots .side < 2) ⌝ }
+    ensures { λ r. ⌜ r ≡ val (compressedIn 𝔾 (environmentOf (now (circuit .entry)) (now (witness .entry)) (now (columns .entry)) (now (challenges .entry)) layout point) (el beta) (rootsOf (now (nodes .entry)) (now (pairs .entry)) roots) (point .row)) ⌝ }
+{
+    let mut sum: u64 = 0;
+    let mut power: u64 = 1;
+    let mut i: usize = 0;
+    while i < roots.width {
+        let root = pairs[(roots.start + i) * 2 + roots.side];
+        let x = value_of_root(
+            nodes,
+            circuit,
+            witness,
+            columns,
+            challenges,
+            layout,
+            point,
+            root,
+        );
+        sum = field::add_u64(sum, field::mul_u64(power, x));
+        power = field::mul_u64(power, beta);
+        i += 1;
+    }
+    sum
+}
+
+// The row after the one at a place of the order.
+pub fn row_after(row: usize, place: usize, k: usize) -> usize
+    requires { ⌜ (0 < k) × (k < 21) × (row ≡ rowAt k place) ⌝ }
+    ensures { λ r. ⌜ (r ≡ rowAt k (place + 1)) × (r < 2 ^ k) ⌝ }
+{
+    if place == 0 {
+        return 1;
+    }
+    next(row, k)
+}
+
+// One compressed column, from word `to` of the column buffer on, through the row order once.
+pub fn lookup_compressed_poly(
+    nodes: &[u64],
+    circuit: &[u64],
+    witness: &[u64],
+    columns: &mut [u64],
+    challenges: &[u64],
+    layout: Layout,
+    k: usize,
+    pairs: &[u64],
+    roots: Roots,
+    beta: u64,
+    to: usize,
+)
+    requires { ⌜ Behind k layout (now nodes) (now columns) to (2 ^ k) × ((roots .start + roots .width) * 2 ≤ length (now pairs)) × (roots .side < 2) ⌝ }
+    ensures { λ _. ⌜ now (columns .exit) ≡ over (now (columns .entry)) to (column (λ b. val (compressedIn 𝔾 (lentEnvironment (now (circuit .entry)) (now (witness .entry)) (now (columns .entry)) (now (challenges .entry)) layout k) (el beta) (rootsOf (now (nodes .entry)) (now (pairs .entry)) roots) b)) (2 ^ k)) ⌝ }
+{
+    let rows = rows_of(k);
+    let given = layout.instances * rows;
+    let mut row: usize = 0;
+    let mut place: usize = 0;
+    while place < rows {
+        let x = compressed_at(
+            nodes,
+            circuit,
+            witness,
+            &columns[0..given],
+            challenges,
+            layout,
+            Point {
+                k: k,
+                row: row,
+                place: place,
+                eq: 0,
+            },
+            pairs,
+            roots,
+            beta,
+        );
+        columns[to + row] = x;
+        row = row_after(row, place, k);
+        place += 1;
+    }
+}
+
+// Both columns of the lookup of `width` pairs from pair `start` on: the input, then the table.
+fn compressed_pair(
+    nodes: &[u64],
+    circuit: &[u64],
+    witness: &[u64],
+    columns: &mut [u64],
+    challenges: &[u64],
+    layout: Layout,
+    k: usize,
+    pairs: &[u64],
+    start: usize,
+    width: usize,
+    beta: u64,
+    to: usize,
+)
+    requires { ⌜ Behind k layout (now nodes) (now columns) to (2 ^ k + 2 ^ k) × ((start + width) * 2 ≤ length (now pairs)) ⌝ }
+    ensures { λ _. ⌜ now (columns .exit) ≡ over (now (columns .entry)) to (wordsOf (2 ^ k) (compressedIn 𝔾 (lentEnvironment (now (circuit .entry)) (now (witness .entry)) (now (columns .entry)) (now (challenges .entry)) layout k) (el beta) (inputsOf (take width (drop start (pairsOf (now (nodes .entry)) (now (pairs .entry)))))) ∷ compressedIn 𝔾 (lentEnvironment (now (circuit .entry)) (now (witness .entry)) (now (columns .entry)) (now (challenges .entry)) layout k) (el beta) (tablesOf (take width (drop start (pairsOf (now (nodes .entry)) (now (pairs .entry)))))) ∷ [])) ⌝ }
+{
+    lookup_compressed_poly(
+        nodes,
+        circuit,
+        witness,
+        columns,
+        challenges,
+        layout,
+        k,
+        pairs,
+        Roots {
+            start: start,
+            width: width,
+            side: 0,
+        },
+        beta,
+        to,
+    );
+    lookup_compressed_poly(
+        nodes,
+        circuit,
+        witness,
+        columns,
+        challenges,
+        layout,
+        k,
+        pairs,
+        Roots {
+            start: start,
+            width: width,
+            side: 1,
+        },
+        beta,
+        to + rows_of(k),
+    );
+}
+
+// The compressed columns of all lookups, of these widths: input 0, table 0, input 1, table 1, ..
+pub fn lookup_compressed_polys(
+    nodes: &[u64],
+    circuit: &[u64],
+    witness: &[u64],
+    columns: &mut [u64],
+    challenges: &[u64],
+    layout: Layout,
+    k: usize,
+    widths: &[u64],
+    pairs: &[u64],
+    beta: u64,
+    to: usize,
+)
+    requires { ⌜ Behind k layout (now nodes) (now columns) to (length (now widths) * (2 ^ k + 2 ^ k)) × (total (now widths) * 2 ≤ length (now pairs)) ⌝ }
+    ensures { λ _. ⌜ now (columns .exit) ≡ over (now (columns .entry)) to (wordsOf (2 ^ k) (compressedPolysIn 𝔾 (lentEnvironment (now (circuit .entry)) (now (witness .entry)) (now (columns .entry)) (now (challenges .entry)) layout k) (el beta) (split (now (widths .entry)) (pairsOf (now (nodes .entry)) (now (pairs .entry)))))) ⌝ }
+{
+    let rows = rows_of(k);
+    let mut start: usize = 0;
+    let mut at = to;
+    let mut i: usize = 0;
+    while i < widths.len() {
+        let width = index(widths[i]);
+        compressed_pair(
+            nodes,
+            circuit,
+            witness,
+            columns,
+            challenges,
+            layout,
+            k,
+            pairs,
+            start,
+            width,
+            beta,
+            at,
+        );
+        start += width;
+        at += rows + rows;
+        i += 1;
+    }
+}
