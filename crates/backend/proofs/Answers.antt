@@ -15,7 +15,7 @@ use Rattle.backend.specs.Layout.{laidOut, nodesInRange}
 use Rattle.backend.specs.Questions.{q1, q2, q3, q4, q3-bodies, q4-bodies, q5, q6, q7, q8, q9, q10, cyclesGood, q11, layoutQuestions, bodyQuestions, circuitQuestions}
 use Rattle.backend.specs.Degrees.{degreesFit}
 use Rattle.backend.specs.Laid.{Laid, Counted}
-use Rattle.backend.specs.declared.contents.Part.{Part}
+use Rattle.backend.specs.declared.Part.{Part}
 use Rattle.backend.proofs.Sections.{Placed, body-part, body-length, laid}
 use Rattle.backend.proofs.Numbers.{counted}
 use Rattle.backend.proofs.Degree.{ten-is}

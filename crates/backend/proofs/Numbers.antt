@@ -43,8 +43,8 @@ use Rattle.backend.specs.Circuit.{
 use Rattle.backend.specs.Layout.{nodeCount, nodesHold, kindIs}
 use Rattle.backend.specs.Questions.{q3-bodies, q4-bodies, roundsGood, small, smallValue, valuesSmall, q5, q6, q9}
 use Rattle.backend.specs.Laid.{Laid, Counted, partOf, infoOf}
-use Rattle.backend.specs.declared.contents.Part.{Part}
-use Rattle.backend.specs.declared.bodies.Info.{Info}
+use Rattle.backend.specs.declared.Part.{Part}
+use Rattle.backend.specs.declared.Info.{Info}
 use Rattle.backend.proofs.Sections.{Placed, body-part, body-length, part-length}
 
 -- ---- a section's words, entry by entry

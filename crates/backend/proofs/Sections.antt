@@ -16,7 +16,7 @@ use Rattle.util.proofs.Tests.{and-left, and-right}
 use Rattle.backend.specs.Circuit.{Section, sections, place, sectionAt, entry, entries, contents, wordK, startOf, wordsIn, bodyOf}
 use Rattle.backend.specs.Questions.{largestK, allowed, q1, q2, q3, follow, q4}
 use Rattle.backend.specs.Laid.{Laid, endOf, partOf}
-use Rattle.backend.specs.declared.contents.Part.{Part}
+use Rattle.backend.specs.declared.Part.{Part}
 
 -- ---- 3
 

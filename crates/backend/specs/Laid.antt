@@ -6,8 +6,8 @@ use lib.ListN.{length, getD}
 use Rattle.backend.specs.Circuit.{Section, contents, wordK, startOf, entries, wordsIn, bodyOf, circuitOf, numWitness, numUser, numPoly}
 use Rattle.util.specs.Lists.{total, All}
 use Rattle.backend.specs.Questions.{largestK}
-use Rattle.backend.specs.declared.contents.Part.{Part}
-use Rattle.backend.specs.declared.bodies.Info.{Info}
+use Rattle.backend.specs.declared.Part.{Part}
+use Rattle.backend.specs.declared.Info.{Info}
 
 -- the word after the last of a section
 abbrev pub endOf : List ℕ → Section → ℕ

@@ -5,12 +5,12 @@ use Rattle.questions.proofs.layout_no.Statement.{statement}
 use Rattle.questions.proofs.layout_no.Tie as tie
 use Rattle.questions.proofs.layout_no.Reads as reads
 use Rattle.questions.proofs.layout_no.Lts as lts
-use Rattle.backend.proofs.bodies.question_3_bodies.Reads as question-3-bodies-reads
-use Rattle.backend.proofs.bodies.question_4_bodies.Reads as question-4-bodies-reads
-use Rattle.backend.proofs.contents.question_1.Reads as question-1-reads
-use Rattle.backend.proofs.contents.question_2.Reads as question-2-reads
-use Rattle.backend.proofs.contents.question_3.Reads as question-3-reads
-use Rattle.backend.proofs.contents.question_4.Reads as question-4-reads
+use Rattle.bodies.proofs.question_3_bodies.Reads as question-3-bodies-reads
+use Rattle.bodies.proofs.question_4_bodies.Reads as question-4-bodies-reads
+use Rattle.contents.proofs.question_1.Reads as question-1-reads
+use Rattle.contents.proofs.question_2.Reads as question-2-reads
+use Rattle.contents.proofs.question_3.Reads as question-3-reads
+use Rattle.contents.proofs.question_4.Reads as question-4-reads
 
 -- src/lib.rt:15:9
 question-1-requires : tie.Need-question-1-requires

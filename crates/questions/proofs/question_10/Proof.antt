@@ -5,7 +5,7 @@ use Rattle.questions.proofs.question_10.Statement.{statement}
 use Rattle.questions.proofs.question_10.Tie as tie
 use Rattle.questions.proofs.question_10.Reads as reads
 use Rattle.questions.proofs.question_10.Lts as lts
-use Rattle.backend.proofs.contents.section.Reads as section-reads
+use Rattle.contents.proofs.section.Reads as section-reads
 use Rattle.degrees.proofs.degrees_fit.Reads as degrees-fit-reads
 
 -- src/lib.rt:118:18

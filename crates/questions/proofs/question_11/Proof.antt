@@ -4,9 +4,9 @@ use Rattle.questions.proofs.question_11.Statement.{statement}
 use Rattle.questions.proofs.question_11.Tie as tie
 use Rattle.questions.proofs.question_11.Reads as reads
 use Rattle.questions.proofs.question_11.Lts as lts
-use Rattle.backend.proofs.bodies.num_poly.Reads as num-poly-reads
-use Rattle.backend.proofs.bodies.rows.Reads as rows-reads
-use Rattle.backend.proofs.contents.section.Reads as section-reads
+use Rattle.bodies.proofs.num_poly.Reads as num-poly-reads
+use Rattle.bodies.proofs.rows.Reads as rows-reads
+use Rattle.contents.proofs.section.Reads as section-reads
 use Rattle.cycles.proofs.cycles_good.Reads as cycles-good-reads
 
 -- src/lib.rt:91:9

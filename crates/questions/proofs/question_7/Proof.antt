@@ -4,7 +4,7 @@ use Rattle.questions.proofs.question_7.Statement.{statement}
 use Rattle.questions.proofs.question_7.Tie as tie
 use Rattle.questions.proofs.question_7.Reads as reads
 use Rattle.questions.proofs.question_7.Lts as lts
-use Rattle.backend.proofs.contents.section.Reads as section-reads
+use Rattle.contents.proofs.section.Reads as section-reads
 use Rattle.layout.proofs.laid_out.Reads as laid-out-reads
 
 -- src/lib.rt:41:9

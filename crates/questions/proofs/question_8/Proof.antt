@@ -4,9 +4,9 @@ use Rattle.questions.proofs.question_8.Statement.{statement}
 use Rattle.questions.proofs.question_8.Tie as tie
 use Rattle.questions.proofs.question_8.Reads as reads
 use Rattle.questions.proofs.question_8.Lts as lts
-use Rattle.backend.proofs.bodies.num_poly.Reads as num-poly-reads
-use Rattle.backend.proofs.bodies.num_user.Reads as num-user-reads
-use Rattle.backend.proofs.contents.section.Reads as section-reads
+use Rattle.bodies.proofs.num_poly.Reads as num-poly-reads
+use Rattle.bodies.proofs.num_user.Reads as num-user-reads
+use Rattle.contents.proofs.section.Reads as section-reads
 use Rattle.layout.proofs.nodes_in_range.Reads as nodes-in-range-reads
 
 -- src/lib.rt:58:9

@@ -1,0 +1,54 @@
+// Tests and sums of words of a section.
+ghost use mathlib.Core.Path.{_≡_};
+ghost use Prim.Native.Nat.{_*_, _≤_, _<_, min};
+ghost use lib.ListN.{length};
+ghost use lib.Dec.{ltb};
+ghost use Rattle.util.specs.Lists.{allOf, total};
+ghost use Rattle.backend.specs.Circuit.{wordEach};
+
+// Is every word below the limit?
+pub fn all_below(words: &[u64], limit: u64) -> bool
+    ensures { λ r. ⌜ r ≡ allOf (λ w. ltb w limit) (now (words .entry)) ⌝ }
+{
+    let mut i = 0;
+    while i < words.len() {
+        if limit <= words[i] {
+            return false;
+        }
+        i += 1;
+    }
+    true
+}
+
+// Is word j of each of n entries of `size` words above 0?
+pub fn all_positive(words: &[u64], size: usize, j: usize, n: usize) -> bool
+    requires { ⌜ (j < size) × (n * size ≤ length (now words)) ⌝ }
+    ensures { λ r. ⌜ r ≡ allOf (ltb 0) (wordEach (now (words .entry)) size j n) ⌝ }
+{
+    let mut i = 0;
+    while i < n {
+        if words[i * size + j] == 0 {
+            return false;
+        }
+        i += 1;
+    }
+    true
+}
+
+// The sum of word j of each of n entries of `size` words, the limit where it is more.
+pub fn total_to(words: &[u64], size: usize, j: usize, n: usize, limit: u64) -> u64
+    requires { ⌜ (j < size) × (n * size ≤ length (now words)) ⌝ }
+    ensures { λ r. ⌜ r ≡ min (total (wordEach (now (words .entry)) size j n)) limit ⌝ }
+{
+    let mut sum = 0;
+    let mut i = 0;
+    while i < n {
+        let word = words[i * size + j];
+        if limit - sum < word {
+            return limit;
+        }
+        sum += word;
+        i += 1;
+    }
+    sum
+}
