@@ -1,14 +1,12 @@
 -- User expressions over the words that are lent: what they read of the column buffer, and when they read a log. Assumes nothing.
 use mathlib.Core.Path.{_≡_, refl, sym, ap, ap₂, _∙_}
 use mathlib.Core.List.{List, [], _∷_, _++_, map, append-nil}
-use Prim.Native.Nat.{ℕ, zero, suc, _+_, _-_, _*_, _^_, _≤_, _<_}
-use native.Mathlib.Nat.{suc-mul, mul-le-mul, not-suc-le-zero}
+use Prim.Native.Nat.{ℕ, zero, suc, _+_, _-_, _*_, _^_, _<_}
+use native.Mathlib.Nat.{suc-mul, not-suc-le-zero}
 use native.Mathlib.Decide.{decLt}
 use native.Mathlib.Omega.{arith}
-use lib.IntN.{ℤ}
 use lib.ListN.{length, getD, take, drop, length-map}
 use lib.Seq.{getD-take, getD-drop}
-use Rattle.field.specs.Algebra.{Field}
 use Rattle.field.specs.Field.{𝔾, el, val, el-zero, el-val}
 use Rattle.bh.specs.Rows.{rotated}
 use Rattle.bh.proofs.Turn.{rotated-lt}
@@ -16,7 +14,7 @@ use Rattle.util.specs.Lists.{column, concat, split}
 use Rattle.util.proofs.All.{all-any, map-same}
 use Rattle.util.proofs.Columns.{column-length, column-cong, get-column}
 use Rattle.util.proofs.Turns.{grid-lt}
-use Rattle.util.proofs.Lists.{get-left, get-past, get-none, get-map, split-length}
+use Rattle.util.proofs.Lists.{get-left, get-past, get-map, split-length}
 use Rattle.expression.specs.Expr.{Expr}
 use Rattle.expression.specs.Value.{Environment, polyOf, valueAt}
 use Rattle.expression.specs.Reader.{polysOf}
@@ -25,10 +23,10 @@ use Rattle.expression.specs.declared.poly.Layout.{Layout}
 use Rattle.expression.specs.declared.value.Point.{Point}
 use Rattle.expression.proofs.Within.{anything, within-anything}
 use Rattle.expression.proofs.Agree.{agree-value}
-use Rattle.backend.specs.Circuit.{Pair, pairAt, Section, circuitOf, bodyOf, entries, startOf, wordsIn, rowsOf, numInstance, numPreprocess, numWitness}
+use Rattle.backend.specs.Circuit.{Pair, pairAt, Section, circuitOf, bodyOf, entries, startOf, rowsOf, numInstance, numPreprocess, numWitness}
 use Rattle.backend.specs.Constraints.{inputsOf, tablesOf}
 use Rattle.prover.specs.Log.{Log}
-use Rattle.prover.specs.Columns.{powerSum, instanceAt, instancePolys, preprocessPolys, witnessPolys, givenPolys, userEnvironment, compressedAt, inputAt, tableAt, compressedPolys}
+use Rattle.prover.specs.Columns.{powerSum, instancePolys, preprocessPolys, witnessPolys, givenPolys, userEnvironment, compressedAt, inputAt, tableAt, compressedPolys}
 use Rattle.prover.specs.Words.{wordsOf}
 use Rattle.prover.specs.Lent.{Given, pairsOf, lentEnvironment, compressedIn, compressedPolysIn}
 

@@ -1,12 +1,12 @@
 -- The compressed columns: one value by a running power and a running sum, and the columns one after another. Assumes nothing.
 use mathlib.Core.Path.{_≡_, refl, sym, ap, ap₂, _∙_}
 use mathlib.Core.List.{List, [], _∷_, _++_, map, append-nil, append-assoc, map-append}
-use Prim.Native.Nat.{ℕ, zero, suc, _+_, _-_, _*_, _/_, _%_, _^_, _≤_, _<_}
+use Prim.Native.Nat.{ℕ, zero, suc, _+_, _*_, _/_, _%_, _^_, _≤_, _<_}
 use native.Mathlib.Nat.{suc-mul, mul-le-mul, mul-assoc}
 use native.Mathlib.Numerals.{add-one}
 use native.Mathlib.Omega.{arith}
 use lib.Dec.{lit<}
-use lib.ListN.{length, getD, take, drop, length-take, length-drop}
+use lib.ListN.{length, getD, take, drop, length-drop}
 use lib.Seq.{getD-take, getD-drop, ext-getD, length-take-le}
 use Rattle.field.specs.Prime.{P}
 use Rattle.field.specs.Field.{𝔾, el, val, addP, mulP, val-el, el-zero, el-one, el-add, el-mul}
@@ -18,7 +18,7 @@ use Rattle.util.proofs.Columns.{column-length, column-cong, get-column, map-col
 use Rattle.util.proofs.Lists.{get-none, concat-end, pairs-length, split-length}
 use Rattle.util.proofs.Over.{over-none, over-over, over-before}
 use Rattle.util.proofs.Splits.{split-more}
-use Rattle.identities.proofs.Totals.{upTo-cong, upTo-suc, upTo-zero}
+use Rattle.identities.proofs.Totals.{upTo-cong, upTo-suc}
 use Rattle.expression.specs.Expr.{Expr, evaluate}
 use Rattle.expression.specs.Nodes.{wordOf, nodeOf, kindOf, noExpr, noExprs, under, exprOf, itemsOf}
 use Rattle.expression.specs.Value.{Environment, valueOps, valueAt}

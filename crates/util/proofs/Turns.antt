@@ -1,9 +1,9 @@
 -- A run of words written in any order, one word a turn. Assumes nothing.
 use mathlib.Core.Path.{_≡_, refl, sym, ap, ap₂, _∙_}
 use mathlib.Core.Logic.{_≢_}
-use mathlib.Core.Bool.{Bool, true, false, cond}
+use mathlib.Core.Bool.{Bool, cond}
 use mathlib.Core.List.{List}
-use Prim.Native.Nat.{ℕ, zero, suc, _+_, _*_, _/_, _%_, _≤_, _<_}
+use Prim.Native.Nat.{ℕ, suc, _+_, _*_, _/_, _%_, _≤_, _<_}
 use native.Mathlib.Nat.{
   suc-mul,
   mul-comm,
@@ -18,13 +18,12 @@ use native.Mathlib.Nat.{
   add-zero,
 }
 use native.Mathlib.Decide.{decLt}
-use native.Mathlib.Numerals.{add-one}
 use native.Mathlib.Omega.{arith}
 use lib.Dec.{ltb}
 use lib.ListN.{length, getD, set, length-set}
 use borrow.Author.Tests.{lt-ltb, le-ltb}
 use Rattle.util.specs.Lists.{column, over}
-use Rattle.util.proofs.Columns.{column-length, column-cong}
+use Rattle.util.proofs.Columns.{column-cong}
 use Rattle.util.proofs.Over.{over-before}
 use Rattle.util.proofs.Sets.{over-column-set, over-self}
 

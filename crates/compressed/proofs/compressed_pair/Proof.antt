@@ -1,6 +1,5 @@
 -- `compressed_pair` meets its contract: the table's column behind the input's. Assumes nothing.
-use borrow.Author.Needs.{needs}
-use mathlib.Core.Path.{_≡_, refl, sym, ap, ap₂, _∙_}
+use mathlib.Core.Path.{ap, _∙_}
 use Prim.Native.Nat.{ℕ, _+_}
 use native.Mathlib.Omega.{arith}
 use Rattle.prover.proofs.PowerSums.{pair-end}

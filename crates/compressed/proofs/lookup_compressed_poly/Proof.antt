@@ -1,14 +1,10 @@
 -- `lookup_compressed_poly` meets its contract: a row a turn, and the instance columns stay as they are. Assumes nothing.
-use borrow.Author.Needs.{needs}
-use mathlib.Core.Path.{_≡_, refl, sym, ap, ap₂, _∙_}
-use mathlib.Core.List.{List}
-use Prim.Native.Nat.{ℕ, _+_, _-_, _*_, _^_, _≤_, _<_}
+use mathlib.Core.Path.{_≡_, sym, ap, _∙_}
+use Prim.Native.Nat.{ℕ, _+_, _-_, _^_}
 use native.Mathlib.Omega.{arith}
-use lib.ListN.{getD, length}
 use Rattle.field.specs.Field.{𝔾, el, val}
 use Rattle.bh.specs.Rows.{rowAt, placeOf}
-use Rattle.bh.proofs.Order.{row-nought, row-lt}
-use Rattle.bh.proofs.Place.{place-row}
+use Rattle.bh.proofs.Order.{row-nought}
 use Rattle.util.proofs.Turns.{Turned, turn-start, turn-more, turn-before, turn-end}
 use Rattle.prover.specs.Lent.{lentEnvironment, compressedIn, rootsOf}
 use Rattle.prover.proofs.Rows.{row-turns, row-in, placed-at, read-there, read-word}

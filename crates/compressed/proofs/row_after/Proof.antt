@@ -1,8 +1,7 @@
 -- `row_after` meets its contract. Assumes nothing.
-use mathlib.Core.Path.{_≡_, sym, ap, _∙_}
-use Prim.Native.Nat.{ℕ, _^_, _<_}
+use mathlib.Core.Path.{ap, _∙_}
 use native.Mathlib.Omega.{arith}
-use Rattle.bh.specs.Rows.{rowAt, nextRow}
+use Rattle.bh.specs.Rows.{nextRow}
 use Rattle.bh.proofs.Order.{row-lt}
 use Rattle.prover.proofs.Rows.{row-first, row-on, one-row}
 use Rattle.compressed.proofs.row_after.Statement.{statement}
