@@ -71,7 +71,7 @@ module _ (𝓕 : Field) {W : Type 0} (k n s : ℕ) (val : ℕ → ℕ → W) (φ
         → Met 𝓕 k N ids perms (zCol 𝓕 k N ids perms)
     copies-meet N h l c cs cp safe = z-meets 𝓕 k N ids perms h l (safe-parts N safe) (balanced N c cs cp)
 
-    -- Item 13: whatever the values, no two z that differ outside row 0
+    -- whatever the values, no two z that differ outside row 0
     pub copies-unique : (N : ℕ) → 0 < k → k < 21 → Safe → (z w : ℕ → ℕ → F) → Met 𝓕 k N ids perms z → Met 𝓕 k N ids perms w
         → (j b : ℕ) → j < N → b ≢ 0 → b < 2 ^ k → z j b ≡ w j b
     copies-unique N h l safe z w = z-unique 𝓕 k N ids perms h l (safe-parts N safe) z w

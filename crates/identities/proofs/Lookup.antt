@@ -65,7 +65,7 @@ module _ (𝓕 : Field) where
         clear (add γ (input b)) (add γ (table b)) (inv (add γ (input b))) (inv (add γ (table b))) (m b)
         (inv-mul-self 𝓕 (add γ (input b)) p) (inv-mul-self 𝓕 (add γ (table b)) q)
 
-    -- Item 13: no other value does
+    -- no other value does
     pub h-unique : (b : ℕ) → add γ (input b) ≢ nil → add γ (table b) ≢ nil → (x y : F) → Fits x b → Fits y b → x ≡ y
     h-unique b p q x y f g =
         mul-cancel 𝓕 x y (add γ (input b)) p

@@ -253,7 +253,7 @@ module _ (𝓕 : Field) (k N : ℕ) (A B : ℕ → ℕ → 𝓕 .F) where
           subst (λ (x : ℕ). z j x ≡ zCol j x) (p .2)
           (only-in z M (p .0) (p .1) (only-at z (omega arith) M (p .0) (p .1)) j m ∙ sym (z-place j (p .0) (p .1)))
 
-      -- Item 13: no two that differ outside row 0
+      -- no two that differ outside row 0
       pub z-unique : (z w : ℕ → ℕ → F) → Met z → Met w → (j b : ℕ) → j < N → b ≢ 0 → b < 2 ^ k → z j b ≡ w j b
       z-unique z w M M' j b m n q = z-only z M j b m n q ∙ sym (z-only w M' j b m n q)
 

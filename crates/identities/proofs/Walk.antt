@@ -28,7 +28,7 @@ pub labels-snoc : (Cs : List (List ℕ)) (C : List ℕ) (c : ℕ) → labels (Cs
 unfolding labels
 labels-snoc Cs C c = moved-snoc (λ d. d) Cs C c
 
--- ---- Item 8: a cell that stands in one cycle only
+-- ---- a cell that stands in one cycle only
 beforeIn-still : (p c : ℕ) (xs : List ℕ) → Out c xs → beforeIn p xs c ≡ c
 unfolding beforeIn
 beforeIn-still p c [] o = refl
