@@ -13,7 +13,8 @@ use Rattle.util.specs.Lists.{column, split, total, All}
 use Rattle.util.proofs.Lists.{get-left, get-past, get-map}
 use Rattle.util.proofs.Columns.{column-length, get-column, column-cong, map-column}
 use Rattle.util.proofs.All.{all-get}
-use Rattle.util.proofs.Runs.{part-column, get-split, total-more, total-first}
+use Rattle.util.proofs.Parts.{get-split, total-next}
+use Rattle.util.proofs.Runs.{part-column, total-first}
 use Rattle.expression.specs.Expr.{Expr, minus, at, distributePowers}
 use Rattle.expression.specs.Nodes.{exprOf}
 use Rattle.expression.specs.Flat.{body, size}
@@ -51,7 +52,7 @@ module _ (nodes widths pairs : List ℕ) (enough : total widths * 2 ≤ length p
   width = getD widths j 0
 
   pub pairs-end : before + width ≤ total widths
-  pairs-end = omega (arith, total-more widths j h, total-first widths (suc j))
+  pairs-end = omega (arith, total-next widths j h, total-first widths (suc j))
 
   pub words-end : before * 2 + width * 2 ≤ length pairs
   words-end = omega (arith, pairs-end)

@@ -13,7 +13,8 @@ use Rattle.util.proofs.All.{all-get, all-weaken}
 use Rattle.util.proofs.Lists.{get-map, split-length}
 use Rattle.util.proofs.Columns.{column-length, column-cong, get-column, below-length}
 use Rattle.util.proofs.Over.{length-over, over-none, over-column, over-again}
-use Rattle.util.proofs.Parts.{total-next, total-within, get-split, column-part}
+use Rattle.util.proofs.Parts.{total-next, total-within, get-split}
+use Rattle.util.proofs.Searches.{column-part}
 use Rattle.util.proofs.Places.{get-index}
 use Rattle.backend.specs.Circuit.{Cell, cellAt, cellsOf}
 use Rattle.preprocessor.specs.Permutation.{source, before, firstLabelIn, labelColumns, permutationColumns, Placed, Once, Apart, Walkable, Starts, cellWord, Moved}

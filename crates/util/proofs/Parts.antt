@@ -69,18 +69,6 @@ module _ {A : Type 0} where
   get-split (n ∷ ns) xs (suc i) l =
       get-split ns (drop n xs) i (omega arith) ∙ ap (take (getD ns i 0)) (drop-drop (total (take i ns)) n xs)
 
-  -- a part of a column
-  pub column-part : (f : ℕ → A) (n s m : ℕ) → s + m ≤ n → take m (drop s (column f n)) ≡ column (λ i. f (s + i)) m
-  column-part f n s m h =
-      let r : ℕ = n - (s + m) in
-      let g : ℕ → A = λ i. f (s + i) in
-      let e : n ≡ s + (m + r) = omega arith in
-      ap (λ (k : ℕ). take m (drop s (column f k))) e
-      ∙ ap (λ (xs : List A). take m (drop s xs)) (column-append f s (m + r))
-      ∙ ap (take m) (drop-at (column f s) (column g (m + r)) s (column-length f s))
-      ∙ ap (take m) (column-append g m r)
-      ∙ take-at (column g m) (column (λ i. g (m + i)) r) m (column-length g m)
-
   -- columns of one length, one after another, by place
   pub columns-flat : (rows : ℕ) (f : ℕ → ℕ → A) (n : ℕ) → concat (column (λ i. column (f i) rows) n) ≡ column (λ j. f (j / rows) (j % rows)) (n * rows)
   unfolding column concat

@@ -9,6 +9,7 @@ use lib.ListN.{length, getD, take, drop}
 use lib.Seq.{take-all, take-at, drop-at, drop-drop}
 use Rattle.util.specs.Lists.{column, total, split}
 use Rattle.util.proofs.Columns.{column-length, column-append}
+use Rattle.util.proofs.Parts.{total-next}
 
 -- ---- runs of a column
 module _ {A : Type 0} (f : ℕ → A) where
@@ -37,12 +38,6 @@ part-column f s w n h =
     ap (take w) (drop-column f s n (omega arith)) ∙ take-column (λ i. f (s + i)) w (n - s) (omega arith)
 
 -- ---- sums of the first numbers
-pub total-more : (ns : List ℕ) (i : ℕ) → i < length ns → total (take (suc i) ns) ≡ total (take i ns) + getD ns i 0
-unfolding total
-total-more [] i h = absurd (omega arith)
-total-more (n ∷ ns) zero h = omega arith
-total-more (n ∷ ns) (suc i) h = let q = total-more ns i (omega arith) in omega arith
-
 pub total-first : (ns : List ℕ) (i : ℕ) → total (take i ns) ≤ total ns
 unfolding total
 total-first [] zero = omega arith
@@ -57,13 +52,4 @@ total-none ns = refl
 pub total-step : (ns : List ℕ) (i sum n : ℕ) → i < length ns → sum ≡ total (take i ns) → n ≡ getD ns i 0
     → sum + n ≡ total (take (i + 1) ns)
 total-step ns i sum n h p q =
-    ap₂ _+_ p q ∙ sym (total-more ns i h) ∙ ap (λ (j : ℕ). total (take j ns)) (sym (add-one i))
-
--- ---- part j of a list that is split
-pub get-split : {A : Type 0} (ns : List ℕ) (xs : List A) (j : ℕ) → j < length ns
-    → getD (split ns xs) j [] ≡ take (getD ns j 0) (drop (total (take j ns)) xs)
-unfolding split total
-get-split [] xs j h = absurd (omega arith)
-get-split (n ∷ ns) xs zero h = refl
-get-split (n ∷ ns) xs (suc j) h =
-    get-split ns (drop n xs) j (omega arith) ∙ ap (take (getD ns j 0)) (drop-drop (total (take j ns)) n xs)
+    ap₂ _+_ p q ∙ sym (total-next ns i h) ∙ ap (λ (j : ℕ). total (take j ns)) (sym (add-one i))

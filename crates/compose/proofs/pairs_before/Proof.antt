@@ -1,3 +1,4 @@
+use Rattle.util.proofs.Parts.{total-next}
 use Rattle.util.proofs.Runs as runs
 use Prim.Native.Nat.{ℕ, suc, _≤_, _-_}
 use Rattle.util.specs.Lists.{total}
@@ -31,7 +32,7 @@ add-sum c =
     let ws = (c .before .before .before .before .before .args .widths .now) in
     let i = (c .before .before .before .loop .i) in
     let e = (c .index .ensures) in
-    let p = runs.total-more ws i (omega arith) in
+    let p = total-next ws i (omega arith) in
     let q = runs.total-first ws (suc i) in
     omega arith
 
