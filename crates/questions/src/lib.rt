@@ -1,32 +1,20 @@
 // The questions put to circuit words in their order.
-use bodies::num_poly;
-use bodies::num_user;
-use bodies::question_3_bodies;
-use bodies::question_4_bodies;
-use bodies::question_5;
-use bodies::question_6;
-use bodies::question_9;
-use bodies::rows;
-use contents::CELLS;
-use contents::CONSTRAINTS;
-use contents::LENGTHS;
-use contents::NODES;
-use contents::PAIRS;
-use contents::WIDTHS;
 use contents::question_1;
 use contents::question_2;
 use contents::question_3;
 use contents::question_4;
-use contents::section;
-use cycles::cycles_good;
-use degrees::degrees_fit;
-use layout::laid_out;
-use layout::nodes_in_range;
+use limits::question_3_bodies;
+use limits::question_4_bodies;
+use limits::question_5;
+use limits::question_6;
+use limits::question_9;
+use trees::question_7;
+use trees::question_8;
+use trees::question_10;
+use trees::question_11;
 ghost use mathlib.Core.Path.{_≡_};
-ghost use mathlib.Core.Bool.{true};
 ghost use Rattle.util.specs.Lists.{firstNo};
-ghost use Rattle.backend.specs.Circuit.{circuitOf};
-ghost use Rattle.backend.specs.Questions.{layoutQuestions, bodyQuestions, circuitQuestions, q7, q8, q10, q11};
+ghost use Rattle.backend.specs.Questions.{layoutQuestions, bodyQuestions, circuitQuestions};
 ghost use Rattle.backend.specs.Laid.{Laid, Counted};
 
 // "3 and then 4 are put to the contents, then 3 and then 4 to the bodies": the first no of these, 0 if there is none.
@@ -52,89 +40,6 @@ pub fn layout_no(circuit: &[u64]) -> u64
         return 4;
     }
     0
-}
-
-// Question 7.
-pub fn question_7(circuit: &[u64]) -> bool
-    requires { ⌜ Laid (now circuit) ⌝ }
-    ensures { λ r. ⌜ r ≡ q7 (circuitOf (now (circuit .entry))) ⌝ }
-{
-    let nodes = section(circuit, NODES);
-    let constraints = section(circuit, CONSTRAINTS);
-    let pairs = section(circuit, PAIRS);
-    let nodes_start = nodes.start;
-    let nodes_end = nodes.end;
-    let constraints_start = constraints.start;
-    let constraints_end = constraints.end;
-    let pairs_start = pairs.start;
-    let pairs_end = pairs.end;
-    laid_out(
-        &circuit[nodes_start..nodes_end],
-        &circuit[constraints_start..constraints_end],
-        &circuit[pairs_start..pairs_end],
-    )
-}
-
-// Question 8.
-pub fn question_8(circuit: &[u64]) -> bool
-    requires { ⌜ Laid (now circuit) × Counted (now circuit) ⌝ }
-    ensures { λ r. ⌜ r ≡ q8 (circuitOf (now (circuit .entry))) ⌝ }
-{
-    let polys = num_poly(circuit);
-    let user = num_user(circuit);
-    let k = circuit[0];
-    let nodes = section(circuit, NODES);
-    let start = nodes.start;
-    let end = nodes.end;
-    nodes_in_range(&circuit[start..end], polys, user, k)
-}
-
-// Question 11.
-pub fn question_11(circuit: &[u64]) -> bool
-    requires { ⌜ Laid (now circuit) × Counted (now circuit) ⌝ }
-    ensures { λ r. ⌜ r ≡ q11 (circuitOf (now (circuit .entry))) ⌝ }
-{
-    let polys = num_poly(circuit);
-    let rows = rows(circuit);
-    let lengths = section(circuit, LENGTHS);
-    let cells = section(circuit, CELLS);
-    let lengths_start = lengths.start;
-    let lengths_end = lengths.end;
-    let cells_start = cells.start;
-    let cells_end = cells.end;
-    cycles_good(
-        &circuit[lengths_start..lengths_end],
-        &circuit[cells_start..cells_end],
-        polys,
-        rows,
-    )
-}
-
-// Question 10, once 7 has been answered yes.
-pub fn question_10(circuit: &[u64]) -> bool
-    requires { ⌜ Laid (now circuit) × (Counted (now circuit) × (q7 (circuitOf (now circuit)) ≡ true)) ⌝ }
-    ensures { λ r. ⌜ r ≡ q10 (circuitOf (now (circuit .entry))) ⌝ }
-{
-    let stated = circuit[1];
-    let nodes = section(circuit, NODES);
-    let users = section(circuit, CONSTRAINTS);
-    let widths = section(circuit, WIDTHS);
-    let lookups = section(circuit, PAIRS);
-    let nodes_start = nodes.start;
-    let nodes_end = nodes.end;
-    let users_start = users.start;
-    let users_end = users.end;
-    let widths_start = widths.start;
-    let widths_end = widths.end;
-    let lookups_start = lookups.start;
-    let lookups_end = lookups.end;
-    degrees_fit(
-        &circuit[nodes_start..nodes_end],
-        &circuit[users_start..users_end],
-        &circuit[widths_start..widths_end],
-        &circuit[lookups_start..lookups_end],
-        stated,
-    )
 }
 
 // The first no of 5 to 11, 0 if there is none.

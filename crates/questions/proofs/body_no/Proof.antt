@@ -4,13 +4,13 @@ use Rattle.questions.proofs.body_no.Statement.{statement}
 use Rattle.questions.proofs.body_no.Tie as tie
 use Rattle.questions.proofs.body_no.Reads as reads
 use Rattle.questions.proofs.body_no.Lts as lts
-use Rattle.bodies.proofs.question_5.Reads as question-5-reads
-use Rattle.bodies.proofs.question_6.Reads as question-6-reads
-use Rattle.bodies.proofs.question_9.Reads as question-9-reads
-use Rattle.questions.proofs.question_10.Reads as question-10-reads
-use Rattle.questions.proofs.question_11.Reads as question-11-reads
-use Rattle.questions.proofs.question_7.Reads as question-7-reads
-use Rattle.questions.proofs.question_8.Reads as question-8-reads
+use Rattle.limits.proofs.question_5.Reads as question-5-reads
+use Rattle.limits.proofs.question_6.Reads as question-6-reads
+use Rattle.limits.proofs.question_9.Reads as question-9-reads
+use Rattle.trees.proofs.question_10.Reads as question-10-reads
+use Rattle.trees.proofs.question_11.Reads as question-11-reads
+use Rattle.trees.proofs.question_7.Reads as question-7-reads
+use Rattle.trees.proofs.question_8.Reads as question-8-reads
 
 -- src/lib.rt:145:9
 question-5-requires : tie.Need-question-5-requires

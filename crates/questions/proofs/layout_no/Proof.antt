@@ -5,8 +5,8 @@ use Rattle.questions.proofs.layout_no.Statement.{statement}
 use Rattle.questions.proofs.layout_no.Tie as tie
 use Rattle.questions.proofs.layout_no.Reads as reads
 use Rattle.questions.proofs.layout_no.Lts as lts
-use Rattle.bodies.proofs.question_3_bodies.Reads as question-3-bodies-reads
-use Rattle.bodies.proofs.question_4_bodies.Reads as question-4-bodies-reads
+use Rattle.limits.proofs.question_3_bodies.Reads as question-3-bodies-reads
+use Rattle.limits.proofs.question_4_bodies.Reads as question-4-bodies-reads
 use Rattle.contents.proofs.question_1.Reads as question-1-reads
 use Rattle.contents.proofs.question_2.Reads as question-2-reads
 use Rattle.contents.proofs.question_3.Reads as question-3-reads
