@@ -1,7 +1,7 @@
 // Rust `compose`: the composed expression, written as node words into a lent buffer.
 use copy::copy_expr;
 use copy::push;
-use expression::node::index;
+use node::index;
 use preprocessor::Numbers;
 ghost use mathlib.Core.Path.{_≡_};
 ghost use mathlib.Core.List.{map};

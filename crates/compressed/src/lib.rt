@@ -1,12 +1,12 @@
 // The compressed columns: the sum of beta^i times expression i, at each row.
 use bh::next;
-use expression::node::index;
-use expression::node::word_at;
 use expression::poly::Layout;
 use expression::value::Point;
-use expression::value::value;
+use node::index;
+use node::word_at;
 use prover::Roots;
 use prover::rows_of;
+use value::value;
 ghost use mathlib.Core.Path.{_≡_};
 ghost use mathlib.Core.List.{[], _∷_};
 ghost use Prim.Native.Nat.{_+_, _*_, _/_, _%_, _^_, _≤_, _<_};

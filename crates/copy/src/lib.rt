@@ -1,6 +1,6 @@
 // Trees written anew into a lent buffer, in document 01's order, whatever their order in the words that they are read from.
-use expression::node::index;
-use expression::node::read_node;
+use node::index;
+use node::read_node;
 ghost use mathlib.Core.Path.{_≡_};
 ghost use Prim.Native.Nat.{_+_, _*_, _≤_, _<_};
 ghost use lib.ListN.{length};

@@ -1,7 +1,7 @@
 // How many nodes `compose` writes, counted beforehand from the sizes of the user's expressions; 2^60 where there are more.
 use compose::num_constraints;
 use degree::size_of;
-use expression::node::index;
+use node::index;
 use preprocessor::Numbers;
 ghost use mathlib.Core.Path.{_≡_};
 ghost use mathlib.Core.List.{List};

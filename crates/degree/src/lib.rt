@@ -1,7 +1,7 @@
 // The degree of an expression (Rust `degree`), and how many nodes its tree takes, from its node words. Each is capped in every
 // step, so that no sum wraps.
-use expression::node::index;
-use expression::node::read_node;
+use node::index;
+use node::read_node;
 ghost use mathlib.Core.Path.{_≡_};
 ghost use Prim.Native.Nat.{suc, _+_, _*_, _≤_, _<_, min, max};
 ghost use lib.ListN.{length};

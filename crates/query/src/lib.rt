@@ -1,7 +1,7 @@
 // The queries of an expression (Rust `used_query`), from its node words.
 use bh::Rotation;
-use expression::node::index;
-use expression::node::read_node;
+use node::index;
+use node::read_node;
 ghost use mathlib.Core.Path.{_≡_};
 ghost use mathlib.Core.Bool.{cond, _&&_, _||_};
 ghost use Prim.Native.Nat.{_+_, _-_, _*_, _≤_, _<_};

@@ -12,7 +12,7 @@ use Rattle.compose.proofs.side_items.Reads as side-items
 use Rattle.compose.proofs.side_items.Kinds as side-items-kinds
 use Rattle.compose.proofs.+side_items.Lts-side_items as side-items-lts
 use Rattle.copy.proofs.copy_expr.Reads as copy-expr-reads
-use Rattle.expression.proofs.node.index.Reads as index-reads
+use Rattle.node.proofs.index.Reads as index-reads
 use Rattle.compose.proofs.item.Reads as item-reads
 use Rattle.compose.proofs.list_end.Reads as list-end-reads
 use Rattle.compose.proofs.+side_items.{statement}

@@ -31,8 +31,8 @@ use Rattle.copy.proofs.copy_powers.Reads as copy-powers
 use Rattle.copy.proofs.copy_powers.Kinds as copy-powers-kinds
 use Rattle.copy.proofs.+copy_base+copy_expr+copy_items+copy_low+copy_one+copy_pair+copy_powers.Lts-copy_powers as copy-powers-lts
 use Rattle.copy.proofs.push.Reads as push-reads
-use Rattle.expression.proofs.node.index.Reads as index-reads
-use Rattle.expression.proofs.node.read_node.Reads as read-node-reads
+use Rattle.node.proofs.index.Reads as index-reads
+use Rattle.node.proofs.read_node.Reads as read-node-reads
 use Rattle.copy.proofs.+copy_base+copy_expr+copy_items+copy_low+copy_one+copy_pair+copy_powers.{
   statement,
 }

@@ -21,8 +21,8 @@ use Rattle.degree.proofs.node_degree.Kinds as node-degree-kinds
 use Rattle.degree.proofs.+chain_degree+items_degree+lower_degree+node_degree.Lts-node_degree as node-degree-lts
 use Rattle.degree.proofs.most.Reads as most-reads
 use Rattle.degree.proofs.plus.Reads as plus-reads
-use Rattle.expression.proofs.node.index.Reads as index-reads
-use Rattle.expression.proofs.node.read_node.Reads as read-node-reads
+use Rattle.node.proofs.index.Reads as index-reads
+use Rattle.node.proofs.read_node.Reads as read-node-reads
 use Rattle.degree.proofs.+chain_degree+items_degree+lower_degree+node_degree.{
   statement,
 }

@@ -17,8 +17,8 @@ use Rattle.degree.proofs.size_of.Reads as size-of
 use Rattle.degree.proofs.size_of.Kinds as size-of-kinds
 use Rattle.degree.proofs.+items_size+lower_items_size+lower_size+size_of.Lts-size_of as size-of-lts
 use Rattle.degree.proofs.both.Reads as both-reads
-use Rattle.expression.proofs.node.index.Reads as index-reads
-use Rattle.expression.proofs.node.read_node.Reads as read-node-reads
+use Rattle.node.proofs.index.Reads as index-reads
+use Rattle.node.proofs.read_node.Reads as read-node-reads
 use Rattle.degree.proofs.+items_size+lower_items_size+lower_size+size_of.{
   statement,
 }

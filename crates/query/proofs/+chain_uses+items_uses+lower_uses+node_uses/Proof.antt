@@ -23,8 +23,8 @@ use Rattle.query.proofs.+chain_uses+items_uses+lower_uses+node_uses.Lts
 use Rattle.query.proofs.node_uses.Reads as node-uses
 use Rattle.query.proofs.node_uses.Kinds as node-uses-kinds
 use Rattle.query.proofs.+chain_uses+items_uses+lower_uses+node_uses.Lts-node_uses as node-uses-lts
-use Rattle.expression.proofs.node.index.Reads as index-reads
-use Rattle.expression.proofs.node.read_node.Reads as read-node-reads
+use Rattle.node.proofs.index.Reads as index-reads
+use Rattle.node.proofs.read_node.Reads as read-node-reads
 use Rattle.query.proofs.either.Reads as either-reads
 use Rattle.query.proofs.same.Reads as same-reads
 use Rattle.query.proofs.+chain_uses+items_uses+lower_uses+node_uses.{statement}
