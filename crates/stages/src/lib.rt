@@ -1,0 +1,187 @@
+// The stages that read sections of circuit words for which questions 1 to 11 are yes: each writes its columns in the one column buffer.
+use bodies::num_user;
+use bodies::num_witness;
+use bodies::rows;
+use compressed::lookup_compressed_polys;
+use contents::CELLS;
+use contents::INSTANCES;
+use contents::LENGTHS;
+use contents::NODES;
+use contents::PAIRS;
+use contents::WIDTHS;
+use contents::section;
+use node::index;
+use node::word_at;
+use expression::poly::Layout;
+use permutation::permutation_polys;
+use permutation_z::permutation_z_polys;
+use prover::instance_polys;
+ghost use mathlib.Core.Path.{_≡_};
+ghost use mathlib.Core.List.{map};
+ghost use Prim.Native.Nat.{_+_, _*_, _^_, _≤_};
+ghost use lib.ListN.{length, getD, take};
+ghost use Rattle.field.specs.Field.{𝔾, el};
+ghost use Rattle.util.specs.Lists.{below, column, over, split, total};
+ghost use Rattle.backend.specs.Circuit.{Section, bodyOf, circuitOf, rowsOf, numInstance, numUser, numLookups, copied as copiedOf, numCopied};
+ghost use Rattle.preprocessor.specs.Permutation.{label};
+ghost use Rattle.preprocessor.specs.Compose.{numZ};
+ghost use Rattle.prover.specs.Columns.{instanceAt};
+ghost use Rattle.prover.specs.Running.{zOf};
+ghost use Rattle.prover.specs.Words.{wordsOf};
+ghost use Rattle.prover.specs.Lent.{lentEnvironment, compressedPolysIn, lentRatio};
+ghost use Rattle.prepare.specs.Prepared.{Accepted, layoutOf, permutationsAt, compressedAt, zsAt};
+
+// Where the polynomials that are given stand.
+pub fn layout_of(circuit: &[u64]) -> Layout
+    requires { ⌜ Accepted (now circuit) ⌝ }
+    ensures { λ r. ⌜ r ≡ layoutOf (now (circuit .entry)) ⌝ }
+{
+    let all = rows(circuit);
+    let witness = num_witness(circuit);
+    Layout {
+        rows: index(all),
+        instances: index(word_at(circuit, 3)),
+        preprocess: index(word_at(circuit, 5)),
+        start: index(word_at(circuit, 4)),
+        witness: index(witness),
+        permutations: 0,
+        skipped: 0,
+        rest: 0,
+    }
+}
+
+// The instance columns, at the front of the buffer.
+pub fn instance_columns(circuit: &[u64], instance: &[u64], columns: &mut [u64])
+    requires { ⌜ Accepted (now circuit) × (total (bodyOf (now circuit) Section.instances) ≡ length (now instance)) × (numInstance (circuitOf (now circuit)) * rowsOf (circuitOf (now circuit)) ≤ length (now columns)) ⌝ }
+    ensures { λ _. ⌜ now (columns .exit) ≡ over (now (columns .entry)) 0 (wordsOf (rowsOf (circuitOf (now (circuit .entry)))) (map (λ vs b. instanceAt 𝔾 (circuitOf (now (circuit .entry)) .k) (map el vs) b) (split (circuitOf (now (circuit .entry)) .instances) (now (instance .entry))))) ⌝ }
+{
+    let k = index(word_at(circuit, 0));
+    let lengths = section(circuit, INSTANCES);
+    let start = lengths.start;
+    let end = lengths.end;
+    instance_polys(k, &circuit[start..end], instance, columns);
+}
+
+// The permutation columns, behind the instance columns. `copied` are the copied columns.
+pub fn permutation_columns(circuit: &[u64], copied: &[u64], columns: &mut [u64])
+    requires { ⌜ Accepted (now circuit) × (now copied ≡ copiedOf (circuitOf (now circuit))) × (compressedAt (circuitOf (now circuit)) ≤ length (now columns)) ⌝ }
+    ensures { λ _. ⌜ now (columns .exit) ≡ over (now (columns .entry)) (permutationsAt (circuitOf (now (circuit .entry)))) (wordsOf (rowsOf (circuitOf (now (circuit .entry)))) (map (λ i b. el (label (circuitOf (now (circuit .entry))) i b)) (below (numCopied (circuitOf (now (circuit .entry))))))) ⌝ }
+{
+    let layout = layout_of(circuit);
+    let at = layout.instances * layout.rows;
+    let lengths = section(circuit, LENGTHS);
+    let cells = section(circuit, CELLS);
+    let lengths_start = lengths.start;
+    let lengths_end = lengths.end;
+    let cells_start = cells.start;
+    let cells_end = cells.end;
+    permutation_polys(
+        layout.rows,
+        copied,
+        &circuit[lengths_start..lengths_end],
+        &circuit[cells_start..cells_end],
+        columns,
+        at,
+    );
+}
+
+// The compressed columns of the lookups, from word `to` on, over the user's challenges.
+fn compressed_from(
+    circuit: &[u64],
+    witness: &[u64],
+    columns: &mut [u64],
+    user: &[u64],
+    layout: Layout,
+    k: usize,
+    beta: u64,
+    to: usize,
+)
+    requires { ⌜ Accepted (now circuit) × (layout ≡ layoutOf (now circuit)) × (k ≡ circuitOf (now circuit) .k) × (numInstance (circuitOf (now circuit)) * 2 ^ k ≤ to) × (to + numLookups (circuitOf (now circuit)) * (2 ^ k + 2 ^ k) ≤ length (now columns)) ⌝ }
+    ensures { λ _. ⌜ now (columns .exit) ≡ over (now (columns .entry)) to (wordsOf (2 ^ k) (compressedPolysIn 𝔾 (lentEnvironment (now (circuit .entry)) (now (witness .entry)) (now (columns .entry)) (now (user .entry)) layout k) (el beta) (circuitOf (now (circuit .entry)) .lookups))) ⌝ }
+{
+    let nodes = section(circuit, NODES);
+    let widths = section(circuit, WIDTHS);
+    let pairs = section(circuit, PAIRS);
+    let nodes_start = nodes.start;
+    let nodes_end = nodes.end;
+    let widths_start = widths.start;
+    let widths_end = widths.end;
+    let pairs_start = pairs.start;
+    let pairs_end = pairs.end;
+    lookup_compressed_polys(
+        &circuit[nodes_start..nodes_end],
+        circuit,
+        witness,
+        columns,
+        user,
+        layout,
+        k,
+        &circuit[widths_start..widths_end],
+        &circuit[pairs_start..pairs_end],
+        beta,
+        to,
+    );
+}
+
+// The compressed columns, behind the permutation columns: input and table per lookup. `challenges` are the user's, then beta and gamma;
+// `copied` is how many columns are copied.
+pub fn compressed_columns(
+    circuit: &[u64],
+    witness: &[u64],
+    columns: &mut [u64],
+    challenges: &[u64],
+    copied: usize,
+)
+    requires { ⌜ Accepted (now circuit) × (length (now challenges) ≡ numUser (circuitOf (now circuit)) + 2) × (copied ≡ numCopied (circuitOf (now circuit))) × (compressedAt (circuitOf (now circuit)) + numLookups (circuitOf (now circuit)) * 2 * rowsOf (circuitOf (now circuit)) ≤ length (now columns)) ⌝ }
+    ensures { λ _. ⌜ now (columns .exit) ≡ over (now (columns .entry)) (compressedAt (circuitOf (now (circuit .entry)))) (wordsOf (rowsOf (circuitOf (now (circuit .entry)))) (compressedPolysIn 𝔾 (lentEnvironment (now (circuit .entry)) (now (witness .entry)) (now (columns .entry)) (take (numUser (circuitOf (now (circuit .entry)))) (now (challenges .entry))) (layoutOf (now (circuit .entry))) (circuitOf (now (circuit .entry)) .k)) (el (getD (now (challenges .entry)) (numUser (circuitOf (now (circuit .entry)))) 0)) (circuitOf (now (circuit .entry)) .lookups))) ⌝ }
+{
+    let k = index(word_at(circuit, 0));
+    let layout = layout_of(circuit);
+    let user = index(num_user(circuit));
+    let beta = word_at(challenges, user);
+    let to = (layout.instances + copied) * layout.rows;
+    compressed_from(
+        circuit,
+        witness,
+        columns,
+        &challenges[0..user],
+        layout,
+        k,
+        beta,
+        to,
+    );
+}
+
+// The z columns, behind all others. `challenges` are the user's, then beta and gamma; `copied` are the copied columns, and `parts` is how
+// many z columns there are.
+pub fn z_columns(
+    circuit: &[u64],
+    witness: &[u64],
+    columns: &mut [u64],
+    challenges: &[u64],
+    copied: &[u64],
+    parts: usize,
+)
+    requires { ⌜ Accepted (now circuit) × (now copied ≡ copiedOf (circuitOf (now circuit))) × (parts ≡ numZ (circuitOf (now circuit))) × (zsAt (circuitOf (now circuit)) + numZ (circuitOf (now circuit)) * rowsOf (circuitOf (now circuit)) ≤ length (now columns)) ⌝ }
+    ensures { λ _. ⌜ now (columns .exit) ≡ over (now (columns .entry)) (zsAt (circuitOf (now (circuit .entry)))) (wordsOf (rowsOf (circuitOf (now (circuit .entry)))) (column (zOf 𝔾 (lentRatio (layoutOf (now (circuit .entry))) (now (circuit .entry)) (now (witness .entry)) (now (columns .entry)) (copiedOf (circuitOf (now (circuit .entry)))) (el (getD (now (challenges .entry)) (numUser (circuitOf (now (circuit .entry)))) 0)) (el (getD (now (challenges .entry)) (numUser (circuitOf (now (circuit .entry))) + 1) 0))) (circuitOf (now (circuit .entry)) .k) (numCopied (circuitOf (now (circuit .entry)))) (numZ (circuitOf (now (circuit .entry))))) (numZ (circuitOf (now (circuit .entry)))))) ⌝ }
+{
+    let k = index(word_at(circuit, 0));
+    let layout = layout_of(circuit);
+    let user = index(num_user(circuit));
+    let beta = word_at(challenges, user);
+    let gamma = word_at(challenges, user + 1);
+    let lookups = index(word_at(circuit, 13));
+    let to = (layout.instances + copied.len() + lookups * 4) * layout.rows;
+    permutation_z_polys(
+        circuit,
+        witness,
+        columns,
+        layout,
+        k,
+        copied,
+        parts,
+        beta,
+        gamma,
+        to,
+    );
+}
