@@ -1,7 +1,7 @@
 -- What the stages ask for and write, from accepted circuit words. Assumes nothing.
-use mathlib.Core.Path.{_≡_, refl, sym, ap, ap₂, _∙_, subst}
+use mathlib.Core.Path.{_≡_, sym, ap, ap₂, _∙_, subst}
 use mathlib.Core.List.{List, map}
-use Prim.Native.Nat.{ℕ, _+_, _-_, _*_, _/_, _%_, _^_, _≤_, _<_}
+use Prim.Native.Nat.{ℕ, _+_, _-_, _*_, _/_, _^_, _≤_, _<_}
 use native.Mathlib.Omega.{arith}
 use native.Mathlib.Nat.{mul-assoc, add-mul, mul-le-mul, mul-le-mul-right}
 use lib.ListN.{length, getD, take}
@@ -12,7 +12,6 @@ use Rattle.util.proofs.Columns.{column-cong, map-column}
 use Rattle.expression.specs.declared.poly.Layout.{Layout}
 use Rattle.backend.specs.Circuit.{
   Section,
-  entries,
   wordK,
   bodyOf,
   cellsOf,

@@ -17,19 +17,16 @@ use permutation::permutation_polys;
 use permutation_z::permutation_z_polys;
 use prover::instance_polys;
 ghost use mathlib.Core.Path.{_≡_};
-ghost use mathlib.Core.List.{map};
 ghost use Prim.Native.Nat.{_+_, _*_, _^_, _≤_};
-ghost use lib.ListN.{length, getD, take};
+ghost use lib.ListN.{length};
 ghost use Rattle.field.specs.Field.{𝔾, el};
-ghost use Rattle.util.specs.Lists.{below, column, over, split, total};
+ghost use Rattle.util.specs.Lists.{over, total};
 ghost use Rattle.backend.specs.Circuit.{Section, bodyOf, circuitOf, rowsOf, numInstance, numUser, numLookups, copied as copiedOf, numCopied};
-ghost use Rattle.preprocessor.specs.Permutation.{label};
 ghost use Rattle.preprocessor.specs.Compose.{numZ};
-ghost use Rattle.prover.specs.Columns.{instanceAt};
-ghost use Rattle.prover.specs.Running.{zOf};
 ghost use Rattle.prover.specs.Words.{wordsOf};
-ghost use Rattle.prover.specs.Lent.{lentEnvironment, compressedPolysIn, lentRatio};
+ghost use Rattle.prover.specs.Lent.{lentEnvironment, compressedPolysIn};
 ghost use Rattle.prepare.specs.Prepared.{Accepted, layoutOf, permutationsAt, compressedAt, zsAt};
+ghost use Rattle.stages.specs.Stages.{instanceWords, permutationWords, compressedWords, zWords};
 
 // Where the polynomials that are given stand.
 pub fn layout_of(circuit: &[u64]) -> Layout
@@ -53,7 +50,7 @@ pub fn layout_of(circuit: &[u64]) -> Layout
 // The instance columns, at the front of the buffer.
 pub fn instance_columns(circuit: &[u64], instance: &[u64], columns: &mut [u64])
     requires { ⌜ Accepted (now circuit) × (total (bodyOf (now circuit) Section.instances) ≡ length (now instance)) × (numInstance (circuitOf (now circuit)) * rowsOf (circuitOf (now circuit)) ≤ length (now columns)) ⌝ }
-    ensures { λ _. ⌜ now (columns .exit) ≡ over (now (columns .entry)) 0 (wordsOf (rowsOf (circuitOf (now (circuit .entry)))) (map (λ vs b. instanceAt 𝔾 (circuitOf (now (circuit .entry)) .k) (map el vs) b) (split (circuitOf (now (circuit .entry)) .instances) (now (instance .entry))))) ⌝ }
+    ensures { λ _. ⌜ now (columns .exit) ≡ over (now (columns .entry)) 0 (instanceWords (now (circuit .entry)) (now (instance .entry))) ⌝ }
 {
     let k = index(word_at(circuit, 0));
     let lengths = section(circuit, INSTANCES);
@@ -65,7 +62,7 @@ pub fn instance_columns(circuit: &[u64], instance: &[u64], columns: &mut [u64])
 // The permutation columns, behind the instance columns. `copied` are the copied columns.
 pub fn permutation_columns(circuit: &[u64], copied: &[u64], columns: &mut [u64])
     requires { ⌜ Accepted (now circuit) × (now copied ≡ copiedOf (circuitOf (now circuit))) × (compressedAt (circuitOf (now circuit)) ≤ length (now columns)) ⌝ }
-    ensures { λ _. ⌜ now (columns .exit) ≡ over (now (columns .entry)) (permutationsAt (circuitOf (now (circuit .entry)))) (wordsOf (rowsOf (circuitOf (now (circuit .entry)))) (map (λ i b. el (label (circuitOf (now (circuit .entry))) i b)) (below (numCopied (circuitOf (now (circuit .entry))))))) ⌝ }
+    ensures { λ _. ⌜ now (columns .exit) ≡ over (now (columns .entry)) (permutationsAt (circuitOf (now (circuit .entry)))) (permutationWords (now (circuit .entry))) ⌝ }
 {
     let layout = layout_of(circuit);
     let at = layout.instances * layout.rows;
@@ -133,7 +130,7 @@ pub fn compressed_columns(
     copied: usize,
 )
     requires { ⌜ Accepted (now circuit) × (length (now challenges) ≡ numUser (circuitOf (now circuit)) + 2) × (copied ≡ numCopied (circuitOf (now circuit))) × (compressedAt (circuitOf (now circuit)) + numLookups (circuitOf (now circuit)) * 2 * rowsOf (circuitOf (now circuit)) ≤ length (now columns)) ⌝ }
-    ensures { λ _. ⌜ now (columns .exit) ≡ over (now (columns .entry)) (compressedAt (circuitOf (now (circuit .entry)))) (wordsOf (rowsOf (circuitOf (now (circuit .entry)))) (compressedPolysIn 𝔾 (lentEnvironment (now (circuit .entry)) (now (witness .entry)) (now (columns .entry)) (take (numUser (circuitOf (now (circuit .entry)))) (now (challenges .entry))) (layoutOf (now (circuit .entry))) (circuitOf (now (circuit .entry)) .k)) (el (getD (now (challenges .entry)) (numUser (circuitOf (now (circuit .entry)))) 0)) (circuitOf (now (circuit .entry)) .lookups))) ⌝ }
+    ensures { λ _. ⌜ now (columns .exit) ≡ over (now (columns .entry)) (compressedAt (circuitOf (now (circuit .entry)))) (compressedWords (now (circuit .entry)) (now (witness .entry)) (now (columns .entry)) (now (challenges .entry))) ⌝ }
 {
     let k = index(word_at(circuit, 0));
     let layout = layout_of(circuit);
@@ -163,7 +160,7 @@ pub fn z_columns(
     parts: usize,
 )
     requires { ⌜ Accepted (now circuit) × (now copied ≡ copiedOf (circuitOf (now circuit))) × (parts ≡ numZ (circuitOf (now circuit))) × (zsAt (circuitOf (now circuit)) + numZ (circuitOf (now circuit)) * rowsOf (circuitOf (now circuit)) ≤ length (now columns)) ⌝ }
-    ensures { λ _. ⌜ now (columns .exit) ≡ over (now (columns .entry)) (zsAt (circuitOf (now (circuit .entry)))) (wordsOf (rowsOf (circuitOf (now (circuit .entry)))) (column (zOf 𝔾 (lentRatio (layoutOf (now (circuit .entry))) (now (circuit .entry)) (now (witness .entry)) (now (columns .entry)) (copiedOf (circuitOf (now (circuit .entry)))) (el (getD (now (challenges .entry)) (numUser (circuitOf (now (circuit .entry)))) 0)) (el (getD (now (challenges .entry)) (numUser (circuitOf (now (circuit .entry))) + 1) 0))) (circuitOf (now (circuit .entry)) .k) (numCopied (circuitOf (now (circuit .entry)))) (numZ (circuitOf (now (circuit .entry))))) (numZ (circuitOf (now (circuit .entry)))))) ⌝ }
+    ensures { λ _. ⌜ now (columns .exit) ≡ over (now (columns .entry)) (zsAt (circuitOf (now (circuit .entry)))) (zWords (now (circuit .entry)) (now (witness .entry)) (now (columns .entry)) (now (challenges .entry))) ⌝ }
 {
     let k = index(word_at(circuit, 0));
     let layout = layout_of(circuit);

@@ -6,13 +6,6 @@ use Rattle.stages.proofs.Stages.{compressed-fit, compressed-room, compr
 use borrow.Author.Needs.{needs}
 use Rattle.stages.proofs.compressed_columns.Statement.{statement}
 use Rattle.stages.proofs.compressed_columns.Tie as tie
-use Rattle.stages.proofs.compressed_columns.Reads as reads
-use Rattle.stages.proofs.compressed_columns.Lts as lts
-use Rattle.bodies.proofs.num_user.Reads as num-user-reads
-use Rattle.node.proofs.index.Reads as index-reads
-use Rattle.node.proofs.word_at.Reads as word-at-reads
-use Rattle.stages.proofs.compressed_from.Reads as compressed-from-reads
-use Rattle.stages.proofs.layout_of.Reads as layout-of-reads
 
 word-at-requires : tie.Need-word-at-requires
 word-at-requires c κs = search needs

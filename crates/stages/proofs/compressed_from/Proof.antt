@@ -6,10 +6,6 @@ use Rattle.stages.proofs.Stages.{compressed-asks, compressed-written}
 use borrow.Author.Needs.{needs}
 use Rattle.stages.proofs.compressed_from.Statement.{statement}
 use Rattle.stages.proofs.compressed_from.Tie as tie
-use Rattle.stages.proofs.compressed_from.Reads as reads
-use Rattle.stages.proofs.compressed_from.Lts as lts
-use Rattle.compressed.proofs.lookup_compressed_polys.Reads as lookup-compressed-polys-reads
-use Rattle.contents.proofs.section.Reads as section-reads
 
 section-requires : tie.Need-section-requires
 section-requires c κs = (accepted.laid-of (c .before .before .before .before .args .circuit .now) (c .before .before .before .before .pre .0), omega arith)

@@ -7,12 +7,6 @@ use Rattle.stages.proofs.Stages.{instance-asks, instance-written}
 use borrow.Author.Needs.{needs}
 use Rattle.stages.proofs.instance_columns.Statement.{statement}
 use Rattle.stages.proofs.instance_columns.Tie as tie
-use Rattle.stages.proofs.instance_columns.Reads as reads
-use Rattle.stages.proofs.instance_columns.Lts as lts
-use Rattle.contents.proofs.section.Reads as section-reads
-use Rattle.node.proofs.index.Reads as index-reads
-use Rattle.node.proofs.word_at.Reads as word-at-reads
-use Rattle.prover.proofs.instance_polys.Reads as instance-polys-reads
 
 word-at-requires : tie.Need-word-at-requires
 word-at-requires c κs = search needs

@@ -5,12 +5,6 @@ use Rattle.stages.proofs.Stages.{layout-is}
 use borrow.Author.Needs.{needs}
 use Rattle.stages.proofs.layout_of.Statement.{statement}
 use Rattle.stages.proofs.layout_of.Tie as tie
-use Rattle.stages.proofs.layout_of.Reads as reads
-use Rattle.stages.proofs.layout_of.Lts as lts
-use Rattle.bodies.proofs.num_witness.Reads as num-witness-reads
-use Rattle.bodies.proofs.rows.Reads as rows-reads
-use Rattle.node.proofs.index.Reads as index-reads
-use Rattle.node.proofs.word_at.Reads as word-at-reads
 
 rows-requires : tie.Need-rows-requires
 rows-requires c κs = accepted.laid-of (c .before .args .circuit .now) (c .before .pre)

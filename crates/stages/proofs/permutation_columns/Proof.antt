@@ -6,11 +6,6 @@ use Rattle.stages.proofs.Stages.{permutations-fit, permutation-asks, pe
 use borrow.Author.Needs.{needs}
 use Rattle.stages.proofs.permutation_columns.Statement.{statement}
 use Rattle.stages.proofs.permutation_columns.Tie as tie
-use Rattle.stages.proofs.permutation_columns.Reads as reads
-use Rattle.stages.proofs.permutation_columns.Lts as lts
-use Rattle.contents.proofs.section.Reads as section-reads
-use Rattle.permutation.proofs.permutation_polys.Reads as permutation-polys-reads
-use Rattle.stages.proofs.layout_of.Reads as layout-of-reads
 
 layout-of-requires : tie.Need-layout-of-requires
 layout-of-requires c κs = search needs

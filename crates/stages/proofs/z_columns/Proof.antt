@@ -7,13 +7,6 @@ use Rattle.stages.proofs.Stages.{zs-fit, z-asks, z-written}
 use borrow.Author.Needs.{needs}
 use Rattle.stages.proofs.z_columns.Statement.{statement}
 use Rattle.stages.proofs.z_columns.Tie as tie
-use Rattle.stages.proofs.z_columns.Reads as reads
-use Rattle.stages.proofs.z_columns.Lts as lts
-use Rattle.bodies.proofs.num_user.Reads as num-user-reads
-use Rattle.node.proofs.index.Reads as index-reads
-use Rattle.node.proofs.word_at.Reads as word-at-reads
-use Rattle.permutation_z.proofs.permutation_z_polys.Reads as permutation-z-polys-reads
-use Rattle.stages.proofs.layout_of.Reads as layout-of-reads
 
 word-at-requires : tie.Need-word-at-requires
 word-at-requires c κs = search needs
