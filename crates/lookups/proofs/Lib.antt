@@ -1,0 +1,4 @@
+pub mod Same
+pub mod Places
+pub mod Counted
+pub mod Hs
