@@ -17,6 +17,7 @@ use Rattle.backend.specs.Circuit.{circuitOf, rowsOf, numUser}
 use Rattle.preprocessor.specs.Compose.{compose, composedWords, composedNodes}
 use Rattle.prover.specs.Log.{Log}
 use Rattle.prover.specs.Columns.{allCovered, writtenPolys, composedEnvironment}
+use Rattle.prover.proofs.Words.{words-small}
 use Rattle.calls.specs.Build.{Output, logOf, wordsOf, checkBuild, buildOf, made, zeroed}
 use Rattle.calls.specs.RowSum.{rowSumOf, sumOf, lentEnvironment}
 use Rattle.calls.specs.Meaning.{Each, Admitted, Premises, Conclusions}
@@ -26,7 +27,7 @@ use Rattle.calls.proofs.Building.{columns-length, fifteen-by, built-by, written
 use Rattle.calls.proofs.ReadsBack.{reads-back}
 use Rattle.completeness.proofs.Passed.{yes-all, k-small}
 use Rattle.completeness.proofs.Asked.{Lending, lending, sum-yes}
-use Rattle.completeness.proofs.RowSumReads.{words-small, lent-value}
+use Rattle.completeness.proofs.RowSumReads.{lent-value}
 use Rattle.completeness.proofs.DemandThreeOf.{demand-3-of, concluded}
 use Rattle.completeness.specs.Claims.{RowSumZero}
 

@@ -6,12 +6,10 @@ use native.Mathlib.Nat.{suc-mul, zero-mul, zero-add, not-suc-le-zero}
 use native.Mathlib.Omega.{arith}
 use lib.ListN.{length, getD, take, length-append, length-map, drop-of-length-le}
 use lib.Seq.{split-at, drop-cons}
-use Rattle.field.specs.Prime.{P}
-use Rattle.field.specs.Field.{𝔾, el, val, val-lt, el-val}
-use Rattle.util.specs.Lists.{column, concat, All}
+use Rattle.field.specs.Field.{𝔾, el, val, el-val}
+use Rattle.util.specs.Lists.{column, concat}
 use Rattle.util.proofs.Lists.{get-left, get-past, split-length, pairs-length}
 use Rattle.util.proofs.Columns.{get-column, column-length}
-use Rattle.util.proofs.All.{all-join, all-column}
 use Rattle.expression.specs.Expr.{Expr}
 use Rattle.expression.specs.Value.{polyOf, valueAt}
 use Rattle.backend.specs.Circuit.{circuitOf, rowsOf, numInstance, numUser, numCopied, numLookups}
@@ -52,14 +50,6 @@ words-at rows (p ∷ ps) (suc i) b l m =
     get-past (column (λ b. val (p b)) rows) (wordsOf rows ps) (suc i * rows + b) (i * rows + b) 0
     (let q = column-length (λ b. val (p b)) rows in let w = suc-mul i rows in omega arith)
     ∙ words-at rows ps i b (omega arith) m
-
-pub words-small : (rows : ℕ) (ps : List (ℕ → 𝔾 .F)) → All (λ w. w < P) (wordsOf rows ps)
-unfolding wordsOf concat
-words-small rows [] = tt
-words-small rows (p ∷ ps) =
-    all-join (λ w. w < P) (column (λ b. val (p b)) rows) (wordsOf rows ps)
-    (all-column (λ w. w < P) (λ b. val (p b)) rows (λ b l. val-lt (p b)))
-    (words-small rows ps)
 
 module _ (g : Log 𝔾) where
   instance-length : length (instancePolys 𝔾 g) ≡ numInstance (g .circuit)

@@ -1,42 +1,31 @@
 -- Counts, coverage and h depend on the first rows alone. Assumes nothing.
-use mathlib.Core.Path.{_≡_, refl, sym, ap, ap₂, _∙_}
-use mathlib.Core.Bool.{Bool, cond, _&&_}
-use mathlib.Core.List.{List, [], _∷_, _++_}
-use mathlib.Core.Option.{Option, some}
-use Prim.Native.Nat.{ℕ, zero, suc, _+_, _≤_, _<_}
+use mathlib.Core.Path.{_≡_, sym, ap, ap₂, _∙_}
+use mathlib.Core.Bool.{Bool}
+use mathlib.Core.List.{List}
+use mathlib.Core.Option.{Option}
+use Prim.Native.Nat.{ℕ, _≤_, _<_}
 use native.Mathlib.Omega.{arith}
-use lib.ListN.{length, getD}
-use Rattle.field.specs.Field.{𝔾, val}
-use Rattle.util.specs.Lists.{column, below, those, countOf, allOf, lastWhere, isSome, isAt}
-use Rattle.util.proofs.Columns.{below-length, column-suc}
-use Rattle.util.proofs.Searches.{count-le}
-use Rattle.util.proofs.Tests.{all-append, count-append, count-one}
+use Rattle.field.specs.Field.{𝔾}
+use Rattle.util.specs.Lists.{below, countOf, allOf, isSome, isAt}
+use Rattle.util.proofs.Columns.{column-cong, map-below, below-length}
+use Rattle.util.proofs.Searches.{count-le, count-map}
+use Rattle.util.proofs.Walks.{all-map}
 use Rattle.prover.specs.Lookup.{same, lastEqual, multiplicity, covered, hAt}
+use Rattle.prover.proofs.Search.{last-same}
 
 -- ---- tests that agree on the first numbers
 
-last-agree : (p q : ℕ → Bool) (n : ℕ) → ((r : ℕ) → r < n → p r ≡ q r) → lastWhere p n ≡ lastWhere q n
-unfolding lastWhere
-last-agree p q zero h = refl
-last-agree p q (suc n) h =
-    ap₂ (λ (t : Bool) (o : Option ℕ). cond t (some n) o) (h n (omega arith)) (last-agree p q n (λ r l. h r (omega arith)))
-
 pub all-agree : (p q : ℕ → Bool) (n : ℕ) → ((b : ℕ) → b < n → p b ≡ q b) → allOf p (below n) ≡ allOf q (below n)
-unfolding column allOf
-all-agree p q zero h = refl
-all-agree p q (suc n) h =
-    all-append p (below n) (n ∷ [])
-    ∙ ap₂ (λ (s t : Bool). s && (t && Bool.true)) (all-agree p q n (λ b l. h b (omega arith))) (h n (omega arith))
-    ∙ sym (all-append q (below n) (n ∷ []))
+all-agree p q n h =
+    sym (all-map (λ (t : Bool). t) p (below n))
+    ∙ ap (allOf (λ (t : Bool). t)) (map-below p n ∙ column-cong p q n h ∙ sym (map-below q n))
+    ∙ all-map (λ (t : Bool). t) q (below n)
 
 count-agree : (p q : ℕ → Bool) (n : ℕ) → ((b : ℕ) → b < n → p b ≡ q b) → countOf p (below n) ≡ countOf q (below n)
-unfolding column those
-count-agree p q zero h = refl
-count-agree p q (suc n) h =
-    count-append p (below n) (n ∷ [])
-    ∙ ap₂ _+_ (count-agree p q n (λ b l. h b (omega arith)))
-    (count-one p n ∙ ap (λ (t : Bool). cond t 1 0) (h n (omega arith)) ∙ sym (count-one q n))
-    ∙ sym (count-append q (below n) (n ∷ []))
+count-agree p q n h =
+    sym (count-map (λ (t : Bool). t) p (below n))
+    ∙ ap (λ (ts : List Bool). countOf (λ (t : Bool). t) ts) (map-below p n ∙ column-cong p q n h ∙ sym (map-below q n))
+    ∙ count-map (λ (t : Bool). t) q (below n)
 
 -- ---- columns that agree on the first rows
 
@@ -46,7 +35,7 @@ module _ (rows : ℕ) (input input' table table' : ℕ → 𝔾 .F)
   row-agree : (b : ℕ) → b < rows → lastEqual 𝔾 rows table (input b) ≡ lastEqual 𝔾 rows table' (input' b)
   unfolding lastEqual
   row-agree b l =
-      last-agree (λ r. same 𝔾 (table r) (input b)) (λ r. same 𝔾 (table' r) (input' b)) rows
+      last-same (λ r. same 𝔾 (table r) (input b)) (λ r. same 𝔾 (table' r) (input' b)) rows
       (λ r m. ap₂ (same 𝔾) (tables r m) (inputs b l))
 
   pub covered-same : covered 𝔾 rows input table ≡ covered 𝔾 rows input' table'

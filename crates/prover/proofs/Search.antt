@@ -75,7 +75,7 @@ module _ (table : ℕ → ℕ) (v : ℕ) where
       ap (λ (t : Bool). cond t (some j) (lastRow j)) (same-false (table j) v (rw q at l) m (λ e. h (q ∙ e))) ∙ ap lastRow (sym p)
 
 -- only the first rows are looked at
-last-same : (p q : ℕ → Bool) (n : ℕ) → ((r : ℕ) → r < n → p r ≡ q r) → lastWhere p n ≡ lastWhere q n
+pub last-same : (p q : ℕ → Bool) (n : ℕ) → ((r : ℕ) → r < n → p r ≡ q r) → lastWhere p n ≡ lastWhere q n
 unfolding lastWhere
 last-same p q zero h = refl
 last-same p q (suc n) h =

@@ -6,9 +6,10 @@ use native.Mathlib.Nat.{suc-mul, zero-mul, add-comm}
 use native.Mathlib.Omega.{arith}
 use lib.ListN.{length, getD, length-append}
 use Rattle.field.specs.Prime.{P}
-use Rattle.field.specs.Field.{𝔾, el, val, addP, subP, mulP, invP, val-el, el-add, el-mul, el-sub, el-inv}
+use Rattle.field.specs.Field.{𝔾, el, val, addP, subP, mulP, invP, val-lt, val-el, el-add, el-mul, el-sub, el-inv}
 use Rattle.field.proofs.Elements.{subP-lt}
-use Rattle.util.specs.Lists.{column, concat, over}
+use Rattle.util.specs.Lists.{column, concat, over, All}
+use Rattle.util.proofs.All.{all-join, all-column}
 use Rattle.util.proofs.Columns.{column-length}
 use Rattle.util.proofs.Lists.{concat-end}
 use Rattle.util.proofs.Over.{over-over}
@@ -34,6 +35,15 @@ words-length rows (p ∷ ps) =
     ∙ ap₂ _+_ (column-length (λ b. val (p b)) rows) (words-length rows ps)
     ∙ add-comm rows (length ps * rows)
     ∙ sym (suc-mul (length ps) rows)
+
+-- each is below p
+pub words-small : (rows : ℕ) (ps : List (ℕ → 𝔾 .F)) → All (λ w. w < P) (wordsOf rows ps)
+unfolding wordsOf concat
+words-small rows [] = tt
+words-small rows (p ∷ ps) =
+    all-join (λ w. w < P) (column (λ b. val (p b)) rows) (wordsOf rows ps)
+    (all-column (λ w. w < P) (λ b. val (p b)) rows (λ b l. val-lt (p b)))
+    (words-small rows ps)
 
 -- one column behind those that stand at the front of a buffer
 pub words-more : (rows : ℕ) (d : List ℕ) (ps : List (ℕ → 𝔾 .F)) (p : ℕ → 𝔾 .F) (at : ℕ) → at ≡ length ps * rows → at ≤ length d
