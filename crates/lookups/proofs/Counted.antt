@@ -2,19 +2,19 @@
 use mathlib.Core.Path.{_≡_, refl, sym, ap, ap₂, _∙_}
 use mathlib.Core.Bool.{Bool, true, false, cond}
 use mathlib.Core.List.{List, _++_}
-use Prim.Native.Nat.{ℕ, suc, _+_, _*_, _≤_, _<_}
-use native.Mathlib.Nat.{add-zero, zero-mul}
+use Prim.Native.Nat.{ℕ, _+_, _*_, _≤_, _<_}
+use native.Mathlib.Nat.{zero-mul}
 use native.Mathlib.Omega.{arith}
 use lib.ListN.{length, getD, take, drop, replicate, length-append, length-replicate}
 use Rattle.field.specs.Field.{𝔾, el}
-use Rattle.util.specs.Lists.{column, below, concat, allOf, over}
+use Rattle.util.specs.Lists.{column, concat, over}
 use Rattle.util.proofs.Columns.{column-length, column-cong, columns-length}
 use Rattle.util.proofs.Over.{length-over, take-over, over-before, over-none}
 use Rattle.util.proofs.Tests.{false-true}
 use Rattle.util.proofs.Walks.{Walked, walk-none, walk-more, walk-done, walk-fails}
 use Rattle.prover.specs.Lookup.{multiplicity, covered}
 use Rattle.prover.specs.Words.{elementsFrom, Small, countWords}
-use Rattle.lookups.specs.Lookups.{inputFrom, tableFrom, coveredFrom, countsFrom, CountsWritten}
+use Rattle.lookups.specs.Lookups.{inputFrom, tableFrom, countsFrom, CountsWritten}
 use Rattle.lookups.proofs.Same.{covered-same, multiplicity-same}
 use Rattle.lookups.proofs.Places.{next-place, table-place, next-input, place-there, pair-there, past-over, run-next, column-next}
 

@@ -5,7 +5,7 @@ use mathlib.Core.Bool.{Bool, true}
 use mathlib.Core.List.{List}
 use Prim.Native.Nat.{ℕ, _+_, _*_}
 use lib.ListN.{take, drop}
-use Rattle.field.specs.Field.{𝔾, el, val}
+use Rattle.field.specs.Field.{𝔾, val}
 use Rattle.util.specs.Lists.{column, below, concat, allOf, over}
 use Rattle.prover.specs.Lookup.{multiplicity, covered, hAt}
 use Rattle.prover.specs.Words.{elementsFrom}
