@@ -114,10 +114,13 @@ module _ (ws : List ℕ) (a : Accepted ws) where
     pub degree-asked : (laidOut nodes (roots ++ pairs) ≡ true)
         × ((total widths ≡ length pairs / 2)
         × (degreesFit (statedOf (getD ws 1 0)) (map (exprOf nodes) roots) (split widths (pairsOf nodes pairs)) ≡ true))
-    degree-asked =
-        (seven ws n c p x y q _ refl ∙ known.answers ws a .seven,
-        (pairs-enough ws w p (known.laid-of ws a) (known.counted-of ws a) z q,
-        ten ws n c w p (known.laid-of ws a) x y z q _ refl ∙ known.answers ws a .ten))
+    degree-asked = (
+      seven ws n c p x y q _ refl ∙ known.answers ws a .seven,
+      (
+        pairs-enough ws w p (known.laid-of ws a) (known.counted-of ws a) z q,
+        ten ws n c w p (known.laid-of ws a) x y z q _ refl ∙ known.answers ws a .ten,
+      ),
+    )
 
     pub degree-from : (r : ℕ) → r ≡ largestDegree (statedOf (getD ws 1 0)) (map (exprOf nodes) roots) (split widths (pairsOf nodes pairs))
         → r ≡ maxDegree (circuitOf ws)
