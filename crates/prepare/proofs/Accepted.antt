@@ -1,52 +1,27 @@
 -- What questions 1 to 11 tell, in the words that the functions ask for. Assumes nothing.
-use mathlib.Core.Path.{_≡_, refl, sym, ap, ap₂, _∙_, subst}
-use mathlib.Core.Bool.{Bool, true, false, _&&_}
-use mathlib.Core.List.{List, [], _∷_, _++_, map}
+use mathlib.Core.Path.{_≡_, refl, sym, ap, _∙_, subst}
+use mathlib.Core.Bool.{Bool, true}
+use mathlib.Core.List.{List, _++_, map}
 use Prim.Native.Nat.{ℕ, _+_, _-_, _*_, _/_, _%_, _^_, _≤_, _<_, max}
 use native.Mathlib.Omega.{arith}
 use native.Mathlib.Decide.{decLt}
-use native.Mathlib.Nat.{mul-one, mul-le-mul, mul-div-cancel}
+use native.Mathlib.Nat.{mul-one, mul-le-mul}
 use lib.ListN.{length, getD}
 use lib.Dec.{leb}
 use lib.Pow.{pow-pos, pow-mono}
 use borrow.Author.Tests.{leb-true}
-use Rattle.util.specs.Lists.{column, below, allOf, largest, total, concat, split, ceilDiv, All}
+use Rattle.util.specs.Lists.{below, allOf, largest, total, concat, split, ceilDiv, All}
 use Rattle.util.proofs.First.{first-both}
 use Rattle.util.proofs.Tests.{and-left, and-right, all-each}
 use Rattle.util.proofs.All.{all-from}
-use Rattle.util.proofs.Columns.{column-length, below-length}
+use Rattle.util.proofs.Columns.{below-length}
 use Rattle.util.proofs.Lists.{split-length}
 use Rattle.util.proofs.Totals.{ceil-le}
 use Rattle.util.proofs.Searches.{count-le}
 use Rattle.expression.specs.Expr.{Expr, degree}
-use Rattle.expression.specs.Reader.{Small}
-use Rattle.expression.specs.declared.poly.Layout.{Layout}
-use Rattle.backend.specs.Circuit.{
-  Section,
-  entry,
-  entries,
-  wordK,
-  wordsIn,
-  bodyOf,
-  Cell,
-  cellAt,
-  cellsOf,
-  cellsName,
-  statedOf,
-  Circuit,
-  circuitOf,
-  rowsOf,
-  numInstance,
-  numWitness,
-  numUser,
-  numPoly,
-  numLookups,
-  copiedIn,
-  copied,
-  numCopied,
-}
+use Rattle.backend.specs.Circuit.{Section, entry, entries, wordK, bodyOf, Cell, cellsOf, cellsName, statedOf, Circuit, circuitOf, rowsOf, numInstance, numWitness, numUser, numPoly, numLookups, copiedIn, copied, numCopied}
 use Rattle.backend.specs.Constraints.{lookupConstraints, leastD, maxDegree}
-use Rattle.backend.specs.Layout.{isRoot, laidOut}
+use Rattle.backend.specs.Layout.{laidOut}
 use Rattle.backend.specs.Questions.{roundsGood, atMost, q5, q7, q10, layoutQuestions, bodyQuestions, circuitQuestions}
 use Rattle.backend.specs.Laid.{Laid, Counted}
 use Rattle.backend.proofs.Sections.{body-length}
@@ -56,7 +31,6 @@ use Rattle.backend.proofs.Degree.{all-most, root-in, left-roots, right-roots, l
 use Rattle.preprocessor.specs.Compose.{numZ}
 use Rattle.preprocessor.specs.Permutation.{Walkable}
 use Rattle.preprocessor.specs.Pieces.{numbersOf, IsNode, Limits, Words, Handed, PiecesOf}
-use Rattle.preprocessor.specs.declared.Numbers.{Numbers}
 use Rattle.preprocessor.proofs.Copied.{walkable, cells-of}
 use Rattle.preprocessor.proofs.Composed.{circuit-pieces}
 use Rattle.prover.specs.Lent.{Given}
@@ -92,9 +66,6 @@ least-in w h = go (decLt 3 w)
     go : Dec (3 < w) → (2 ≤ leastD (statedOf w)) × (leastD (statedOf w) ≤ 32)
     go (yes l) = let e = least-high w l in (omega arith, omega arith)
     go (no l) = let e = least-low w (omega arith) in (omega arith, omega arith)
-
-product-le : (a b c d : ℕ) → a ≤ c → b ≤ d → a * b ≤ c * d
-product-le a b c d h m = mul-le-mul h m
 
 module _ (ws : List ℕ) (a : Accepted ws) where
   pub laid-of : Laid ws
@@ -334,5 +305,6 @@ module _ (ws : List ℕ) (a : Accepted ws) where
       let z = few-z in
       let e = rows-is in
       let r = rows-few in
-      let h = product-le (numInstance c + numCopied c + numLookups c * 4 + numZ c) (rowsOf c) 184 1024 (omega arith) (omega arith) in
-      omega arith
+      let columns : numInstance c + numCopied c + numLookups c * 4 + numZ c ≤ 184 = omega arith in
+      let rows : rowsOf c ≤ 1024 = omega arith in
+      mul-le-mul columns rows

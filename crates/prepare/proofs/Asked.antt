@@ -1,37 +1,26 @@
 -- The number that questions 1 to 14 give, by the answers. Assumes nothing.
-use mathlib.Core.Path.{_≡_, refl, sym, ap, _∙_}
+use mathlib.Core.Path.{_≡_, refl, sym, _∙_}
 use mathlib.Core.Bool.{true, false}
 use mathlib.Core.List.{List, [], _∷_, _++_, map}
 use Prim.Native.Nat.{ℕ, suc, _-_}
 use native.Mathlib.Omega.{arith}
 use Rattle.util.specs.Lists.{Asked, asked, askedOf, firstNo, All}
 use Rattle.util.proofs.First.{Numbered, first-next, first-number, first-append, first-refused, first-of, numbered-of}
+use Rattle.util.proofs.All.{all-join}
 use Rattle.backend.specs.Circuit.{circuitOf}
-use Rattle.backend.specs.Questions.{circuitQuestions}
+use Rattle.backend.specs.Questions.{layoutQuestions, bodyQuestions, circuitQuestions}
 use Rattle.calls.specs.Build.{Lent, q12, q13, q14, buildQuestions, checkBuild}
 use Rattle.prepare.specs.Prepared.{Accepted}
 
+layout-numbered : All Numbered layoutQuestions
+layout-numbered = (omega arith, (omega arith, (omega arith, (omega arith, (omega arith, (omega arith, tt))))))
+
+body-numbered : All Numbered bodyQuestions
+body-numbered = (omega arith, (omega arith, (omega arith, (omega arith, (omega arith, (omega arith, (omega arith, tt)))))))
+
 circuit-numbered : All Numbered circuitQuestions
 unfolding circuitQuestions
-circuit-numbered = (
-  omega arith,
-  (
-    omega arith,
-    (
-      omega arith,
-      (
-        omega arith,
-        (
-          omega arith,
-          (
-            omega arith,
-            (omega arith, (omega arith, (omega arith, (omega arith, (omega arith, (omega arith, (omega arith, tt))))))),
-          ),
-        ),
-      ),
-    ),
-  ),
-)
+circuit-numbered = all-join Numbered layoutQuestions bodyQuestions layout-numbered body-numbered
 
 none-asked : {A : Type 0} (x : A) → firstNo [] x ≡ 0
 unfolding firstNo

@@ -1,6 +1,6 @@
 -- What the functions compute from accepted circuit words is what the definitions say. Assumes nothing.
 use mathlib.Core.Path.{_≡_, refl, sym, ap, ap₂, _∙_}
-use mathlib.Core.Bool.{Bool, true, false, _&&_}
+use mathlib.Core.Bool.{Bool, true, _&&_}
 use mathlib.Core.List.{List, [], _∷_, _++_, map}
 use Prim.Native.Nat.{ℕ, _+_, _-_, _*_, _/_, _^_, _≤_, _<_, min}
 use native.Mathlib.Omega.{arith}
@@ -8,41 +8,17 @@ use native.Mathlib.Nat.{mul-le-mul}
 use lib.ListN.{length, getD, take, drop}
 use lib.Dec.{eqb, leb, ltb}
 use lib.Seq.{take-add, take-all}
-use borrow.Author.Tests.{le-leb, lt-leb, leb-true, leb-false}
+use borrow.Author.Tests.{le-leb, leb-true}
 use Rattle.field.specs.Prime.{P}
-use Rattle.util.specs.Lists.{column, allOf, total, concat, split, ceilDiv, All}
-use Rattle.util.proofs.Tests.{by-test}
+use Rattle.util.specs.Lists.{column, allOf, total, concat, split, All}
 use Rattle.util.proofs.All.{all-from}
 use Rattle.util.proofs.Columns.{column-length}
 use Rattle.util.proofs.Once.{same-tests}
 use Rattle.expression.specs.Nodes.{exprOf}
-use Rattle.backend.specs.Circuit.{
-  Section,
-  entries,
-  wordK,
-  bodyOf,
-  wordEach,
-  Cell,
-  cellAt,
-  cellsOf,
-  pairsOf,
-  statedOf,
-  Circuit,
-  circuitOf,
-  rowsOf,
-  numInstance,
-  numWitness,
-  numUser,
-  numPoly,
-  numLookups,
-  copiedIn,
-  copied,
-  numCopied,
-}
+use Rattle.backend.specs.Circuit.{Section, wordK, bodyOf, wordEach, cellAt, cellsOf, pairsOf, statedOf, circuitOf, rowsOf, numWitness, numUser, numPoly, numLookups, copiedIn, copied, numCopied}
 use Rattle.backend.specs.Constraints.{maxDegree}
 use Rattle.backend.specs.Degrees.{largestDegree, degreesFit}
 use Rattle.backend.specs.Layout.{laidOut}
-use Rattle.backend.specs.Laid.{Laid, Counted}
 use Rattle.backend.specs.declared.Part.{Part}
 use Rattle.backend.proofs.Sections.{Placed, body-part}
 use Rattle.backend.proofs.Numbers.{plain-sum, not-past}

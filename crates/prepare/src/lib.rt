@@ -21,7 +21,7 @@ ghost use mathlib.Core.List.{List};
 ghost use Prim.Native.Nat.{ℕ, _≤_, _<_, _^_, min};
 ghost use lib.ListN.{length, take};
 ghost use Rattle.util.specs.Lists.{total};
-ghost use Rattle.backend.specs.Circuit.{circuitOf, numCopied, numWitness, numUser, rowsOf};
+ghost use Rattle.backend.specs.Circuit.{circuitOf, numCopied};
 ghost use Rattle.backend.specs.Circuit as words;
 ghost use Rattle.backend.specs.Constraints.{maxDegree};
 ghost use Rattle.preprocessor.specs.Compose.{composedNodes};
