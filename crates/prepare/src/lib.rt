@@ -22,7 +22,7 @@ ghost use Prim.Native.Nat.{ℕ, _≤_, _<_, _^_, min};
 ghost use lib.ListN.{length, take};
 ghost use Rattle.util.specs.Lists.{total};
 ghost use Rattle.backend.specs.Circuit.{circuitOf, numCopied};
-ghost use Rattle.backend.specs.Circuit as words;
+ghost use Rattle.backend.specs.Circuit as def;
 ghost use Rattle.backend.specs.Constraints.{maxDegree};
 ghost use Rattle.preprocessor.specs.Compose.{composedNodes};
 ghost use Rattle.preprocessor.specs.Count.{most};
@@ -36,7 +36,7 @@ const MODULUS: u64 = 18446744069414584321;
 // The copied columns of the circuit.
 pub fn copied_of(circuit: &[u64]) -> Copied
     requires { ⌜ Accepted (now circuit) ⌝ }
-    ensures { λ r. ⌜ (r .count ≤ 72) × (take (r .count) (r .of) ≡ words.copied (circuitOf (now (circuit .entry)))) ⌝ }
+    ensures { λ r. ⌜ (r .count ≤ 72) × (take (r .count) (r .of) ≡ def.copied (circuitOf (now (circuit .entry)))) ⌝ }
 {
     let polys = num_poly(circuit);
     let cells = section(circuit, CELLS);
@@ -45,7 +45,7 @@ pub fn copied_of(circuit: &[u64]) -> Copied
     copied_columns(&circuit[start..end], polys as usize)
 }
 
-// D.
+// Rust `max_degree`, D.
 pub fn degree_of(circuit: &[u64]) -> usize
     requires { ⌜ Accepted (now circuit) ⌝ }
     ensures { λ r. ⌜ r ≡ maxDegree (circuitOf (now (circuit .entry))) ⌝ }
@@ -109,23 +109,23 @@ pub fn composed_nodes(circuit: &[u64], v: Numbers) -> u64
     requires { ⌜ Accepted (now circuit) × (v ≡ numbersOf (circuitOf (now circuit))) ⌝ }
     ensures { λ r. ⌜ r ≡ min most (composedNodes (circuitOf (now (circuit .entry)))) ⌝ }
 {
-    let nodes = section(circuit, NODES);
-    let users = section(circuit, CONSTRAINTS);
+    let user = section(circuit, NODES);
+    let roots = section(circuit, CONSTRAINTS);
     let widths = section(circuit, WIDTHS);
-    let lookups = section(circuit, PAIRS);
-    let nodes_start = nodes.start;
-    let nodes_end = nodes.end;
-    let users_start = users.start;
-    let users_end = users.end;
+    let pairs = section(circuit, PAIRS);
+    let user_start = user.start;
+    let user_end = user.end;
+    let roots_start = roots.start;
+    let roots_end = roots.end;
     let widths_start = widths.start;
     let widths_end = widths.end;
-    let lookups_start = lookups.start;
-    let lookups_end = lookups.end;
+    let pairs_start = pairs.start;
+    let pairs_end = pairs.end;
     count::composed_nodes(
-        &circuit[nodes_start..nodes_end],
-        &circuit[users_start..users_end],
+        &circuit[user_start..user_end],
+        &circuit[roots_start..roots_end],
         &circuit[widths_start..widths_end],
-        &circuit[lookups_start..lookups_end],
+        &circuit[pairs_start..pairs_end],
         v,
     )
 }
