@@ -80,7 +80,7 @@ module _ (ws instances witness challenges columns nodes : List ℕ) where
   -- "the columns and nodes written are those document 01 defines"
   pub written-by : checkBuild ws instances witness challenges columns nodes ≡ 0
       → allCovered 𝔾 (logOf ws instances witness challenges) ≡ true
-      → Written ws instances witness challenges columns nodes
+      → Written ws instances witness challenges columns nodes (buildOf ws instances witness challenges columns nodes)
   unfolding made logOf
   written-by e f =
       let g : Log 𝔾 = logOf ws instances witness challenges in

@@ -1,9 +1,9 @@
 -- Demand 3: DemandThree of Demand. Assumes nothing.
-use mathlib.Core.Path.{_≡_, refl, ap, ap₂, _∙_}
+use mathlib.Core.Path.{_≡_, refl, sym, ap, ap₂, _∙_, subst}
 use mathlib.Core.Logic.{_≢_, _↔_}
 use mathlib.Core.Bool.{Bool, true, false}
 use mathlib.Core.List.{List, [], _∷_, _++_}
-use Prim.Native.Nat.{ℕ, zero, _-_, _<_}
+use Prim.Native.Nat.{ℕ, zero, _-_, _*_, _<_}
 use native.Mathlib.Omega.{arith}
 use lib.ListN.{length, getD, take, length-map, length-take}
 use Rattle.field.specs.Prime.{P}
@@ -18,10 +18,11 @@ use Rattle.preprocessor.specs.Compose.{compose, composedWords, composedNodes}
 use Rattle.prover.specs.Log.{Log}
 use Rattle.prover.specs.Columns.{allCovered, writtenPolys, composedEnvironment}
 use Rattle.prover.proofs.Words.{words-small}
-use Rattle.calls.specs.Build.{Output, logOf, wordsOf, checkBuild, buildOf, made, zeroed}
+use Rattle.calls.specs.Build.{Output, logOf, wordsOf, columnWords, checkBuild, buildOf, made, zeroed}
 use Rattle.calls.specs.RowSum.{rowSumOf, sumOf, lentEnvironment}
+use Rattle.calls.specs.declared.RowSum.{RowSum}
 use Rattle.calls.specs.Meaning.{Each, Admitted, Premises, Conclusions}
-use Rattle.calls.specs.Demand.{Succeeds, Demand3, DemandThree}
+use Rattle.calls.specs.Demand.{Succeeds, Demand3, DemandThreeAt, DemandThree, SumsToNought}
 use Rattle.calls.proofs.Embeds.{embeds, val-zero}
 use Rattle.calls.proofs.Building.{columns-length, fifteen-by, built-by, written-by}
 use Rattle.calls.proofs.ReadsBack.{reads-back}
@@ -103,7 +104,7 @@ module _ (ws instances witness challenges columns nodes : List ℕ) (asked : che
         val-zero,
       )
 
-  succeeds : Premises 𝔾 log → allCovered 𝔾 log ≡ true → Succeeds ws instances witness challenges columns nodes
+  succeeds : Premises 𝔾 log → allCovered 𝔾 log ≡ true → Succeeds ws instances witness challenges columns nodes out
   succeeds p e =
       let w = written-by ws instances witness challenges columns nodes asked e in
       let c = concluded 𝔾 log admitted p e in
@@ -116,7 +117,7 @@ module _ (ws instances witness challenges columns nodes : List ℕ) (asked : che
             ∙ row-sum c α y a h s;
       }
 
-  pub demand-3 : Demand3 ws instances witness challenges columns nodes
+  pub demand-3 : Demand3 ws instances witness challenges columns nodes out
   demand-3 =
       let d = demand-3-of 𝔾 log admitted in
       record {
@@ -129,3 +130,27 @@ row-sum-zero ws instances witness challenges columns nodes asked c α y = row-su
 
 pub demand-three : DemandThree
 demand-three ws instances witness challenges columns nodes asked = demand-3 ws instances witness challenges columns nodes asked
+
+-- of a call that returned and left what is defined
+pub demand-three-at : (ws instances witness challenges columns nodes : List ℕ) (output : Output)
+    → output ≡ buildOf ws instances witness challenges columns nodes
+    → DemandThreeAt ws instances witness challenges columns nodes output
+demand-three-at ws instances witness challenges columns nodes output e asked =
+    subst (λ (o : Output). Demand3 ws instances witness challenges columns nodes o) (sym e)
+    (demand-3 ws instances witness challenges columns nodes asked)
+
+pub sums-to-nought : (ws witness columns nodes challenges y : List ℕ) (returned : RowSum)
+    → returned ≡ rowSumOf ws witness columns nodes challenges y
+    → SumsToNought ws witness columns nodes challenges y returned
+sums-to-nought ws witness columns nodes challenges y returned e instances own cs ns α asked p n c-is n-is ch-is a h s =
+    let d = demand-3 ws instances witness own cs ns asked .otherwise p n in
+    e
+    ∙ ap₂ (λ (x z : List ℕ). rowSumOf ws witness x z challenges y) c-is n-is
+    ∙ ap
+    (λ (x : List ℕ).
+    rowSumOf ws witness (take (columnWords (circuitOf ws)) (buildOf ws instances witness own cs ns .columns))
+    (take (composedNodes (circuitOf ws) * 4) (buildOf ws instances witness own cs ns .nodes))
+    x
+    y)
+    ch-is
+    ∙ d .row-sum α y a h s

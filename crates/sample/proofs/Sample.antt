@@ -74,5 +74,7 @@ answered e = absurd (bad e)
     bad e = omega arith
 
 -- so for every α and y the row sum is 0, by demand 3
-pub succeeds : Succeeds circuit (6 ∷ []) (0 ∷ 6 ∷ []) (5 ∷ 7 ∷ []) (replicate 17 9) (replicate 429 9)
+pub succeeds :
+    Succeeds circuit (6 ∷ []) (0 ∷ 6 ∷ []) (5 ∷ 7 ∷ []) (replicate 17 9) (replicate 429 9)
+    (buildOf circuit (6 ∷ []) (0 ∷ 6 ∷ []) (5 ∷ 7 ∷ []) (replicate 17 9) (replicate 429 9))
 succeeds = demand-three circuit (6 ∷ []) (0 ∷ 6 ∷ []) (5 ∷ 7 ∷ []) (replicate 17 9) (replicate 429 9) asked .otherwise premises answered
