@@ -1,7 +1,8 @@
 // Reads the stored answers (the file that its first argument names; oracle/README.md has the format), and counts
 // them by call. What document 01 says of every answer, whatever its columns, is looked at in each: slices have the
 // lengths they state; a refusal returns zeros after its number and leaves its buffers, but for 15; words past those
-// written stay.
+// written stay. Then the call is made again on the lent words, where it is there: a line names each block whose stored
+// number or buffer is another.
 use libc::STDOUT_FILENO;
 use slices::kept;
 use slices::number_then_zeros;
@@ -10,6 +11,7 @@ use text::after_line;
 use text::is_line;
 use text::read_block;
 
+mod again;
 mod slices;
 mod text;
 
@@ -180,12 +182,70 @@ fn judge(call: usize, words: &[u64], starts: &[usize]) -> u64 {
     REFUSED
 }
 
-// Counts one more at a place: blocks by call, refusals by call from 5 on, and at 10 blocks that are not right.
-fn count(counts: &mut [u64], at: usize) {
-    if at < counts.len() {
-        if counts[at] < 1000000 {
-            counts[at] += 1;
+// How a call made again answers.
+const NOT_MADE: u64 = 0;
+
+const SAME: u64 = 1;
+
+const DIFFERS: u64 = 2;
+
+fn held(same: bool) -> u64 {
+    if same { SAME } else { DIFFERS }
+}
+
+fn made_again(call: usize, words: &[u64], starts: &[usize], room: &mut [u64]) -> u64 {
+    if call == 2 {
+        return held(again::lookup_m_poly(words, starts, room));
+    }
+    if call == 3 {
+        return held(again::lookup_h_poly(words, starts, room));
+    }
+    if call == 4 {
+        return held(again::eq_xy(words, starts, room));
+    }
+    NOT_MADE
+}
+
+// Counts one more at a place, if that is so: blocks by call, refusals by call from 5 on, calls made again from 10 on, at 15
+// blocks whose call is not made again, at 16 answers that differ, and at 17 blocks that are not right.
+fn count(counts: &mut [u64], so: bool, at: usize) {
+    if so {
+        if at < counts.len() {
+            if counts[at] < 1000000 {
+                counts[at] += 1;
+            }
         }
+    }
+}
+
+fn print_count(name: &[u8], counts: &[u64], at: usize) {
+    io::write_all(STDOUT_FILENO, name);
+    if at < counts.len() {
+        io::print_decimal(STDOUT_FILENO, counts[at]);
+    }
+}
+
+// Names a block by its call and its number among the blocks of the call.
+fn print_block(call: usize, counts: &[u64]) {
+    match call {
+        2 => print_count(b"lookup_m_poly, block ", counts, 2),
+        3 => print_count(b"lookup_h_poly, block ", counts, 3),
+        _ => print_count(b"eq_xy, block ", counts, 4),
+    }
+    io::write_all(STDOUT_FILENO, b": the answer differs\n");
+}
+
+fn count_block(counts: &mut [u64], call: usize, shown: u64, made: u64) {
+    if call >= CALLS {
+        return;
+    }
+    count(counts, true, call);
+    count(counts, shown == REFUSED, 5 + call);
+    count(counts, made != NOT_MADE, 10 + call);
+    count(counts, made == NOT_MADE, 15);
+    count(counts, made == DIFFERS, 16);
+    if made == DIFFERS {
+        print_block(call, counts);
     }
 }
 
@@ -195,6 +255,7 @@ fn turn(
     at: usize,
     words: &mut [u64],
     starts: &mut [usize],
+    room: &mut [u64],
     counts: &mut [u64],
 ) -> usize {
     if at >= text.len() {
@@ -214,22 +275,24 @@ fn turn(
         shown = judge(call, words, starts);
     }
     if shown == WRONG {
-        count(counts, 10);
+        count(counts, true, 17);
         return text.len();
     }
-    count(counts, call);
-    if shown == REFUSED {
-        if call < CALLS {
-            count(counts, call + 5);
-        }
-    }
+    let made = made_again(call, words, starts, room);
+    count_block(counts, call, shown, made);
     read.next
 }
 
-fn all_turns(text: &[u8], words: &mut [u64], starts: &mut [usize], counts: &mut [u64]) {
+fn all_turns(
+    text: &[u8],
+    words: &mut [u64],
+    starts: &mut [usize],
+    room: &mut [u64],
+    counts: &mut [u64],
+) {
     let mut at: usize = 0;
     while at < text.len() {
-        let next = turn(text, at, words, starts, counts);
+        let next = turn(text, at, words, starts, room, counts);
         if next <= at {
             return;
         }
@@ -237,25 +300,25 @@ fn all_turns(text: &[u8], words: &mut [u64], starts: &mut [usize], counts: &mut 
     }
 }
 
-fn print_count(name: &[u8], counts: &[u64], at: usize) {
-    io::write_all(STDOUT_FILENO, name);
-    if at < counts.len() {
-        io::print_decimal(STDOUT_FILENO, counts[at]);
-    }
-}
-
 fn print_counts(counts: &[u64]) {
     print_count(b"build ", counts, 0);
     print_count(b", refused ", counts, 5);
+    print_count(b", replayed ", counts, 10);
     print_count(b"\nrow_sum ", counts, 1);
     print_count(b", refused ", counts, 6);
+    print_count(b", replayed ", counts, 11);
     print_count(b"\nlookup_m_poly ", counts, 2);
     print_count(b", refused ", counts, 7);
+    print_count(b", replayed ", counts, 12);
     print_count(b"\nlookup_h_poly ", counts, 3);
     print_count(b", refused ", counts, 8);
+    print_count(b", replayed ", counts, 13);
     print_count(b"\neq_xy ", counts, 4);
     print_count(b", refused ", counts, 9);
-    print_count(b"\nnot right ", counts, 10);
+    print_count(b", replayed ", counts, 14);
+    print_count(b"\nnot replayed ", counts, 15);
+    print_count(b"\ndiffer ", counts, 16);
+    print_count(b"\nnot right ", counts, 17);
     io::write_all(STDOUT_FILENO, b"\n");
 }
 
@@ -272,7 +335,8 @@ fn main() {
     libc::close(fd);
     let mut words = [0u64; 8192];
     let mut starts = [0usize; 9];
-    let mut counts = [0u64; 11];
-    all_turns(&text[..n], &mut words, &mut starts, &mut counts);
+    let mut room = [0u64; 8192];
+    let mut counts = [0u64; 18];
+    all_turns(&text[..n], &mut words, &mut starts, &mut room, &mut counts);
     print_counts(&counts);
 }
