@@ -16,3 +16,4 @@ pub mod Rising
 pub mod Parts
 pub mod Splits
 pub mod Runs
+pub mod Window
