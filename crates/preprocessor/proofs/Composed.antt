@@ -4,7 +4,7 @@ use mathlib.Core.List.{List, map}
 use Prim.Native.Nat.{ℕ, suc, _+_, _-_, _*_, _/_, _≤_}
 use native.Mathlib.Omega.{arith}
 use lib.ListN.{length}
-use Rattle.util.specs.Lists.{column, split, below, cut, ceilDiv, over}
+use Rattle.util.specs.Lists.{column, split, below, cut, ceilDiv}
 use Rattle.util.proofs.Columns.{below-length}
 use Rattle.util.proofs.Totals.{cut-length}
 use Rattle.expression.specs.Expr.{Expr}
@@ -76,12 +76,12 @@ module _ {c : Circuit} {v : Numbers} {names nodes roots widths pairs : List ℕ}
   composed-is p =
       ap (composeTree v) (handed-are p) ∙ ap (λ (u : Numbers). composeTree u (composedConstraints c)) (p .numbers-are) ∙ compose-tree c
 
-  pub composed-written : {d d1 : List ℕ} {next : ℕ} → PiecesOf c v names nodes roots widths pairs
-      → Written (composeTree v (handedTrees v names nodes roots widths pairs)) 0 d d1 next
-      → Composed c d d1 next
+  pub composed-written : {from : ℕ} {d d1 : List ℕ} {next : ℕ} → PiecesOf c v names nodes roots widths pairs
+      → Written from (composeTree v (handedTrees v names nodes roots widths pairs)) 0 d d1 next
+      → Composed from c d d1 next
   unfolding composedNodes composedWords
-  composed-written {d} {d1} {next} p w =
-      let u : Written (compose c) 0 d d1 next = subst (λ (e : Expr). Written e 0 d d1 next) (composed-is p) w in
+  composed-written {from} {d} {d1} {next} p w =
+      let u : Written from (compose c) 0 d d1 next = subst (λ (e : Expr). Written from e 0 d d1 next) (composed-is p) w in
       record { number = omega (arith, u .number); buffer = u .buffer }
 
 -- the pieces of circuit words, whose pairs are all there

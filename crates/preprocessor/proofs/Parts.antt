@@ -140,36 +140,36 @@ next-by : (v : Numbers) (i : ℕ) (t : Bool) → ltb (suc i) (v .parts) ≡ t
 unfolding nextTree
 next-by v i t e = ap (λ (s : Bool). cond s (at (zAt v (suc i))) (Expr.poly (zAt v 0) (pos 1))) e
 
-module _ (v : Numbers) (i : ℕ) {n next : ℕ} {d d1 : List ℕ} where
+module _ (v : Numbers) (i : ℕ) {from n next : ℕ} {d d1 : List ℕ} where
   -- the following part's z
-  pub next-written : (q : ℕ) → q ≡ zAt v (suc i) → suc i < v .parts → Written (at q) n d d1 next → Written (nextTree v i) n d d1 next
+  pub next-written : (q : ℕ) → q ≡ zAt v (suc i) → suc i < v .parts → Written from (at q) n d d1 next → Written from (nextTree v i) n d d1 next
   next-written q e h w = written-as (next-by v i true (lt-ltb (suc i) (v .parts) h) ∙ ap at (sym e)) w
 
   -- the first z with rotation 1
-  pub around-written : (q : ℕ) → q ≡ zAt v 0 → v .parts ≤ suc i → Pushed n 5 q 0 2147483649 d d1 next
-      → Written (nextTree v i) n d d1 next
+  pub around-written : (q : ℕ) → q ≡ zAt v 0 → v .parts ≤ suc i → Pushed from n 5 q 0 2147483649 d d1 next
+      → Written from (nextTree v i) n d d1 next
   around-written q e h p =
       written-as (next-by v i false (le-ltb (suc i) (v .parts) h) ∙ ap (λ (z : ℕ). Expr.poly z (pos 1)) (sym e))
       (written-poly {q = q} {r = pos 1} p)
 
-module _ (v : Numbers) {n x y z u w next : ℕ} {d d1 d2 d3 d4 d5 d6 : List ℕ} where
-  pub start-written : (q : ℕ) → q ≡ zAt v 0 → Pushed n 3 0 0 2147483649 d d1 x → Written (at q) x d1 d2 y
-      → Pushed y 1 0 0 1 d2 d3 z
-      → Pushed z 7 (z - 1) 0 0 d3 d4 u
-      → Pushed u 8 (y - 1) (u - 1) 0 d4 d5 w
-      → Pushed w 9 (x - 1) (w - 1) 0 d5 d6 next
-      → Written (startTree v) n d d6 next
+module _ (v : Numbers) {from n x y z u w next : ℕ} {d d1 d2 d3 d4 d5 d6 : List ℕ} where
+  pub start-written : (q : ℕ) → q ≡ zAt v 0 → Pushed from n 3 0 0 2147483649 d d1 x → Written from (at q) x d1 d2 y
+      → Pushed from y 1 0 0 1 d2 d3 z
+      → Pushed from z 7 (z - 1) 0 0 d3 d4 u
+      → Pushed from u 8 (y - 1) (u - 1) 0 d4 d5 w
+      → Pushed from w 9 (x - 1) (w - 1) 0 d5 d6 next
+      → Written from (startTree v) n d d6 next
   unfolding startTree
   start-written q e a b p r s t =
       written-as (ap (λ (z : ℕ). Expr.product (Expr.lagrange (pos 1)) (minus (at z) (Expr.constant 1))) (sym e))
       (written-product (written-lagrange {i = pos 1} a) (written-minus b (written-constant p) r s) t)
 
-module _ (v : Numbers) (l : Limits v) (i : ℕ) (h : i < v .parts) (names : List ℕ) (count : ℕ) {n x y z next : ℕ}
+module _ (v : Numbers) (l : Limits v) (i : ℕ) (h : i < v .parts) (names : List ℕ) (count : ℕ) {from n x y z next : ℕ}
     {d d1 d2 d3 d4 : List ℕ} where
   pub part-written : count ≡ length (partOf v i)
-      → Written (Expr.product (at (zAt v i)) (productOf (column (λ j. identityTree v names (i * v .part + j)) count))) n d d1 x
-      → Written (Expr.product (nextTree v i) (productOf (column (λ j. permutationTree v names (i * v .part + j)) count))) x d1 d2 y
-      → Pushed y 7 (y - 1) 0 0 d2 d3 z
-      → Pushed z 8 (x - 1) (z - 1) 0 d3 d4 next
-      → Written (partTree v names i) n d d4 next
+      → Written from (Expr.product (at (zAt v i)) (productOf (column (λ j. identityTree v names (i * v .part + j)) count))) n d d1 x
+      → Written from (Expr.product (nextTree v i) (productOf (column (λ j. permutationTree v names (i * v .part + j)) count))) x d1 d2 y
+      → Pushed from y 7 (y - 1) 0 0 d2 d3 z
+      → Pushed from z 8 (x - 1) (z - 1) 0 d3 d4 next
+      → Written from (partTree v names i) n d d4 next
   part-written e a b p q = written-as (part-tree v l i h names count e) (written-minus a b p q)

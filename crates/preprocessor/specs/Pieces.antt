@@ -6,7 +6,7 @@ use Prim.Native.Nat.{ℕ, zero, suc, _+_, _-_, _*_, _/_, _≤_, _<_}
 use lib.ListN.{length, getD, drop}
 use lib.Dec.{eqb, ltb}
 use lib.IntN.{ℤ, pos}
-use Rattle.util.specs.Lists.{below, column, cut, ceilDiv, split, total, over, All}
+use Rattle.util.specs.Lists.{below, column, cut, ceilDiv, split, total, laid, All}
 use Rattle.expression.specs.Expr.{Expr, Exprs, minus, at, exprsOf, distributePowers, productOf}
 use Rattle.expression.specs.Nodes.{exprOf}
 use Rattle.expression.specs.Flat.{size}
@@ -166,7 +166,7 @@ pub record PiecesOf (c : Circuit) (v : Numbers) (names nodes roots widths pairs 
   pub constraints-are : map (exprOf nodes) roots ≡ c .constraints
   pub lookups-are : lookupsOf nodes widths pairs ≡ c .lookups
 
--- the composed nodes of a circuit stand from node 0 on
-pub record Composed (c : Circuit) (before after : List ℕ) (next : ℕ) : Type 0 where
+-- the composed nodes of a circuit stand from node 0 on, as far as they fall into the buffer, which stands for the words from `from` on
+pub record Composed (from : ℕ) (c : Circuit) (before after : List ℕ) (next : ℕ) : Type 0 where
   pub number : next ≡ composedNodes c
-  pub buffer : after ≡ over before 0 (composedWords c)
+  pub buffer : after ≡ laid from before 0 (composedWords c)

@@ -21,7 +21,7 @@ use Rattle.compose.proofs.+constraint_items.{statement}
 use Rattle.compose.proofs.+constraint_items.Tie.{close}
 
 abbrev μ-constraint-items : Measures 6 constraint-items-kinds.ps ℕ
-μ-constraint-items κs a = numConstraints (length (a .1 .1 .0 .now)) (a .1 .1 .1 .1 .1 .1 .0) - a .1 .1 .1 .1 .1 .1 .1 .0
+μ-constraint-items κs a = numConstraints (length (a .1 .1 .0 .now)) (a .1 .1 .1 .1 .1 .1 .1 .0) - a .1 .1 .1 .1 .1 .1 .1 .1 .0
 
 abbrev constraint-items-at : ℕ → In 6 constraint-items-kinds.ps
 constraint-items-at t =

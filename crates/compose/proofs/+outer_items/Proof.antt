@@ -21,7 +21,7 @@ use Rattle.compose.proofs.+outer_items.{statement}
 use Rattle.compose.proofs.+outer_items.Tie.{close}
 
 abbrev μ-outer-items : Measures 6 outer-items-kinds.ps ℕ
-μ-outer-items κs a = a .1 .1 .1 .1 .1 .1 .0 .lookups - a .1 .1 .1 .1 .1 .1 .1 .0
+μ-outer-items κs a = a .1 .1 .1 .1 .1 .1 .1 .0 .lookups - a .1 .1 .1 .1 .1 .1 .1 .1 .0
 
 abbrev outer-items-at : ℕ → In 6 outer-items-kinds.ps
 outer-items-at t =

@@ -19,7 +19,7 @@ use Rattle.compose.proofs.+side_items.{statement}
 use Rattle.compose.proofs.+side_items.Tie.{close}
 
 abbrev μ-side-items : Measures 3 side-items-kinds.ps ℕ
-μ-side-items κs a = a .1 .1 .1 .1 .1 .1 .0 - a .1 .1 .1 .1 .1 .0
+μ-side-items κs a = a .1 .1 .1 .1 .1 .1 .1 .0 - a .1 .1 .1 .1 .1 .1 .0
 
 abbrev side-items-at : ℕ → In 3 side-items-kinds.ps
 side-items-at t =

@@ -15,8 +15,8 @@ push-requires : tie.Need-push-requires
 unfolding body
 push-requires c κs = omega (arith, (c .before .before .before .before .before .before .pre))
 
-sub-t11 : tie.Need-sub-t11
-sub-t11 c = search needs
+sub-t12 : tie.Need-sub-t12
+sub-t12 c = search needs
 
 same-length : tie.Need-same-length
 same-length c = search needs
@@ -26,4 +26,4 @@ returns c = written.written-base (c .before .before .before .before .before .bef
 
 pub list-end-spec : {M : Type 1} → statement M
 list-end-spec =
-    tie.close (tie.spec challenge-requires sub-push push-requires sub-t11 same-length returns)
+    tie.close (tie.spec challenge-requires sub-push push-requires sub-t12 same-length returns)

@@ -41,25 +41,25 @@ use Rattle.copy.proofs.+copy_base+copy_expr+copy_items+copy_low+copy_on
 }
 
 abbrev μ-copy-base : Measures 2 copy-base-kinds.ps ℕ
-μ-copy-base κs a = size (low (a .0 .now) (a .1 .1 .0) (a .1 .1 .1 .1 .0)) * 4 + 4
+μ-copy-base κs a = size (low (a .0 .now) (a .1 .1 .1 .0) (a .1 .1 .1 .1 .1 .0)) * 4 + 4
 
 abbrev μ-copy-expr : Measures 2 copy-expr-kinds.ps ℕ
-μ-copy-expr κs a = size (exprOf (a .0 .now) (a .1 .1 .0)) * 4 + 2
+μ-copy-expr κs a = size (exprOf (a .0 .now) (a .1 .1 .1 .0)) * 4 + 2
 
 abbrev μ-copy-items : Measures 2 copy-items-kinds.ps ℕ
-μ-copy-items κs a = (sizes (lowItems (a .0 .now) (a .1 .1 .1 .1 .1 .0) (a .1 .1 .1 .1 .1 .1 .0)) + size (low (a .0 .now) (a .1 .1 .0) (a .1 .1 .1 .1 .0)) + extra (lowItems (a .0 .now) (a .1 .1 .1 .1 .1 .0) (a .1 .1 .1 .1 .1 .1 .0)) + 1) * 4 + 1
+μ-copy-items κs a = (sizes (lowItems (a .0 .now) (a .1 .1 .1 .1 .1 .1 .0) (a .1 .1 .1 .1 .1 .1 .1 .0)) + size (low (a .0 .now) (a .1 .1 .1 .0) (a .1 .1 .1 .1 .1 .0)) + extra (lowItems (a .0 .now) (a .1 .1 .1 .1 .1 .1 .0) (a .1 .1 .1 .1 .1 .1 .1 .0)) + 1) * 4 + 1
 
 abbrev μ-copy-low : Measures 2 copy-low-kinds.ps ℕ
-μ-copy-low κs a = size (low (a .0 .now) (a .1 .1 .0) (a .1 .1 .1 .1 .0)) * 4 + 3
+μ-copy-low κs a = size (low (a .0 .now) (a .1 .1 .1 .0) (a .1 .1 .1 .1 .1 .0)) * 4 + 3
 
 abbrev μ-copy-one : Measures 2 copy-one-kinds.ps ℕ
-μ-copy-one κs a = size (low (a .0 .now) (a .1 .1 .0) (a .1 .1 .1 .1 .1 .0)) * 4 + 5
+μ-copy-one κs a = size (low (a .0 .now) (a .1 .1 .1 .0) (a .1 .1 .1 .1 .1 .1 .0)) * 4 + 5
 
 abbrev μ-copy-pair : Measures 2 copy-pair-kinds.ps ℕ
-μ-copy-pair κs a = (size (low (a .0 .now) (a .1 .1 .0) (a .1 .1 .1 .1 .1 .0)) + size (low (a .0 .now) (a .1 .1 .0) (a .1 .1 .1 .1 .1 .1 .0))) * 4 + 5
+μ-copy-pair κs a = (size (low (a .0 .now) (a .1 .1 .1 .0) (a .1 .1 .1 .1 .1 .1 .0)) + size (low (a .0 .now) (a .1 .1 .1 .0) (a .1 .1 .1 .1 .1 .1 .1 .0))) * 4 + 5
 
 abbrev μ-copy-powers : Measures 2 copy-powers-kinds.ps ℕ
-μ-copy-powers κs a = (sizes (lowItems (a .0 .now) (a .1 .1 .0) (a .1 .1 .1 .1 .1 .0)) + size (low (a .0 .now) (a .1 .1 .0) (a .1 .1 .1 .1 .0)) + extra (lowItems (a .0 .now) (a .1 .1 .0) (a .1 .1 .1 .1 .1 .0)) + 2) * 4 + 1
+μ-copy-powers κs a = (sizes (lowItems (a .0 .now) (a .1 .1 .1 .0) (a .1 .1 .1 .1 .1 .1 .0)) + size (low (a .0 .now) (a .1 .1 .1 .0) (a .1 .1 .1 .1 .1 .0)) + extra (lowItems (a .0 .now) (a .1 .1 .1 .0) (a .1 .1 .1 .1 .1 .1 .0)) + 2) * 4 + 1
 
 abbrev copy-base-at : ℕ → In 2 copy-base-kinds.ps
 copy-base-at t = and 2 copy-base-kinds.ps (is 2 copy-base-kinds.ps μ-copy-base t) copy-base.Pre
@@ -143,8 +143,8 @@ copy-base-sub-push t c = search needs
 copy-base-push-requires : (t : ℕ) → copy-base-lts.Need-push-requires (copy-base-claims t) (copy-base-at t) copy-base.Post
 copy-base-push-requires t c κs = search needs
 
-copy-base-sub-t12 : (t : ℕ) → copy-base-lts.Need-sub-t12 (copy-base-claims t) (copy-base-at t) copy-base.Post
-copy-base-sub-t12 t c = search needs
+copy-base-sub-t13 : (t : ℕ) → copy-base-lts.Need-sub-t13 (copy-base-claims t) (copy-base-at t) copy-base.Post
+copy-base-sub-t13 t c = search needs
 
 copy-base-same-length : (t : ℕ) → copy-base-lts.Need-same-length (copy-base-claims t) (copy-base-at t) copy-base.Post
 copy-base-same-length t c = search needs
@@ -446,7 +446,7 @@ pub +copy-base+copy-expr+copy-items+copy-low+copy-one+copy-pair+copy-powers-spec
     (copy-base-copy-low-requires t)
     (copy-base-sub-push t)
     (copy-base-push-requires t)
-    (copy-base-sub-t12 t)
+    (copy-base-sub-t13 t)
     (copy-base-same-length t)
     (copy-base-returns t))
     (λ t. copy-expr-lts.spec (copy-expr-claims t) (copy-expr-at t) copy-expr.Post
