@@ -3,14 +3,16 @@ use mathlib.Core.Path.{_≡_, refl, sym, ap, _∙_, subst}
 use mathlib.Core.List.{List, map}
 use Prim.Native.Nat.{ℕ, suc, _+_, _-_, _*_, _/_, _≤_}
 use native.Mathlib.Omega.{arith}
-use lib.ListN.{length}
-use Rattle.util.specs.Lists.{column, split, below, cut, ceilDiv}
+use lib.ListN.{length, take, drop}
+use Rattle.util.specs.Lists.{column, split, below, cut, ceilDiv, over}
 use Rattle.util.proofs.Columns.{below-length}
 use Rattle.util.proofs.Totals.{cut-length}
+use Rattle.util.proofs.Window.{laid-over, laid-part}
 use Rattle.expression.specs.Expr.{Expr}
 use Rattle.expression.specs.Nodes.{exprOf}
 use Rattle.expression.specs.Flat.{size, flat}
 use Rattle.expression.specs.Written.{Written}
+use Rattle.expression.proofs.FlatLength.{flat-length}
 use Rattle.backend.specs.Circuit.{Circuit, Pair, Section, circuitOf, bodyOf, entries, pairAt, copied, numCopied}
 use Rattle.backend.specs.Constraints.{lookupConstraint, lookupConstraints, maxDegree}
 use Rattle.preprocessor.specs.Compose.{
@@ -83,6 +85,23 @@ module _ {c : Circuit} {v : Numbers} {names nodes roots widths pairs : List ℕ}
   composed-written {from} {d} {d1} {next} p w =
       let u : Written from (compose c) 0 d d1 next = subst (λ (e : Expr). Written from e 0 d d1 next) (composed-is p) w in
       record { number = omega (arith, u .number); buffer = u .buffer }
+
+-- the composed words are four a node
+pub composed-length : (c : Circuit) → length (composedWords c) ≡ composedNodes c * 4
+unfolding composedNodes composedWords
+composed-length c = flat-length (compose c) 0
+
+-- a buffer that has room for all, from the first word on
+pub composed-over : {c : Circuit} {d d1 : List ℕ} {next : ℕ} → composedNodes c * 4 ≤ length d → Composed 0 c d d1 next
+    → d1 ≡ over d 0 (composedWords c)
+composed-over {c} {d} h w = w .buffer ∙ laid-over 0 d 0 (composedWords c) refl (omega (arith, composed-length c))
+
+-- the words of one run of them
+pub composed-part : {from : ℕ} {c : Circuit} {d d1 : List ℕ} {next : ℕ} (n : ℕ) → n ≤ length d → from + n ≤ composedNodes c * 4
+    → Composed from c d d1 next
+    → take n d1 ≡ take n (drop from (composedWords c))
+composed-part {from} {c} {d} n h l w =
+    ap (take n) (w .buffer) ∙ laid-part from d (composedWords c) n h (omega (arith, composed-length c))
 
 -- the pieces of circuit words, whose pairs are all there
 pub circuit-pieces : (ws : List ℕ) → length (bodyOf ws Section.pairs) / 2 ≡ entries ws Section.pairs
