@@ -1,0 +1,112 @@
+// The node words of accepted circuit words' composed expression: written, whole or in a window, and compared with lent ones.
+use compose::compose;
+use contents::CONSTRAINTS;
+use contents::NODES;
+use contents::PAIRS;
+use contents::WIDTHS;
+use contents::section;
+use preprocessor::Numbers;
+ghost use mathlib.Core.Path.{_≡_};
+ghost use Prim.Native.Nat.{_+_, _-_, _*_, _≤_, _<_};
+ghost use lib.ListN.{length, take, drop};
+ghost use Rattle.util.specs.Lists.{sameWords};
+ghost use Rattle.expression.specs.Written.{mostWords};
+ghost use Rattle.backend.specs.Circuit.{circuitOf};
+ghost use Rattle.preprocessor.specs.Compose.{composedWords, composedNodes};
+ghost use Rattle.preprocessor.specs.Pieces.{Composed};
+ghost use Rattle.prepare.specs.Prepared.{Prepared};
+
+// The composed nodes that fall into `nodes`, which stands for the words from word `from` on; returns the number of nodes.
+pub fn compose_nodes(
+    circuit: &[u64],
+    copied: &[u64],
+    v: Numbers,
+    from: usize,
+    nodes: &mut [u64],
+) -> usize
+    requires { ⌜ Prepared (now circuit) (now copied) v × (composedNodes (circuitOf (now circuit)) * 4 ≤ mostWords) ⌝ }
+    ensures { λ r. ⌜ Composed from (circuitOf (now (circuit .entry))) (now (nodes .entry)) (now (nodes .exit)) r ⌝ }
+{
+    let user = section(circuit, NODES);
+    let roots = section(circuit, CONSTRAINTS);
+    let widths = section(circuit, WIDTHS);
+    let pairs = section(circuit, PAIRS);
+    let user_start = user.start;
+    let user_end = user.end;
+    let roots_start = roots.start;
+    let roots_end = roots.end;
+    let widths_start = widths.start;
+    let widths_end = widths.end;
+    let pairs_start = pairs.start;
+    let pairs_end = pairs.end;
+    compose(
+        copied,
+        &circuit[user_start..user_end],
+        &circuit[roots_start..roots_end],
+        &circuit[widths_start..widths_end],
+        &circuit[pairs_start..pairs_end],
+        nodes,
+        from,
+        v,
+    )
+}
+
+// Are the words the same?
+pub fn same_words(a: &[u64], b: &[u64]) -> bool
+    requires { ⌜ length (now a) ≡ length (now b) ⌝ }
+    ensures { λ r. ⌜ r ≡ sameWords (now (a .entry)) (now (b .entry)) ⌝ }
+{
+    let mut i = 0;
+    while i < a.len() {
+        if a[i] != b[i] {
+            return false;
+        }
+        i += 1;
+    }
+    true
+}
+
+// Where the window that begins at word `at` ends.
+fn window_end(at: usize, end: usize) -> usize
+    requires { ⌜ at < end ⌝ }
+    ensures { λ r. ⌜ (at < r) × ((r ≤ end) × (r ≤ at + 4096)) ⌝ }
+{
+    if end - at <= 4096 {
+        return end;
+    }
+    at + 4096
+}
+
+// Are words `at` to `end` of `nodes` those of the composed expression?
+fn same_window(
+    circuit: &[u64],
+    copied: &[u64],
+    v: Numbers,
+    nodes: &[u64],
+    at: usize,
+    end: usize,
+) -> bool
+    requires { ⌜ Prepared (now circuit) (now copied) v × ((length (now nodes) ≡ composedNodes (circuitOf (now circuit)) * 4) × ((at ≤ end) × ((end ≤ length (now nodes)) × (end ≤ at + 4096)))) ⌝ }
+    ensures { λ r. ⌜ r ≡ sameWords (take (end - at) (drop at (now (nodes .entry)))) (take (end - at) (drop at (composedWords (circuitOf (now (circuit .entry)))))) ⌝ }
+{
+    let mut window = [0; 4096];
+    let count = end - at;
+    compose_nodes(circuit, copied, v, at, &mut window);
+    same_words(&nodes[at..end], &window[0..count])
+}
+
+// Are these the node words that building writes? They are composed window by window, and compared.
+pub fn same_nodes(circuit: &[u64], copied: &[u64], v: Numbers, nodes: &[u64]) -> bool
+    requires { ⌜ Prepared (now circuit) (now copied) v × (length (now nodes) ≡ composedNodes (circuitOf (now circuit)) * 4) ⌝ }
+    ensures { λ r. ⌜ r ≡ sameWords (now (nodes .entry)) (composedWords (circuitOf (now (circuit .entry)))) ⌝ }
+{
+    let mut at = 0;
+    while at < nodes.len() {
+        let end = window_end(at, nodes.len());
+        if !same_window(circuit, copied, v, nodes, at, end) {
+            return false;
+        }
+        at = end;
+    }
+    true
+}
