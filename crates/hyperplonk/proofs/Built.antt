@@ -1,0 +1,80 @@
+-- What the building call returns and leaves, from what its parts do. Assumes nothing.
+use mathlib.Core.Path.{_≡_, refl, sym, ap, ap₂, _∙_}
+use mathlib.Core.Bool.{Bool, true, false, cond}
+use mathlib.Core.List.{List}
+use Prim.Native.Nat.{ℕ, suc, _-_, _*_, _≤_}
+use native.Mathlib.Omega.{arith}
+use lib.ListN.{length, replicate}
+use lib.Dec.{leb}
+use borrow.Author.Tests.{leb-true}
+use Rattle.field.specs.Field.{𝔾}
+use Rattle.util.specs.Lists.{over, written}
+use Rattle.util.proofs.Tests.{and-left, and-right}
+use Rattle.util.proofs.Over.{over-written}
+use Rattle.backend.specs.Circuit.{Circuit, circuitOf, rowsOf}
+use Rattle.preprocessor.specs.Compose.{numZ, composedWords, composedNodes}
+use Rattle.preprocessor.specs.Pieces.{Composed}
+use Rattle.preprocessor.proofs.Composed.{composed-over}
+use Rattle.prover.specs.Columns.{allCovered, writtenPolys}
+use Rattle.prover.specs.Words.{wordsOf}
+use Rattle.calls.specs.Build.{Output, logOf, columnWords, q14, checkBuild, refused, made, zeroed, buildLog, buildOf}
+use Rattle.calls.specs.declared.Built.{Built}
+use Rattle.calls.proofs.Building.{refused-by}
+
+module _ (ws instances witness challenges columns nodes : List ℕ) where
+  -- a refusal by questions 1 to 14
+  pub refuses : (r : Built) (n : ℕ) → r ≡ refused n → (n ≡ 0 → ⊥) → checkBuild ws instances witness challenges columns nodes ≡ n
+      → _≡_ {A = Output} (record { answer = r; columns = columns; nodes = nodes }) (buildOf ws instances witness challenges columns nodes)
+  refuses r n e h q =
+      let s : n ≡ suc (n - 1) = omega arith in
+      ap (λ (b : Built). record { answer = b; columns = columns; nodes = nodes }) (e ∙ ap (λ (m : ℕ). refused m) s)
+      ∙ sym (refused-by ws instances witness challenges columns nodes (n - 1) (q ∙ s))
+
+  -- question 15 and after
+  pub checked : checkBuild ws instances witness challenges columns nodes ≡ 0
+      → buildOf ws instances witness challenges columns nodes ≡ buildLog (logOf ws instances witness challenges) columns nodes
+  unfolding buildOf
+  checked e = rw e
+
+  -- "Have both output buffers at least the words needed?"
+  pub columns-room : q14 (circuitOf ws) columns nodes ≡ true → columnWords (circuitOf ws) ≤ length columns
+  unfolding q14
+  columns-room e = leb-true (columnWords (circuitOf ws)) (length columns) (and-left _ _ e)
+
+  pub nodes-room : q14 (circuitOf ws) columns nodes ≡ true → composedNodes (circuitOf ws) * 4 ≤ length nodes
+  unfolding q14
+  nodes-room e = leb-true (composedNodes (circuitOf ws) * 4) (length nodes) (and-right _ _ e)
+
+  abbrev columnsAfter : List ℕ
+  columnsAfter =
+      cond (allCovered 𝔾 (logOf ws instances witness challenges))
+      (written (wordsOf (rowsOf (circuitOf ws)) (writtenPolys 𝔾 (logOf ws instances witness challenges))) columns)
+      (written (replicate (columnWords (circuitOf ws)) 0) columns)
+
+  -- 15
+  pub is-fifteen : (r : Built) (d : List ℕ) (t : Bool) → t ≡ allCovered 𝔾 (logOf ws instances witness challenges) → t ≡ false → d ≡ columnsAfter
+      → r ≡ refused 15
+      → _≡_ {A = Output} (record { answer = r; columns = d; nodes = nodes }) (buildLog (logOf ws instances witness challenges) columns nodes)
+  unfolding buildLog zeroed
+  is-fifteen r d t a f e h =
+      let no : allCovered 𝔾 (logOf ws instances witness challenges) ≡ false = sym a ∙ f in
+      ap₂ (λ (b : Built) (x : List ℕ). record { answer = b; columns = x; nodes = nodes }) h (e ∙ rw no)
+      ∙ rw no
+
+  -- success
+  pub is-made : (d n : List ℕ) (t : Bool) (words count parts : ℕ) → t ≡ allCovered 𝔾 (logOf ws instances witness challenges) → t ≡ true
+      → d ≡ columnsAfter
+      → words ≡ columnWords (circuitOf ws)
+      → parts ≡ numZ (circuitOf ws)
+      → composedNodes (circuitOf ws) * 4 ≤ length nodes
+      → Composed 0 (circuitOf ws) nodes n count
+      → _≡_ {A = Output}
+      (record { answer = record { number = 0; «column_words» = words; nodes = count; «z_columns» = parts }; columns = d; nodes = n })
+      (buildLog (logOf ws instances witness challenges) columns nodes)
+  unfolding buildLog made logOf
+  is-made d n t words count parts a f e w p room c =
+      let yes : allCovered 𝔾 (logOf ws instances witness challenges) ≡ true = sym a ∙ f in
+      ap₂ (λ (x y : List ℕ). record { answer = record { number = 0; «column_words» = words; nodes = count; «z_columns» = parts }; columns = x; nodes = y })
+      (e ∙ rw yes)
+      (composed-over room c ∙ sym (over-written (composedWords (circuitOf ws)) nodes))
+      ∙ rw (w, c .number, p, yes)

@@ -1,0 +1,99 @@
+// The building call: the questions in their order, then the columns and the nodes.
+use calls::Built;
+use columns::write_columns;
+use composed::compose_nodes;
+use prepare::column_words;
+use prepare::copied_of;
+use prepare::numbers;
+use prepare::question_12;
+use prepare::question_13;
+use prepare::question_14;
+use preprocessor::Numbers;
+use questions::first_no;
+ghost use mathlib.Core.Path.{_≡_};
+ghost use mathlib.Core.Bool.{true};
+ghost use Rattle.backend.specs.Circuit.{circuitOf};
+ghost use Rattle.prepare.specs.Prepared.{Prepared};
+ghost use Rattle.calls.specs.Build.{Output, logOf, q12, q14, refused as refusedBy, buildLog, buildOf};
+ghost use Rattle.calls.specs.Demand.{DemandThreeAt};
+
+// "a refusal returns three zeros after its number"
+fn refused(number: u64) -> Built
+    ensures { λ r. ⌜ r ≡ refusedBy number ⌝ }
+{
+    Built {
+        number: number,
+        column_words: 0,
+        nodes: 0,
+        z_columns: 0,
+    }
+}
+
+// Question 15 and after, once 1 to 14 are answered yes.
+fn build_checked(
+    circuit: &[u64],
+    instance: &[u64],
+    witness: &[u64],
+    challenges: &[u64],
+    columns: &mut [u64],
+    nodes: &mut [u64],
+    copied: &[u64],
+    v: Numbers,
+) -> Built
+    requires { ⌜ Prepared (now circuit) (now copied) v × (q12 (circuitOf (now circuit)) (now instance) (now witness) (now challenges) ≡ true) × (q14 (circuitOf (now circuit)) (now columns) (now nodes) ≡ true) ⌝ }
+    ensures { λ r. ⌜ record { answer = r; columns = now (columns .exit); nodes = now (nodes .exit) } ≡ buildLog (logOf (now (circuit .entry)) (now (instance .entry)) (now (witness .entry)) (now (challenges .entry))) (now (columns .entry)) (now (nodes .entry)) ⌝ }
+{
+    let covered = write_columns(circuit, instance, witness, challenges, columns, copied, v);
+    if !covered {
+        return refused(15);
+    }
+    let words = column_words(circuit, v);
+    let count = compose_nodes(circuit, copied, v, 0, nodes);
+    Built {
+        number: 0,
+        column_words: words,
+        nodes: count,
+        z_columns: v.parts,
+    }
+}
+
+// The building call. What it returns and leaves is document 01's, for any words and buffers; and so demand 3 holds of it.
+pub fn build(
+    circuit: &[u64],
+    instance: &[u64],
+    witness: &[u64],
+    challenges: &[u64],
+    columns: &mut [u64],
+    nodes: &mut [u64],
+) -> Built
+    ensures { λ r. ⌜ record { answer = r; columns = now (columns .exit); nodes = now (nodes .exit) } ≡ buildOf (now (circuit .entry)) (now (instance .entry)) (now (witness .entry)) (now (challenges .entry)) (now (columns .entry)) (now (nodes .entry)) ⌝ }
+    ensures { λ r. ⌜ DemandThreeAt (now (circuit .entry)) (now (instance .entry)) (now (witness .entry)) (now (challenges .entry)) (now (columns .entry)) (now (nodes .entry)) (record { answer = r; columns = now (columns .exit); nodes = now (nodes .exit) }) ⌝ }
+{
+    let no = first_no(circuit);
+    if no != 0 {
+        return refused(no);
+    }
+    if !question_12(circuit, instance, witness, challenges) {
+        return refused(12);
+    }
+    if !question_13(instance, witness, challenges) {
+        return refused(13);
+    }
+    let c = copied_of(circuit);
+    let count = c.count;
+    let of = c.of;
+    let v = numbers(circuit, count);
+    if !question_14(circuit, v, columns.len(), nodes.len()) {
+        return refused(14);
+    }
+    build_checked(
+        circuit,
+        instance,
+        witness,
+        challenges,
+        columns,
+        nodes,
+        &of[0..count],
+        v,
+    )
+}
