@@ -3,7 +3,7 @@ use crate::stages::eq_xy;
 use crate::stages::lookup_h_poly;
 use crate::stages::lookup_m_poly;
 ghost use mathlib.Core.Path.{_≡_};
-ghost use Rattle.calls.specs.Stages.{Answer, mOf, hOf, eqOf};
+ghost use Rattle.calls.specs.Stages.{mOf, hOf, eqOf};
 
 #[no_mangle]
 pub extern "C" fn hyperplonk_lookup_m_poly(

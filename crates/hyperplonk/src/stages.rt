@@ -5,7 +5,7 @@ use prover::rows_of;
 use words::all_below;
 ghost use mathlib.Core.Path.{_≡_};
 ghost use Rattle.backend.specs.Questions.{goodK};
-ghost use Rattle.calls.specs.Stages.{Answer, mOf, hOf, eqOf};
+ghost use Rattle.calls.specs.Stages.{mOf, hOf, eqOf};
 
 const MODULUS: u64 = 18446744069414584321;
 
