@@ -1,7 +1,7 @@
 // The calls by the names that include/hyperplonk.h declares. A slice crosses as a pointer and a length.
-use crate::stages::eq_xy;
-use crate::stages::lookup_h_poly;
-use crate::stages::lookup_m_poly;
+use alone::eq_xy;
+use alone::lookup_h_poly;
+use alone::lookup_m_poly;
 ghost use mathlib.Core.Path.{_≡_};
 ghost use Rattle.calls.specs.Stages.{mOf, hOf, eqOf};
 

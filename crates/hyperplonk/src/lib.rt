@@ -1,9 +1,7 @@
 // hyperplonk.rs: the calls. `entry` has them for C and Rust, as include/hyperplonk.h declares them.
-pub mod building;
 pub mod entry;
-pub mod stages;
 
+pub use alone::eq_xy;
+pub use alone::lookup_h_poly;
+pub use alone::lookup_m_poly;
 pub use building::build;
-pub use stages::eq_xy;
-pub use stages::lookup_h_poly;
-pub use stages::lookup_m_poly;

@@ -7,9 +7,9 @@ use Rattle.util.specs.Lists.{allOf}
 use Rattle.backend.specs.Questions.{goodK, small}
 use Rattle.backend.proofs.Answers.{says-no, says-yes}
 use Rattle.calls.specs.Stages.{fits, mOf}
-use Rattle.hyperplonk.proofs.Answers.{no-2, no-12, no-13, no-14, all-yes, k-le, two-exact, two-small, two-columns, counted, uncovered}
-use Rattle.hyperplonk.proofs.stages.lookup_m_poly.Statement.{statement}
-use Rattle.hyperplonk.proofs.stages.lookup_m_poly.Tie as tie
+use Rattle.alone.proofs.Answers.{no-2, no-12, no-13, no-14, all-yes, k-le, two-exact, two-small, two-columns, counted, uncovered}
+use Rattle.alone.proofs.lookup_m_poly.Statement.{statement}
+use Rattle.alone.proofs.lookup_m_poly.Tie as tie
 
 -- the places after the tests that passed
 abbrev start : tie.Else1 → tie.Start
