@@ -12,9 +12,11 @@ use preprocessor::Numbers;
 use questions::first_no;
 ghost use mathlib.Core.Path.{_≡_};
 ghost use mathlib.Core.Bool.{true};
-ghost use Rattle.backend.specs.Circuit.{circuitOf};
-ghost use Rattle.prepare.specs.Prepared.{Prepared};
-ghost use Rattle.calls.specs.Build.{Output, logOf, q12, q14, refused as refusedBy, buildLog, buildOf};
+ghost use Prim.Native.Nat.{_≤_};
+ghost use lib.ListN.{take};
+ghost use Rattle.backend.specs.Circuit.{circuitOf, copied};
+ghost use Rattle.prepare.specs.Prepared.{Accepted, Prepared};
+ghost use Rattle.calls.specs.Build.{Output, logOf, q12, q13, q14, refused as refusedBy, buildLog, buildOf};
 ghost use Rattle.calls.specs.Demand.{DemandThreeAt};
 
 // "a refusal returns three zeros after its number"
@@ -57,6 +59,37 @@ fn build_checked(
     }
 }
 
+// Question 14 and after, once 1 to 13 are answered yes; the copied columns are the first `count` of the names.
+fn build_named(
+    circuit: &[u64],
+    instance: &[u64],
+    witness: &[u64],
+    challenges: &[u64],
+    columns: &mut [u64],
+    nodes: &mut [u64],
+    names: &[u64; 72],
+    count: usize,
+) -> Built
+    requires { ⌜ Accepted (now circuit) × (q12 (circuitOf (now circuit)) (now instance) (now witness) (now challenges) ≡ true) × (q13 (now instance) (now witness) (now challenges) ≡ true) × (count ≤ 72) × (take count (now names) ≡ copied (circuitOf (now circuit))) ⌝ }
+    ensures { λ r. ⌜ record { answer = r; columns = now (columns .exit); nodes = now (nodes .exit) } ≡ buildOf (now (circuit .entry)) (now (instance .entry)) (now (witness .entry)) (now (challenges .entry)) (now (columns .entry)) (now (nodes .entry)) ⌝ }
+{
+    let all = &names[..];
+    let v = numbers(circuit, count);
+    if !question_14(circuit, v, columns.len(), nodes.len()) {
+        return refused(14);
+    }
+    build_checked(
+        circuit,
+        instance,
+        witness,
+        challenges,
+        columns,
+        nodes,
+        &all[0..count],
+        v,
+    )
+}
+
 // The building call. What it returns and leaves is document 01's, for any words and buffers; and so demand 3 holds of it.
 pub fn build(
     circuit: &[u64],
@@ -79,21 +112,17 @@ pub fn build(
     if !question_13(instance, witness, challenges) {
         return refused(13);
     }
-    let c = copied_of(circuit);
-    let count = c.count;
-    let of = c.of;
-    let v = numbers(circuit, count);
-    if !question_14(circuit, v, columns.len(), nodes.len()) {
-        return refused(14);
-    }
-    build_checked(
+    let copied = copied_of(circuit);
+    let count = copied.count;
+    let names = copied.of;
+    build_named(
         circuit,
         instance,
         witness,
         challenges,
         columns,
         nodes,
-        &of[0..count],
-        v,
+        &names,
+        count,
     )
 }
