@@ -96,77 +96,107 @@ module _ (ps : List ℕ) (rows at : ℕ) where
       let w = suc-mul i rows in
       (omega arith, omega arith)
 
--- ---- along a cycle
-module _ (starts cells : List ℕ) where
+-- ---- along a cycle, whose cell i is x i, for i < n
+module _ (starts : List ℕ) (cycle : List Cell) where
   abbrev pub words : List ℕ
-  words = map (cellWord starts) (cellsOf cells)
+  words = map (cellWord starts) cycle
 
-  words-length : length words ≡ length cells / 2
-  words-length = length-map (cellsOf cells) (cellWord starts) ∙ column-length (cellAt cells) (length cells / 2)
-
-  pub words-get : (i : ℕ) → i < length cells / 2 → getD words i 0 ≡ cellWord starts (cellAt cells i)
-  words-get i l =
-      get-map (cellWord starts) (cellsOf cells) i (cellAt cells 0) 0 (let e = column-length (cellAt cells) (length cells / 2) in omega arith)
-      ∙ ap (cellWord starts) (get-column (cellAt cells) (length cells / 2) i (cellAt cells 0) l)
-
-  pub record Walking (d : List ℕ) (v : ℕ) (columns : List ℕ) (label i : ℕ) : Type 0 where
-    pub low : i ≤ length cells / 2
+  pub record Along (d : List ℕ) (v : ℕ) (columns : List ℕ) (label i : ℕ) : Type 0 where
+    pub low : i ≤ length cycle
     pub long : length columns ≡ length d
     pub left : exchanged columns label (drop i words) ≡ exchanged d v words
 
+  pub along-start : (d : List ℕ) (v : ℕ) → Along d v d v 0
+  along-start d v = record { low = omega arith; long = refl; left = refl }
+
+  module _ (n : ℕ) (x : ℕ → Cell) (count : length cycle ≡ n) (each : (i : ℕ) (y : Cell) → i < n → getD cycle i y ≡ x i) where
+    words-length : length words ≡ n
+    words-length = length-map cycle (cellWord starts) ∙ count
+
+    words-get : (i : ℕ) → i < n → getD words i 0 ≡ cellWord starts (x i)
+    words-get i l = get-map (cellWord starts) cycle i (x 0) 0 (omega (arith, count)) ∙ ap (cellWord starts) (each i (x 0) l)
+
+    pub along-next : (d : List ℕ) (v : ℕ) (columns : List ℕ) (label i held : ℕ) (after : List ℕ) → Along d v columns label i → i < n
+        → held ≡ getD columns (cellWord starts (x i)) 0
+        → after ≡ set columns (cellWord starts (x i)) label
+        → Along d v after held (i + 1)
+    along-next d v columns label i held after w l h a =
+        record {
+          low = omega (arith, count);
+          long = ap length a ∙ length-set columns (cellWord starts (x i)) label ∙ w .long;
+          left =
+              ap₂ (λ (s : List ℕ) (u : ℕ). exchanged s u (drop (i + 1) words)) (a ∙ ap (λ (n : ℕ). set columns n label) here) (h ∙ ap (λ (n : ℕ). getD columns n 0) here)
+              ∙ ap (λ (n : ℕ). exchanged (set columns (getD words i 0) label) (getD columns (getD words i 0) 0) (drop n words)) (add-one i)
+              ∙ sym (exchanged-next columns label words i (let q = words-length in omega arith))
+              ∙ w .left;
+        }
+      where
+        here : cellWord starts (x i) ≡ getD words i 0
+        here = sym (words-get i l)
+
+    pub along-end : (d : List ℕ) (v : ℕ) (columns : List ℕ) (label i : ℕ) → 0 < n → v ≡ getD d (cellWord starts (x (n - 1))) 0 → Along d v columns label i → n ≤ i
+        → Moved starts cycle d columns
+    along-end d v columns label i p e w l =
+        walked starts cycle d columns (omega (arith, count))
+        (sym (exchanged-none columns label words i (let q = words-length in omega arith))
+        ∙ w .left
+        ∙ ap (λ (u : ℕ). exchanged d u words)
+        (e ∙ ap (λ (n : ℕ). getD d n 0) (sym (words-get (n - 1) (omega arith)) ∙ ap (λ (n : ℕ). getD words (n - 1) 0) (sym count))))
+
+    -- a cell of the cycle, and its word
+    pub along-cell : (m i : ℕ) → All (λ (x : Cell). (x .polynomial < 72) × (cellWord starts x < m)) cycle → i < n
+        → (x i .polynomial < 72) × (cellWord starts (x i) < m)
+    along-cell m i a l =
+        subst (λ (x : Cell). (x .polynomial < 72) × (cellWord starts x < m)) (each i (x 0) l)
+        (all-get (λ (x : Cell). (x .polynomial < 72) × (cellWord starts x < m)) cycle a i (x 0) (omega (arith, count)))
+
+    pub along-fits : (d : List ℕ) (v : ℕ) (columns : List ℕ) (label i : ℕ) → Along d v columns label i
+        → All (λ (x : Cell). (x .polynomial < 72) × (cellWord starts x < length d)) cycle
+        → i < n
+        → (x i .polynomial < 72) × (cellWord starts (x i) < length columns)
+    along-fits d v columns label i w a l =
+        along-cell (length columns) i (subst (λ (m : ℕ). All (λ (x : Cell). (x .polynomial < 72) × (cellWord starts x < m)) cycle) (sym (w .long)) a) l
+
+-- of cells in words
+module _ (starts cells : List ℕ) where
+  unfoldable pub Walking : List ℕ → ℕ → List ℕ → ℕ → ℕ → Type 0
+  Walking = Along starts (cellsOf cells)
+
+  cells-count : length (cellsOf cells) ≡ length cells / 2
+  cells-count = column-length (cellAt cells) (length cells / 2)
+
+  cells-each : (i : ℕ) (y : Cell) → i < length cells / 2 → getD (cellsOf cells) i y ≡ cellAt cells i
+  cells-each i y l = get-column (cellAt cells) (length cells / 2) i y l
+
   pub walking-start : (d : List ℕ) (v : ℕ) → Walking d v d v 0
-  walking-start d v = record { low = omega arith; long = refl; left = refl }
+  unfolding Walking
+  walking-start = along-start starts (cellsOf cells)
 
   pub walking-next : (d : List ℕ) (v : ℕ) (columns : List ℕ) (label i held : ℕ) (after : List ℕ) → Walking d v columns label i → i < length cells / 2
       → held ≡ getD columns (cellWord starts (cellAt cells i)) 0
       → after ≡ set columns (cellWord starts (cellAt cells i)) label
       → Walking d v after held (i + 1)
-  walking-next d v columns label i held after w l h a =
-      record {
-        low = omega arith;
-        long = ap length a ∙ length-set columns (cellWord starts (cellAt cells i)) label ∙ w .long;
-        left =
-            ap₂ (λ (s : List ℕ) (u : ℕ). exchanged s u (drop (i + 1) words)) (a ∙ ap (λ (n : ℕ). set columns n label) here) (h ∙ ap (λ (n : ℕ). getD columns n 0) here)
-            ∙ ap (λ (n : ℕ). exchanged (set columns (getD words i 0) label) (getD columns (getD words i 0) 0) (drop n words)) (add-one i)
-            ∙ sym (exchanged-next columns label words i (let q = words-length in omega arith))
-            ∙ w .left;
-      }
-    where
-      here : cellWord starts (cellAt cells i) ≡ getD words i 0
-      here = sym (words-get i l)
+  unfolding Walking
+  walking-next = along-next starts (cellsOf cells) (length cells / 2) (cellAt cells) cells-count cells-each
 
   pub walking-end : (d : List ℕ) (v : ℕ) (columns : List ℕ) (label i : ℕ) → 0 < length cells / 2
       → v ≡ getD d (cellWord starts (cellAt cells (length cells / 2 - 1))) 0
       → Walking d v columns label i
       → length cells / 2 ≤ i
       → Moved starts (cellsOf cells) d columns
-  walking-end d v columns label i p e w l =
-      walked starts (cellsOf cells) d columns (let q = column-length (cellAt cells) (length cells / 2) in omega arith)
-      (sym (exchanged-none columns label words i (let q = words-length in omega arith))
-      ∙ w .left
-      ∙ ap (λ (u : ℕ). exchanged d u words)
-      (e
-      ∙ ap (λ (n : ℕ). getD d n 0)
-      (sym (words-get (length cells / 2 - 1) (omega arith))
-      ∙ ap (λ (n : ℕ). getD words (n - 1) 0) (sym (column-length (cellAt cells) (length cells / 2))))))
+  unfolding Walking
+  walking-end = along-end starts (cellsOf cells) (length cells / 2) (cellAt cells) cells-count cells-each
 
-  -- a cell of the cycle, and its word
-  pub cell-fits : (n i : ℕ) → All (λ (x : Cell). (x .polynomial < 72) × (cellWord starts x < n)) (cellsOf cells) → i < length cells / 2
-      → (cellAt cells i .polynomial < 72) × (cellWord starts (cellAt cells i) < n)
-  cell-fits n i a l =
-      subst (λ (x : Cell). (x .polynomial < 72) × (cellWord starts x < n))
-      (get-column (cellAt cells) (length cells / 2) i (cellAt cells 0) l)
-      (all-get (λ (x : Cell). (x .polynomial < 72) × (cellWord starts x < n)) (cellsOf cells) a i (cellAt cells 0)
-      (let e = column-length (cellAt cells) (length cells / 2) in omega arith))
+  pub cell-fits : (m i : ℕ) → All (λ (x : Cell). (x .polynomial < 72) × (cellWord starts x < m)) (cellsOf cells) → i < length cells / 2
+      → (cellAt cells i .polynomial < 72) × (cellWord starts (cellAt cells i) < m)
+  cell-fits = along-cell starts (cellsOf cells) (length cells / 2) (cellAt cells) cells-count cells-each
 
   pub walking-fits : (d : List ℕ) (v : ℕ) (columns : List ℕ) (label i : ℕ) → Walking d v columns label i
       → All (λ (x : Cell). (x .polynomial < 72) × (cellWord starts x < length d)) (cellsOf cells)
       → i < length cells / 2
       → (cellAt cells i .polynomial < 72) × (cellWord starts (cellAt cells i) < length columns)
-  walking-fits d v columns label i w a l =
-      cell-fits (length columns) i
-      (subst (λ (n : ℕ). All (λ (x : Cell). (x .polynomial < 72) × (cellWord starts x < n)) (cellsOf cells)) (sym (w .long)) a)
-      l
+  unfolding Walking
+  walking-fits = along-fits starts (cellsOf cells) (length cells / 2) (cellAt cells) cells-count cells-each
 
 -- ---- cycle after cycle
 pub record Turning (rows : ℕ) (ps lengths cells d : List ℕ) (at : ℕ) (columns : List ℕ) (start i : ℕ) : Type 0 where

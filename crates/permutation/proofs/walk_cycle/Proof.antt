@@ -83,6 +83,7 @@ loop-again c =
     (c .before .before .exchange .ensures .1)
 
 same-length : tie.Need-same-length Inv-loop μ-loop
+unfolding Walking
 same-length c = search needs
 
 returns : tie.Need-returns Inv-loop μ-loop
