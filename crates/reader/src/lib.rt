@@ -12,8 +12,8 @@ use contents::WIDTHS;
 use contents::section;
 use contents::word;
 ghost use mathlib.Core.Path.{_≡_};
-ghost use Prim.Native.Nat.{_<_, _/_};
-ghost use lib.ListN.{getD, length};
+ghost use Prim.Native.Nat.{_<_};
+ghost use lib.ListN.{getD};
 ghost use Rattle.backend.specs.Circuit.{Section, sectionAt, bodyOf, wordK, circuitOf, numNodes};
 ghost use Rattle.backend.specs.Laid.{Laid};
 
