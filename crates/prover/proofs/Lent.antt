@@ -23,7 +23,7 @@ use Rattle.expression.specs.declared.poly.Layout.{Layout}
 use Rattle.expression.specs.declared.value.Point.{Point}
 use Rattle.expression.proofs.Within.{anything, within-anything}
 use Rattle.expression.proofs.Agree.{agree-value}
-use Rattle.backend.specs.Circuit.{Pair, pairAt, Section, circuitOf, bodyOf, entries, startOf, rowsOf, numInstance, numPreprocess, numWitness}
+use Rattle.backend.specs.Circuit.{Pair, pairAt, Section, circuitOf, wordK, bodyOf, entries, startOf, rowsOf, numInstance, numPreprocess, numWitness}
 use Rattle.backend.specs.Constraints.{inputsOf, tablesOf}
 use Rattle.prover.specs.Log.{Log}
 use Rattle.prover.specs.Columns.{powerSum, instancePolys, preprocessPolys, witnessPolys, givenPolys, userEnvironment, compressedAt, inputAt, tableAt, compressedPolys}
@@ -179,6 +179,21 @@ words-get rows (p ∷ ps) (suc q) b l m =
     (let e = column-length f rows in let w = suc-mul q rows in omega arith)
     ∙ words-get rows ps q b (omega arith) m
 
+-- a preprocess column's value in the circuit words
+pub preprocess-word : (ws : List ℕ) (i b : ℕ) → i < entries ws Section.preprocess → b < 2 ^ wordK ws
+    → getD (getD (circuitOf ws .preprocess) i []) b 0 ≡ getD ws (startOf ws Section.preprocess + i * 2 ^ wordK ws + b) 0
+unfolding circuitOf bodyOf
+preprocess-word ws i b h m =
+    let R : ℕ = 2 ^ wordK ws in
+    let body : List ℕ = bodyOf ws Section.preprocess in
+    let n : ℕ = entries ws Section.preprocess in
+    ap (λ (xs : List ℕ). getD xs b 0) (get-column (λ i. take R (drop (i * R) body)) n i [] h)
+    ∙ getD-take R (drop (i * R) body) b 0 m
+    ∙ getD-drop (i * R) body b 0
+    ∙ getD-take (n * R) (drop (startOf ws Section.preprocess) ws) (i * R + b) 0 (grid-lt n R i b h m)
+    ∙ getD-drop (startOf ws Section.preprocess) ws (i * R + b) 0
+    ∙ ap (λ (x : ℕ). getD ws x 0) (omega arith)
+
 -- the words that a log is read from: the circuit's, the witness, the user's challenges and, at the front of the columns, the instance
 -- columns
 pub record Reads (g : Log 𝔾) (l : Layout) (circuit witness columns challenges : List ℕ) : Type 0 where
@@ -202,26 +217,15 @@ module _ (g : Log 𝔾) (l : Layout) (circuit witness columns challenges : List 
   lent-rows : l .rows ≡ rows
   lent-rows = r .given .rows
 
-  -- a preprocess column's value in the circuit words
-  preprocess-word : (i b : ℕ) → i < l .preprocess → b < rows
+  preprocess-here : (i b : ℕ) → i < l .preprocess → b < rows
       → getD (getD (g .circuit .preprocess) i []) b 0 ≡ getD circuit (l .start + i * l .rows + b) 0
-  unfolding circuitOf bodyOf
-  preprocess-word i b h m =
-      let R : ℕ = 2 ^ circuitOf circuit .k in
-      let body : List ℕ = bodyOf circuit Section.preprocess in
-      let n : ℕ = entries circuit Section.preprocess in
-      let same-rows : R ≡ rows = ap (λ c. rowsOf c) (sym (r .circuit-is)) in
-      let hn : i < n = rw (r .preprocess) at h in
-      let inside : i * R + b < n * R = grid-lt n R i b hn (omega arith) in
-      ap (λ (xs : List ℕ). getD xs b 0)
-      (ap (λ c. getD (c .preprocess) i []) (r .circuit-is)
-      ∙ get-column (λ i. take R (drop (i * R) body)) n i [] hn)
-      ∙ getD-take R (drop (i * R) body) b 0 (omega arith)
-      ∙ getD-drop (i * R) body b 0
-      ∙ getD-take (n * R) (drop (startOf circuit Section.preprocess) circuit) (i * R + b) 0 inside
-      ∙ getD-drop (startOf circuit Section.preprocess) circuit (i * R + b) 0
+  unfolding circuitOf
+  preprocess-here i b h m =
+      let same-rows : 2 ^ wordK circuit ≡ rows = ap (λ c. rowsOf c) (sym (r .circuit-is)) in
+      ap (λ c. getD (getD (c .preprocess) i []) b 0) (r .circuit-is)
+      ∙ preprocess-word circuit i b (rw (r .preprocess) at h) (omega arith)
       ∙ ap (λ (x : ℕ). getD circuit x 0)
-      (let e : i * l .rows ≡ i * R = ap (λ (x : ℕ). i * x) (lent-rows ∙ sym same-rows) in
+      (let e : i * l .rows ≡ i * 2 ^ wordK circuit = ap (λ (x : ℕ). i * x) (lent-rows ∙ sym same-rows) in
       let w = r .start in
       omega arith)
 
@@ -282,7 +286,7 @@ module _ (g : Log 𝔾) (l : Layout) (circuit witness columns challenges : List 
           let e = column-length {A = ℕ → 𝔾 .F} (λ i b. el (getD circuit (l .start + i * l .rows + b) 0)) (l .preprocess) in omega arith in
           ap (λ (p : ℕ → 𝔾 .F). p b)
           (get-column (λ i b. el (getD circuit (l .start + i * l .rows + b) 0)) (l .preprocess) i (λ r. 𝔾 .zero) inside)
-          ∙ ap el (sym (preprocess-word i b inside m))
+          ∙ ap el (sym (preprocess-here i b inside m))
           ∙ ap (λ (f : ℕ → 𝔾 .F). f (getD (getD (g .circuit .preprocess) i []) b 0)) (sym (r .el-is))
           ∙ sym
           (ap (λ (p : ℕ → 𝔾 .F). p b)
