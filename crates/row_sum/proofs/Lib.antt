@@ -1,0 +1,2 @@
+pub mod Polys
+pub mod Rows
