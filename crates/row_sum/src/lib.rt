@@ -2,7 +2,7 @@
 use compressed::row_after;
 use expression::poly::Layout;
 use expression::value::Point;
-use expression::value::value;
+use value::value;
 use multilinear::eq_at;
 use prover::rows_of;
 ghost use mathlib.Core.Path.{_≡_};
