@@ -1,2 +1,3 @@
 pub mod Polys
 pub mod Rows
+pub mod Summed

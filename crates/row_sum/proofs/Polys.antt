@@ -19,25 +19,24 @@ use Rattle.expression.proofs.Within.{anything, within-anything}
 use Rattle.expression.proofs.Agree.{agree-value}
 use Rattle.multilinear.specs.EqXY.{eqAt}
 use Rattle.backend.specs.Circuit.{Section, circuitOf, wordK, entries, startOf, numInstance, numPreprocess, numWitness, numCopied, numLookups}
-use Rattle.backend.specs.Laid.{Laid}
-use Rattle.backend.proofs.Sections.{body-length}
 use Rattle.preprocessor.specs.Compose.{numZ}
 use Rattle.prover.specs.Columns.{preprocessPolys, witnessPolys}
 use Rattle.prover.proofs.Lent.{preprocess-word}
 use Rattle.calls.specs.Build.{logOf}
 use Rattle.calls.specs.RowSum.{lentPolys, lentEnvironment}
 use Rattle.completeness.proofs.SameRows.{Same, same-refl, same-append, same-column, same-at}
+use Rattle.prepare.specs.Prepared.{Accepted}
+use Rattle.prepare.proofs.Accepted.{instances-entries}
 use Rattle.row_sum.specs.Sum.{sumLayout}
 
-module _ (ws witness columns : List ℕ) (laid : Laid ws) where
+module _ (ws witness columns : List ℕ) (accepted : Accepted ws) where
   abbrev rows : ℕ
   rows = 2 ^ wordK ws
 
-  pub instances-are : entries ws Section.instances ≡ numInstance (circuitOf ws)
-  unfolding circuitOf
-  instances-are = let e = body-length ws laid Section.instances in omega arith
+  abbrev instances-are : entries ws Section.instances ≡ numInstance (circuitOf ws)
+  instances-are = instances-entries ws accepted
 
-  pub preprocess-count : numPreprocess (circuitOf ws) ≡ entries ws Section.preprocess
+  preprocess-count : numPreprocess (circuitOf ws) ≡ entries ws Section.preprocess
   unfolding circuitOf
   preprocess-count = column-length _ (entries ws Section.preprocess)
 
@@ -91,7 +90,7 @@ module _ (ws witness columns : List ℕ) (laid : Laid ws) where
       (same-append 𝔾 rows _ _ _ _ (same _ _ permutation-same) (same _ _ rest-same))))
 
 -- at a point whose EqXY is that of its row, an expression has the value of that row
-module _ (ws witness columns challenges y : List ℕ) (laid : Laid ws) (p : Point) (k-is : p .k ≡ circuitOf ws .k) (small : p .k < 21)
+module _ (ws witness columns challenges y : List ℕ) (accepted : Accepted ws) (p : Point) (k-is : p .k ≡ circuitOf ws .k) (small : p .k < 21)
     (inside : p .row < 2 ^ p .k) (eq-is : p .eq ≡ val (eqAt 𝔾 (p .k) (λ i. el (getD y i 0)) (p .row))) where
   same-rows : 2 ^ wordK ws ≡ 2 ^ p .k
   unfolding circuitOf
@@ -108,7 +107,7 @@ module _ (ws witness columns challenges y : List ℕ) (laid : Laid ws) (p : Poin
         same-el = refl;
         same-eq = λ i u. ap el eq-is ∙ el-val _ ∙ ap (λ (k : ℕ). eqAt 𝔾 k (λ i. el (getD y i 0)) (p .row)) k-is;
         same-poly = λ q r u.
-            same-at 𝔾 (2 ^ wordK ws) _ _ (sum-polys ws witness columns laid) q (rotated (p .k) (p .row) r)
+            same-at 𝔾 (2 ^ wordK ws) _ _ (sum-polys ws witness columns accepted) q (rotated (p .k) (p .row) r)
             (let w = rotated-lt (p .k) (omega arith) (p .row) r inside in let s = same-rows in omega arith)
             ∙ ap (λ (k : ℕ). polyOf 𝔾 (lentPolys ws witness columns) q (rotated k (p .row) r)) k-is;
         same-challenge = λ i u. refl;
