@@ -18,7 +18,7 @@ use Rattle.preprocessor.specs.Compose.{composedWords}
 use Rattle.calls.specs.Build.{Lent, buildQuestions, checkBuild, columnWords, q12, q13}
 use Rattle.calls.specs.RowSum.{LentSum, sumQuestions, checkSum, q16}
 
-numbered : All Numbered circuitQuestions
+pub numbered : All Numbered circuitQuestions
 unfolding circuitQuestions
 numbered = omega arith
 

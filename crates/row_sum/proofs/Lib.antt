@@ -1,3 +1,5 @@
 pub mod Polys
 pub mod Rows
 pub mod Summed
+pub mod Sixteen
+pub mod Answer

@@ -4,7 +4,11 @@ use expression::poly::Layout;
 use expression::value::Point;
 use value::value;
 use multilinear::eq_at;
+use prepare::column_words;
+use prepare::composed_nodes;
+use preprocessor::Numbers;
 use prover::rows_of;
+use words::all_below;
 ghost use mathlib.Core.Path.{_≡_};
 ghost use Prim.Native.Nat.{_-_, _^_, _<_};
 ghost use Rattle.field.specs.Field.{𝔾, el, val};
@@ -13,8 +17,68 @@ ghost use Rattle.expression.specs.Nodes.{exprOf};
 ghost use Rattle.expression.specs.Value.{valueAt};
 ghost use Rattle.backend.specs.Circuit.{circuitOf};
 ghost use Rattle.preprocessor.specs.Compose.{composedNodes};
+ghost use Rattle.preprocessor.specs.Pieces.{numbersOf};
 ghost use Rattle.calls.specs.RowSum.{lentEnvironment, sumOf};
-ghost use Rattle.row_sum.specs.Sum.{Summable};
+ghost use Rattle.prepare.specs.Prepared.{Accepted};
+ghost use Rattle.row_sum.specs.Sum.{lengthsRight, valuesSmall, sumLayout, Summable};
+
+// p
+const MODULUS: u64 = 18446744069414584321;
+
+// Where the polynomials stand that the row sum reads.
+pub fn sum_layout(circuit: &[u64], v: Numbers) -> Layout
+    requires { ⌜ Accepted (now circuit) × (v ≡ numbersOf (circuitOf (now circuit))) ⌝ }
+    ensures { λ r. ⌜ r ≡ sumLayout (now (circuit .entry)) ⌝ }
+{
+    let instances = circuit[3] as usize;
+    let start = circuit[4] as usize;
+    let preprocess = circuit[5] as usize;
+    Layout {
+        rows: v.rows,
+        instances: instances,
+        preprocess: preprocess,
+        start: start,
+        witness: v.polys - instances - preprocess,
+        permutations: v.copied,
+        skipped: v.lookups * 2,
+        rest: v.lookups * 2 + v.parts,
+    }
+}
+
+// Question 16, of the lengths of the words.
+fn lengths_right(
+    circuit: &[u64],
+    v: Numbers,
+    witness: usize,
+    columns: usize,
+    nodes: usize,
+    challenges: usize,
+    y: usize,
+) -> bool
+    requires { ⌜ Accepted (now circuit) × ((v ≡ numbersOf (circuitOf (now circuit))) × (nodes < 2 ^ 62)) ⌝ }
+    ensures { λ r. ⌜ r ≡ lengthsRight (circuitOf (now (circuit .entry))) witness columns nodes challenges y ⌝ }
+{
+    let layout = sum_layout(circuit, v);
+    let words = column_words(circuit, v);
+    let composed = composed_nodes(circuit, v);
+    let k = circuit[0] as usize;
+    (witness == layout.witness * layout.rows)
+        & (columns == words)
+        & (challenges == v.user + 3)
+        & (y == k)
+        & (nodes as u64 == composed * 4)
+}
+
+// Question 16, of the values.
+fn values_small(witness: &[u64], columns: &[u64], challenges: &[u64], y: &[u64]) -> bool
+    ensures { λ r. ⌜ r ≡ valuesSmall (now (witness .entry)) (now (columns .entry)) (now (challenges .entry)) (now (y .entry)) ⌝ }
+{
+    let first = all_below(witness, MODULUS);
+    let second = all_below(columns, MODULUS);
+    let third = all_below(challenges, MODULUS);
+    let fourth = all_below(y, MODULUS);
+    first & second & third & fourth
+}
 
 // The value of the last node at one row, EqXY(0) at that row with it.
 fn row_value(
