@@ -1,4 +1,6 @@
 // The row sum: question 16, and the sum of the composed expression over the rows.
+use calls::RowSum;
+use composed::same_nodes;
 use compressed::row_after;
 use expression::poly::Layout;
 use expression::value::Point;
@@ -6,20 +8,24 @@ use value::value;
 use multilinear::eq_at;
 use prepare::column_words;
 use prepare::composed_nodes;
+use prepare::copied_of;
+use prepare::numbers;
 use preprocessor::Numbers;
 use prover::rows_of;
+use questions::first_no;
 use words::all_below;
 ghost use mathlib.Core.Path.{_≡_};
-ghost use Prim.Native.Nat.{_-_, _^_, _<_};
+ghost use Prim.Native.Nat.{_-_, _^_, _≤_, _<_};
+ghost use lib.ListN.{take};
 ghost use Rattle.field.specs.Field.{𝔾, el, val};
 ghost use Rattle.bh.specs.Rows.{rowAt};
 ghost use Rattle.expression.specs.Nodes.{exprOf};
 ghost use Rattle.expression.specs.Value.{valueAt};
-ghost use Rattle.backend.specs.Circuit.{circuitOf};
+ghost use Rattle.backend.specs.Circuit.{circuitOf, copied};
 ghost use Rattle.preprocessor.specs.Compose.{composedNodes};
 ghost use Rattle.preprocessor.specs.Pieces.{numbersOf};
-ghost use Rattle.calls.specs.RowSum.{lentEnvironment, sumOf};
-ghost use Rattle.prepare.specs.Prepared.{Accepted};
+ghost use Rattle.calls.specs.RowSum.{q16, lentEnvironment, sumOf, rowSumOf};
+ghost use Rattle.prepare.specs.Prepared.{Accepted, Prepared};
 ghost use Rattle.row_sum.specs.Sum.{lengthsRight, valuesSmall, sumLayout, Summable};
 
 // p
@@ -78,6 +84,37 @@ fn values_small(witness: &[u64], columns: &[u64], challenges: &[u64], y: &[u64])
     let third = all_below(challenges, MODULUS);
     let fourth = all_below(y, MODULUS);
     first & second & third & fourth
+}
+
+// Question 16.
+pub fn question_16(
+    circuit: &[u64],
+    witness: &[u64],
+    columns: &[u64],
+    nodes: &[u64],
+    challenges: &[u64],
+    y: &[u64],
+    copied: &[u64],
+    v: Numbers,
+) -> bool
+    requires { ⌜ Prepared (now circuit) (now copied) v ⌝ }
+    ensures { λ r. ⌜ r ≡ q16 (circuitOf (now (circuit .entry))) (now (witness .entry)) (now (columns .entry)) (now (nodes .entry)) (now (challenges .entry)) (now (y .entry)) ⌝ }
+{
+    if !lengths_right(
+        circuit,
+        v,
+        witness.len(),
+        columns.len(),
+        nodes.len(),
+        challenges.len(),
+        y.len(),
+    ) {
+        return false;
+    }
+    if !same_nodes(circuit, copied, v, nodes) {
+        return false;
+    }
+    values_small(witness, columns, challenges, y)
 }
 
 // The value of the last node at one row, EqXY(0) at that row with it.
@@ -151,4 +188,79 @@ pub fn sum_rows(
         place += 1;
     }
     sum
+}
+
+// The row sum of circuit words for which questions 1 to 11 are yes.
+fn sum_prepared(
+    circuit: &[u64],
+    witness: &[u64],
+    columns: &[u64],
+    nodes: &[u64],
+    challenges: &[u64],
+    y: &[u64],
+    copied: &[u64],
+    v: Numbers,
+) -> RowSum
+    requires { ⌜ Prepared (now circuit) (now copied) v ⌝ }
+    ensures { λ r. ⌜ r ≡ rowSumOf (now (circuit .entry)) (now (witness .entry)) (now (columns .entry)) (now (nodes .entry)) (now (challenges .entry)) (now (y .entry)) ⌝ }
+{
+    if !question_16(circuit, witness, columns, nodes, challenges, y, copied, v) {
+        return RowSum { number: 16, sum: 0 };
+    }
+    let layout = sum_layout(circuit, v);
+    let k = circuit[0] as usize;
+    let sum = sum_rows(circuit, witness, columns, nodes, challenges, y, layout, k);
+    RowSum {
+        number: 0,
+        sum: sum,
+    }
+}
+
+// The same, with the copied columns as the first `count` of an array.
+fn sum_named(
+    circuit: &[u64],
+    witness: &[u64],
+    columns: &[u64],
+    nodes: &[u64],
+    challenges: &[u64],
+    y: &[u64],
+    of: &[u64; 72],
+    count: usize,
+) -> RowSum
+    requires { ⌜ Accepted (now circuit) × ((count ≤ 72) × (take count (now of) ≡ copied (circuitOf (now circuit)))) ⌝ }
+    ensures { λ r. ⌜ r ≡ rowSumOf (now (circuit .entry)) (now (witness .entry)) (now (columns .entry)) (now (nodes .entry)) (now (challenges .entry)) (now (y .entry)) ⌝ }
+{
+    let all = &of[..];
+    let v = numbers(circuit, count);
+    sum_prepared(
+        circuit,
+        witness,
+        columns,
+        nodes,
+        challenges,
+        y,
+        &all[0..count],
+        v,
+    )
+}
+
+// The row sum: the number of the first question that is answered no and the sum 0, or 0 and the sum.
+pub fn row_sum(
+    circuit: &[u64],
+    witness: &[u64],
+    columns: &[u64],
+    nodes: &[u64],
+    challenges: &[u64],
+    y: &[u64],
+) -> RowSum
+    ensures { λ r. ⌜ r ≡ rowSumOf (now (circuit .entry)) (now (witness .entry)) (now (columns .entry)) (now (nodes .entry)) (now (challenges .entry)) (now (y .entry)) ⌝ }
+{
+    let no = first_no(circuit);
+    if no != 0 {
+        return RowSum { number: no, sum: 0 };
+    }
+    let names = copied_of(circuit);
+    let count = names.count;
+    let of = names.of;
+    sum_named(circuit, witness, columns, nodes, challenges, y, &of, count)
 }

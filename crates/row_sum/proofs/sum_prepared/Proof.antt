@@ -1,0 +1,42 @@
+-- `sum_prepared` meets its contract: a yes to 16 tells what the sum requires. Assumes nothing.
+use native.Mathlib.Omega.{arith}
+use Rattle.prepare.proofs.Accepted.{laid-of}
+use Rattle.row_sum.proofs.Answer.{refused-late, summable, answered}
+use borrow.Author.Needs.{needs}
+use Rattle.row_sum.proofs.sum_prepared.Statement.{statement}
+use Rattle.row_sum.proofs.sum_prepared.Tie as tie
+
+question-16-requires : tie.Need-question-16-requires
+question-16-requires c κs = search needs
+
+returns : tie.Need-returns
+returns c =
+    let a = c .before .before .before .before .before .before .before .before .before .args in
+    refused-late (a .circuit .now) (a .witness .now) (a .columns .now) (a .nodes .now) (a .challenges .now) (a .y .now) (c .before .before .before .before .before .before .before .before .before .pre .accepted) _ (c .before .question-16 .ensures) (c .if1 .taken)
+
+sum-layout-requires : tie.Need-sum-layout-requires
+sum-layout-requires c κs = search needs
+
+shared-slice-read-k : tie.Need-shared-slice-read-k
+shared-slice-read-k c = omega (arith, laid-of (c .before .before .before .before .before .before .before .before .before .before .before .args .circuit .now) (c .before .before .before .before .before .before .before .before .before .before .before .pre .accepted) .long)
+
+sum-rows-requires : tie.Need-sum-rows-requires
+sum-rows-requires c κs =
+    let a = c .before .before .before .before .before .before .before .before .before .before .before .args in
+    summable (a .circuit .now) (a .witness .now) (a .columns .now) (a .nodes .now) (a .challenges .now) (a .y .now) (c .before .before .before .before .before .before .before .before .before .before .before .pre .accepted) _ (c .before .before .before .question-16 .ensures) (c .before .before .if1 .left) _ (c .before .sum-layout .ensures)
+
+returns-2 : tie.Need-returns-2
+returns-2 c =
+    let a = c .before .before .before .before .before .before .before .before .before .before .before .before .args in
+    answered (a .circuit .now) (a .witness .now) (a .columns .now) (a .nodes .now) (a .challenges .now) (a .y .now) (c .before .before .before .before .before .before .before .before .before .before .before .before .pre .accepted) _ (c .before .before .before .before .question-16 .ensures) (c .before .before .before .if1 .left) _ (c .sum-rows .ensures)
+
+pub sum-prepared-spec : {M : Type 1} → statement M
+sum-prepared-spec =
+    tie.close
+    (tie.spec
+    question-16-requires
+    returns
+    sum-layout-requires
+    shared-slice-read-k
+    sum-rows-requires
+    returns-2)
