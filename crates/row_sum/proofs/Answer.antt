@@ -35,7 +35,7 @@ module _ (ws witness columns nodes challenges y : List ℕ) where
   abbrev number : ℕ
   number = checkSum ws witness columns nodes challenges y
 
-  by-number : (n : ℕ) → number ≡ n
+  pub by-number : (n : ℕ) → number ≡ n
       → rowSumOf ws witness columns nodes challenges y
       ≡ cond (eqb n 0) (record { number = 0; sum = val (sumOf ws witness columns nodes challenges y) }) (record { number = n; sum = 0 })
   unfolding rowSumOf

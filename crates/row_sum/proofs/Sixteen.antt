@@ -1,8 +1,8 @@
 -- Question 16 in parts: the lengths, then the node words, then the values. Assumes nothing.
 use mathlib.Core.Path.{_≡_, refl, sym, ap, ap₂, _∙_}
 use mathlib.Core.Bool.{Bool, true, false, not, _&&_}
-use mathlib.Core.List.{List, [], _∷_}
-use Prim.Native.Nat.{ℕ, suc, _+_, _-_, _*_, _^_, _≤_, _<_, min}
+use mathlib.Core.List.{List}
+use Prim.Native.Nat.{ℕ, _+_, _-_, _*_, _^_, _≤_, _<_, min}
 use native.Mathlib.Decide.{decLt}
 use native.Mathlib.Omega.{arith}
 use lib.Dec.{eqb, ltb}
@@ -11,6 +11,7 @@ use borrow.Author.Tests.{eq-eqb, ne-eqb, eqb-true}
 use Rattle.field.specs.Prime.{P}
 use Rattle.util.specs.Lists.{allOf, sameWords}
 use Rattle.util.proofs.Tests.{false-true, by-test, and-left, and-right}
+use Rattle.util.proofs.Same.{words-same}
 use Rattle.expression.specs.Flat.{flat}
 use Rattle.expression.specs.declared.poly.Layout.{Layout}
 use Rattle.expression.proofs.FlatLength.{flat-length}
@@ -29,19 +30,12 @@ use Rattle.prepare.proofs.Accepted as known
 use Rattle.row_sum.specs.Sum.{lengthsRight, valuesSmall, sumLayout}
 
 -- ---- words that are the same are as many
-same-length : (xs ys : List ℕ) → sameWords xs ys ≡ true → length xs ≡ length ys
-unfolding sameWords
-same-length [] [] e = refl
-same-length [] (y ∷ ys) e = false-true e
-same-length (x ∷ xs) [] e = false-true e
-same-length (x ∷ xs) (y ∷ ys) e = ap suc (same-length xs ys (and-right (eqb x y) (sameWords xs ys) e))
-
 composed-length : (c : Circuit) → length (composedWords c) ≡ composedNodes c * 4
 unfolding composedWords composedNodes
 composed-length c = flat-length (compose c) 0
 
 same-many : (c : Circuit) (nodes : List ℕ) → sameWords nodes (composedWords c) ≡ true → length nodes ≡ composedNodes c * 4
-same-many c nodes e = same-length nodes (composedWords c) e ∙ composed-length c
+same-many c nodes e = ap (λ (ws : List ℕ). length ws) (words-same nodes (composedWords c) e) ∙ composed-length c
 
 -- ---- over tests: x the other lengths, l and s the node words, a to d the values
 module _ (x l s a b c d : Bool) where
@@ -116,6 +110,12 @@ module _ (c : Circuit) (witness columns nodes challenges y : List ℕ) where
       let three : Bool =
       eqb (length witness) (numWitness c * rowsOf c) && eqb (length columns) (columnWords c) && eqb (length challenges) (numUser c + 3) in
       (eqb-true (length y) (c .k) (and-right three (eqb (length y) (c .k)) (p .0)), same-many c nodes (p .1))
+
+  pub sixteen-nodes : q16 c witness columns nodes challenges y ≡ true → nodes ≡ composedWords c
+  unfolding q16
+  sixteen-nodes e =
+      words-same nodes (composedWords c)
+      (yes-lengths others many same (allOf small witness) (allOf small columns) (allOf small challenges) (allOf small y) e .1)
 
 -- ---- the lengths, from numbers
 

@@ -27,6 +27,7 @@ ghost use Rattle.preprocessor.specs.Pieces.{numbersOf};
 ghost use Rattle.calls.specs.RowSum.{q16, lentEnvironment, sumOf, rowSumOf};
 ghost use Rattle.prepare.specs.Prepared.{Accepted, Prepared};
 ghost use Rattle.row_sum.specs.Sum.{lengthsRight, valuesSmall, sumLayout, Summable};
+ghost use Rattle.row_sum.specs.Told.{Told};
 
 // p
 const MODULUS: u64 = 18446744069414584321;
@@ -254,6 +255,7 @@ pub fn row_sum(
     y: &[u64],
 ) -> RowSum
     ensures { λ r. ⌜ r ≡ rowSumOf (now (circuit .entry)) (now (witness .entry)) (now (columns .entry)) (now (nodes .entry)) (now (challenges .entry)) (now (y .entry)) ⌝ }
+    ensures told { λ r. ⌜ Told (now (circuit .entry)) (now (witness .entry)) (now (columns .entry)) (now (nodes .entry)) (now (challenges .entry)) (now (y .entry)) r ⌝ }
 {
     let no = first_no(circuit);
     if no != 0 {

@@ -1,6 +1,7 @@
--- `row_sum` meets its contract. Assumes nothing.
+-- `row_sum` meets its contracts: the answer is that of its definition, and so is what demand 3 says of it. Assumes nothing.
 use borrow.Author.Needs.{needs}
 use Rattle.row_sum.proofs.Answer.{refused-early}
+use Rattle.row_sum.proofs.Told.{both}
 use Rattle.row_sum.proofs.row_sum.Statement.{statement}
 use Rattle.row_sum.proofs.row_sum.Tie as tie
 
@@ -10,7 +11,8 @@ first-no-requires c κs = search needs
 returns : tie.Need-returns
 returns c =
     let a = c .before .before .before .before .before .before .before .before .args in
-    refused-early (a .circuit .now) (a .witness .now) (a .columns .now) (a .nodes .now) (a .challenges .now) (a .y .now) _ (c .before .first-no .ensures) (c .if1 .taken)
+    both (a .circuit .now) (a .witness .now) (a .columns .now) (a .nodes .now) (a .challenges .now) (a .y .now) _
+    (refused-early (a .circuit .now) (a .witness .now) (a .columns .now) (a .nodes .now) (a .challenges .now) (a .y .now) _ (c .before .first-no .ensures) (c .if1 .taken))
 
 copied-of-requires : tie.Need-copied-of-requires
 copied-of-requires c κs = search needs
@@ -19,7 +21,9 @@ sum-named-requires : tie.Need-sum-named-requires
 sum-named-requires c κs = search needs
 
 returns-2 : tie.Need-returns-2
-returns-2 c = search needs
+returns-2 c =
+    let a = c .before .before .before .before .before .before .before .before .before .before .before .before .args in
+    both (a .circuit .now) (a .witness .now) (a .columns .now) (a .nodes .now) (a .challenges .now) (a .y .now) _ (c .sum-named .ensures)
 
 pub row-sum-spec : {M : Type 1} → statement M
 row-sum-spec =
