@@ -1,6 +1,6 @@
 -- A sum of a value for each row, through the row order. Assumes nothing.
 use mathlib.Core.Path.{_≡_, sym, ap, ap₂, _∙_}
-use Prim.Native.Nat.{ℕ, suc, _+_, _^_, _<_}
+use Prim.Native.Nat.{ℕ, _+_, _^_, _<_}
 use native.Mathlib.Numerals.{add-one}
 use lib.Dec.{lit<}
 use Rattle.field.specs.Prime.{P}

@@ -12,10 +12,9 @@ use Rattle.field.specs.Prime.{P}
 use Rattle.util.specs.Lists.{allOf, sameWords}
 use Rattle.util.proofs.Tests.{false-true, by-test, and-left, and-right}
 use Rattle.util.proofs.Same.{words-same}
-use Rattle.expression.specs.Flat.{flat}
 use Rattle.expression.specs.declared.poly.Layout.{Layout}
 use Rattle.expression.proofs.FlatLength.{flat-length}
-use Rattle.backend.specs.Circuit.{Circuit, Section, circuitOf, wordK, entries, rowsOf, numWitness, numUser, numPoly}
+use Rattle.backend.specs.Circuit.{Circuit, circuitOf, rowsOf, numWitness, numUser}
 use Rattle.backend.specs.Questions.{small}
 use Rattle.backend.proofs.Answers.{says-no, says-yes}
 use Rattle.backend.proofs.Numbers.{polys}

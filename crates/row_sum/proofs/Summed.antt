@@ -6,7 +6,6 @@ use native.Mathlib.Omega.{arith}
 use lib.ListN.{length, getD}
 use Rattle.field.specs.Field.{𝔾, el, val}
 use Rattle.bh.specs.Rows.{rowAt}
-use Rattle.expression.specs.Expr.{Expr}
 use Rattle.expression.specs.Nodes.{exprOf}
 use Rattle.expression.specs.Value.{valueAt}
 use Rattle.expression.specs.Reader.{Small}
@@ -15,7 +14,7 @@ use Rattle.expression.specs.declared.poly.Layout.{Layout}
 use Rattle.expression.specs.declared.value.Point.{Point}
 use Rattle.multilinear.specs.EqXY.{eqAt}
 use Rattle.backend.specs.Circuit.{circuitOf, wordK}
-use Rattle.preprocessor.specs.Compose.{compose, composedNodes}
+use Rattle.preprocessor.specs.Compose.{composedNodes}
 use Rattle.prover.specs.Lookup.{sumRows}
 use Rattle.prover.proofs.Rows.{row-in, placed-at}
 use Rattle.calls.specs.RowSum.{lentEnvironment, sumOf}

@@ -1,14 +1,12 @@
 -- What demand 3 says of the row sum holds of what its definition gives. Assumes nothing.
 use mathlib.Core.Path.{_≡_, refl, sym, ap, _∙_}
-use mathlib.Core.Bool.{Bool, true, false, cond}
-use mathlib.Core.List.{List, [], _∷_, map}
+use mathlib.Core.Bool.{Bool, true, cond}
+use mathlib.Core.List.{List, map}
 use Prim.Native.Nat.{ℕ, _-_}
 use native.Mathlib.Decide.{ℕ-discrete}
-use lib.Dec.{eqb}
-use lib.ListN.{length, getD}
 use borrow.Author.Tests.{ne-eqb}
 use Rattle.field.specs.Field.{𝔾, val}
-use Rattle.util.specs.Lists.{askedOf, firstNo}
+use Rattle.util.specs.Lists.{askedOf}
 use Rattle.util.proofs.First.{first-yes, first-both, numbered-of}
 use Rattle.expression.specs.Expr.{Expr}
 use Rattle.expression.specs.Nodes.{exprOf}
@@ -22,7 +20,7 @@ use Rattle.calls.specs.declared.RowSum.{RowSum}
 use Rattle.calls.proofs.ReadsBack.{reads-back}
 use Rattle.completeness.proofs.Asked.{numbered}
 use Rattle.completeness.proofs.DemandThree.{demand-three}
-use Rattle.row_sum.specs.Told.{OfBuild, Told}
+use Rattle.row_sum.specs.Told.{Told}
 use Rattle.row_sum.proofs.Sixteen.{sixteen-nodes}
 use Rattle.row_sum.proofs.Answer.{by-number}
 

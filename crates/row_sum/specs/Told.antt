@@ -10,7 +10,7 @@ use Rattle.expression.specs.Value.{valueAt}
 use Rattle.backend.specs.Circuit.{circuitOf, rowsOf}
 use Rattle.preprocessor.specs.Compose.{compose, composedNodes}
 use Rattle.prover.specs.Lookup.{sumRows}
-use Rattle.calls.specs.Build.{Output, logOf, columnWords, checkBuild, buildOf}
+use Rattle.calls.specs.Build.{logOf, columnWords, checkBuild, buildOf}
 use Rattle.calls.specs.RowSum.{lentEnvironment}
 use Rattle.calls.specs.Meaning.{Each, Premises}
 use Rattle.calls.specs.declared.RowSum.{RowSum}
