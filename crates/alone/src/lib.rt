@@ -1,5 +1,5 @@
 // The stages called alone: "they meet 2, 12, 13, 14 and, for counts, 15".
-use prover::h_column;
+use lookup_h::h_column;
 use prover::m_column;
 use prover::rows_of;
 use words::all_below;

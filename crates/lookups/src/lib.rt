@@ -1,6 +1,6 @@
 // The count and h columns of all lookups, in the one column buffer: lookup j's input starts at word compressed + j * 2 * rows, its
 // table at compressed + (j * 2 + 1) * rows, its counts at m + j * rows, its h at h + j * rows.
-use prover::lookup_h_poly;
+use lookup_h::lookup_h_poly;
 use prover::lookup_m_poly;
 ghost use mathlib.Core.Path.{_≡_};
 ghost use Prim.Native.Nat.{_+_, _*_, _≤_};

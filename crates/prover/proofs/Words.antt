@@ -1,4 +1,4 @@
--- Columns as words, one after another, and the words of h. Assumes nothing.
+-- Columns as words, one after another. Assumes nothing.
 use mathlib.Core.Path.{_≡_, refl, sym, ap, ap₂, _∙_}
 use mathlib.Core.List.{List, [], _∷_, _++_, map, map-append, append-nil}
 use Prim.Native.Nat.{ℕ, zero, suc, _+_, _*_, _≤_, _<_}
@@ -6,14 +6,12 @@ use native.Mathlib.Nat.{suc-mul, zero-mul, add-comm}
 use native.Mathlib.Omega.{arith}
 use lib.ListN.{length, getD, length-append}
 use Rattle.field.specs.Prime.{P}
-use Rattle.field.specs.Field.{𝔾, el, val, addP, subP, mulP, invP, val-lt, val-el, el-add, el-mul, el-sub, el-inv}
-use Rattle.field.proofs.Elements.{subP-lt}
+use Rattle.field.specs.Field.{𝔾, val, val-lt}
 use Rattle.util.specs.Lists.{column, concat, over, All}
 use Rattle.util.proofs.All.{all-join, all-column}
 use Rattle.util.proofs.Columns.{column-length}
 use Rattle.util.proofs.Lists.{concat-end}
 use Rattle.util.proofs.Over.{over-over}
-use Rattle.prover.specs.Lookup.{hAt}
 use Rattle.prover.specs.Words.{wordsOf}
 
 pub words-none : (rows : ℕ) → wordsOf rows [] ≡ []
@@ -53,28 +51,3 @@ words-more rows d ps p at e h =
     ap (λ (m : ℕ). over (over d 0 (wordsOf rows ps)) m (column (λ b. val (p b)) rows)) n
     ∙ over-over d 0 (wordsOf rows ps) (column (λ b. val (p b)) rows) (omega arith)
     ∙ ap (over d 0) (sym (words-end rows ps p))
-
--- ---- a word of h
-
-pub h-word : (input table m γ : ℕ)
-    → subP (invP (addP γ input)) (mulP m (invP (addP γ table))) ≡ val (hAt 𝔾 (el γ) (λ _. el input) (λ _. el table) (λ _. el m) 0)
-unfolding hAt
-h-word input table m γ =
-    let a : ℕ = invP (addP γ input) in
-    let b : ℕ = invP (addP γ table) in
-    let under : (x : ℕ) → el (invP (addP γ x)) ≡ 𝔾 .inv (𝔾 .add (el γ) (el x)) = λ x. el-inv (addP γ x) ∙ ap (𝔾 .inv) (el-add γ x) in
-    sym (val-el (subP a (mulP m b)) (subP-lt a (mulP m b)))
-    ∙ ap val
-    (el-sub a (mulP m b)
-    ∙ ap₂ (λ (x y : 𝔾 .F). 𝔾 .add x (𝔾 .neg y)) (under input) (el-mul m b ∙ ap (𝔾 .mul (el m)) (under table)))
-
--- the word of a row
-pub h-row : (γ : 𝔾 .F) (input table m : ℕ → 𝔾 .F) (b : ℕ)
-    → val (hAt 𝔾 γ (λ _. input b) (λ _. table b) (λ _. m b) 0) ≡ val (hAt 𝔾 γ input table m b)
-unfolding hAt
-h-row γ input table m b = refl
-
--- equal words give equal words
-pub h-same : (γ : 𝔾 .F) (i i' t t' m m' : ℕ) → i ≡ i' → t ≡ t' → m ≡ m'
-    → val (hAt 𝔾 γ (λ _. el i) (λ _. el t) (λ _. el m) 0) ≡ val (hAt 𝔾 γ (λ _. el i') (λ _. el t') (λ _. el m') 0)
-h-same γ i i' t t' m m' a b c = rw (a, b, c)
