@@ -12,7 +12,6 @@ use Rattle.preprocessor.specs.Compose.{compose, composedWords, composedNodes}
 use Rattle.prover.specs.Columns.{writtenPolys}
 use Rattle.calls.specs.Build.{Output, logOf, wordsOf, columnWords, checkBuild, success, buildOf}
 use Rattle.calls.specs.RowSum.{rowSumOf}
-use Rattle.calls.specs.declared.RowSum.{RowSum}
 use Rattle.calls.specs.Meaning.{Each, NoCounts, Premises, Conclusions}
 
 -- what a building call that was lent these words and buffers returned, and what both buffers then held
@@ -59,18 +58,3 @@ abbrev pub DemandThree : Type 0
 DemandThree =
     (ws instances witness challenges columns nodes : List ℕ)
     → DemandThreeAt ws instances witness challenges columns nodes (buildOf ws instances witness challenges columns nodes)
-
--- "The row sum is given that build's circuit words, witness and challenges, any α and any k values y of the field, and the column and
--- node words as written; its number and its sum are both 0": of what a row sum that was lent these words returned
-abbrev pub SumsToNought : List ℕ → List ℕ → List ℕ → List ℕ → List ℕ → List ℕ → RowSum → Type 0
-SumsToNought ws witness columns nodes challenges y returned =
-    (instances own cs ns : List ℕ) (α : ℕ) → checkBuild ws instances witness own cs ns ≡ 0
-    → Premises 𝔾 (logOf ws instances witness own)
-    → buildOf ws instances witness own cs ns .answer .number ≢ 15
-    → columns ≡ take (columnWords (circuitOf ws)) (buildOf ws instances witness own cs ns .columns)
-    → nodes ≡ take (composedNodes (circuitOf ws) * 4) (buildOf ws instances witness own cs ns .nodes)
-    → challenges ≡ own ++ (α ∷ [])
-    → α < P
-    → length y ≡ circuitOf ws .k
-    → Each 0 y (λ v. v < P)
-    → returned ≡ record { number = 0; sum = 0 }

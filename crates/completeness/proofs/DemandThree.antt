@@ -3,7 +3,7 @@ use mathlib.Core.Path.{_≡_, refl, sym, ap, ap₂, _∙_, subst}
 use mathlib.Core.Logic.{_≢_, _↔_}
 use mathlib.Core.Bool.{Bool, true, false}
 use mathlib.Core.List.{List, [], _∷_, _++_}
-use Prim.Native.Nat.{ℕ, zero, _-_, _*_, _<_}
+use Prim.Native.Nat.{ℕ, zero, _-_, _<_}
 use native.Mathlib.Omega.{arith}
 use lib.ListN.{length, getD, take, length-map, length-take}
 use Rattle.field.specs.Prime.{P}
@@ -18,11 +18,10 @@ use Rattle.preprocessor.specs.Compose.{compose, composedWords, composedNodes}
 use Rattle.prover.specs.Log.{Log}
 use Rattle.prover.specs.Columns.{allCovered, writtenPolys, composedEnvironment}
 use Rattle.prover.proofs.Words.{words-small}
-use Rattle.calls.specs.Build.{Output, logOf, wordsOf, columnWords, checkBuild, buildOf, made, zeroed}
+use Rattle.calls.specs.Build.{Output, logOf, wordsOf, checkBuild, buildOf, made, zeroed}
 use Rattle.calls.specs.RowSum.{rowSumOf, sumOf, lentEnvironment}
-use Rattle.calls.specs.declared.RowSum.{RowSum}
 use Rattle.calls.specs.Meaning.{Each, Admitted, Premises, Conclusions}
-use Rattle.calls.specs.Demand.{Succeeds, Demand3, DemandThreeAt, DemandThree, SumsToNought}
+use Rattle.calls.specs.Demand.{Succeeds, Demand3, DemandThreeAt, DemandThree}
 use Rattle.calls.proofs.Embeds.{embeds, val-zero}
 use Rattle.calls.proofs.Building.{columns-length, fifteen-by, built-by, written-by}
 use Rattle.calls.proofs.ReadsBack.{reads-back}
@@ -138,19 +137,3 @@ pub demand-three-at : (ws instances witness challenges columns nodes : List ℕ)
 demand-three-at ws instances witness challenges columns nodes output e asked =
     subst (λ (o : Output). Demand3 ws instances witness challenges columns nodes o) (sym e)
     (demand-3 ws instances witness challenges columns nodes asked)
-
-pub sums-to-nought : (ws witness columns nodes challenges y : List ℕ) (returned : RowSum)
-    → returned ≡ rowSumOf ws witness columns nodes challenges y
-    → SumsToNought ws witness columns nodes challenges y returned
-sums-to-nought ws witness columns nodes challenges y returned e instances own cs ns α asked p n c-is n-is ch-is a h s =
-    let d = demand-3 ws instances witness own cs ns asked .otherwise p n in
-    e
-    ∙ ap₂ (λ (x z : List ℕ). rowSumOf ws witness x z challenges y) c-is n-is
-    ∙ ap
-    (λ (x : List ℕ).
-    rowSumOf ws witness (take (columnWords (circuitOf ws)) (buildOf ws instances witness own cs ns .columns))
-    (take (composedNodes (circuitOf ws) * 4) (buildOf ws instances witness own cs ns .nodes))
-    x
-    y)
-    ch-is
-    ∙ d .row-sum α y a h s

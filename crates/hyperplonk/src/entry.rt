@@ -2,6 +2,8 @@
 use alone::eq_xy;
 use alone::lookup_h_poly;
 use alone::lookup_m_poly;
+use building::build;
+use row_sum::row_sum;
 ghost use mathlib.Core.Path.{_≡_};
 ghost use Rattle.calls.specs.Stages.{mOf, hOf, eqOf};
 
@@ -36,4 +38,63 @@ pub extern "C" fn hyperplonk_eq_xy(k: u64, y: &[u64], out: &mut [u64]) -> u64
     ensures { λ r. ⌜ record { number = r; out = now (out .exit) } ≡ eqOf k (now (y .entry)) (now (out .entry)) ⌝ }
 {
     eq_xy(k, y, out)
+}
+
+// One word of an answer; an empty one is left as it is.
+fn answer_one(answer: &mut [u64], a: u64)
+    ensures { λ _. ⌜ now (answer .exit) ≡ answered (a ∷ []) (now (answer .entry)) ⌝ }
+{
+    if answer.len() >= 1 {
+        answer[0] = a;
+    }
+}
+
+// Three words of an answer; a shorter one is left as it is.
+fn answer_three(answer: &mut [u64], a: u64, b: u64, c: u64)
+    ensures { λ _. ⌜ now (answer .exit) ≡ answered (a ∷ b ∷ c ∷ []) (now (answer .entry)) ⌝ }
+{
+    if answer.len() >= 3 {
+        answer[0] = a;
+        answer[1] = b;
+        answer[2] = c;
+    }
+}
+
+#[no_mangle]
+pub extern "C" fn hyperplonk_build(
+    circuit: &[u64],
+    instance: &[u64],
+    witness: &[u64],
+    challenges: &[u64],
+    columns: &mut [u64],
+    nodes: &mut [u64],
+    answer: &mut [u64],
+) -> u64
+    ensures { λ r. ⌜ record { number = r; columns = now (columns .exit); nodes = now (nodes .exit); answer = now (answer .exit) } ≡ buildEntry (buildOf (now (circuit .entry)) (now (instance .entry)) (now (witness .entry)) (now (challenges .entry)) (now (columns .entry)) (now (nodes .entry))) (now (answer .entry)) ⌝ }
+{
+    let b = build(circuit, instance, witness, challenges, columns, nodes);
+    answer_three(
+        answer,
+        b.column_words as u64,
+        b.nodes as u64,
+        b.z_columns as u64,
+    );
+    b.number
+}
+
+#[no_mangle]
+pub extern "C" fn hyperplonk_row_sum(
+    circuit: &[u64],
+    witness: &[u64],
+    columns: &[u64],
+    nodes: &[u64],
+    challenges: &[u64],
+    y: &[u64],
+    answer: &mut [u64],
+) -> u64
+    ensures { λ r. ⌜ record { number = r; answer = now (answer .exit) } ≡ sumEntry (rowSumOf (now (circuit .entry)) (now (witness .entry)) (now (columns .entry)) (now (nodes .entry)) (now (challenges .entry)) (now (y .entry))) (now (answer .entry)) ⌝ }
+{
+    let s = row_sum(circuit, witness, columns, nodes, challenges, y);
+    answer_one(answer, s.sum);
+    s.number
 }

@@ -5,3 +5,4 @@ pub use alone::eq_xy;
 pub use alone::lookup_h_poly;
 pub use alone::lookup_m_poly;
 pub use building::build;
+pub use row_sum::row_sum;
