@@ -5,7 +5,11 @@ use alone::lookup_m_poly;
 use building::build;
 use row_sum::row_sum;
 ghost use mathlib.Core.Path.{_≡_};
+ghost use mathlib.Core.List.{[], _∷_};
 ghost use Rattle.calls.specs.Stages.{mOf, hOf, eqOf};
+ghost use Rattle.calls.specs.Build.{buildOf};
+ghost use Rattle.calls.specs.RowSum.{rowSumOf};
+ghost use Rattle.calls.specs.Entries.{answered, buildEntry, sumEntry};
 
 #[no_mangle]
 pub extern "C" fn hyperplonk_lookup_m_poly(
