@@ -1,0 +1,4 @@
+pub mod Suffix
+pub mod Backwards
+pub mod Passes
+pub mod Both
