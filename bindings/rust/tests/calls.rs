@@ -1,0 +1,217 @@
+//! Every call through the wrappers: document 01's examples, refusals that leave the buffers as they were, empty slices, and
+//! the stored answers of oracle/data/small.txt.
+#![allow(clippy::type_complexity)]
+
+use hyperplonk::{build, eq_xy, lookup_h_poly, lookup_m_poly, row_sum, Built, RowSum, P};
+
+/// What buffers hold before a call.
+const BEFORE: u64 = 0x5a5a;
+const TABLE: [u64; 4] = [5, 7, 7, 9];
+const INPUT: [u64; 4] = [7, 7, 5, 9];
+const M: [u64; 4] = [1, 0, 2, 1];
+/// With γ = 100.
+const H: [u64; 4] = [14213926427140369957, 861997386421242258, 3370820255852972106, 0];
+/// The witness column looked up in the preprocess column 5, 7, 7, 9.
+#[rustfmt::skip]
+const TWICE: [u64; 37] = [
+    2, 0, 20, 0, 20, 1, 24, 1, 26, 2, 34, 0, 34, 1, 35, 1, 37, 0, 37, 0, // contents
+    5, 7, 7, 9, 1, 0, 5, 1, 0, 1 << 31, 5, 0, 0, 1 << 31, 1, 0, 1, // bodies
+];
+/// One witness column, k = 1, and the constraint Constant(0): no column is written.
+const BARE: [u64; 27] = [1, 0, 20, 0, 20, 0, 20, 1, 22, 1, 26, 1, 27, 0, 27, 0, 27, 0, 27, 0, 1, 0, 1, 0, 0, 0, 0];
+
+fn refused(number: u64) -> Built {
+    Built { number, column_words: 0, nodes: 0, z_columns: 0 }
+}
+
+#[test]
+fn counts() {
+    let mut m = [BEFORE; 6];
+    assert_eq!(lookup_m_poly(2, &INPUT, &TABLE, &mut m), 0);
+    assert_eq!(m, [1, 0, 2, 1, BEFORE, BEFORE]);
+    assert_eq!(lookup_m_poly(2, &[7, 6, 5, 9], &TABLE, &mut m), 15);
+    assert_eq!(m, [0, 0, 0, 0, BEFORE, BEFORE]);
+    assert_eq!(lookup_m_poly(1, &[P - 1; 2], &[P - 1; 2], &mut m[..2]), 0);
+    assert_eq!(m, [0, 2, 0, 0, BEFORE, BEFORE]);
+}
+
+#[test]
+fn fractions() {
+    let mut h = [BEFORE; 5];
+    assert_eq!(lookup_h_poly(2, &INPUT, &TABLE, &M, 100, &mut h), 0);
+    assert_eq!((&h[..4], h[4]), (&H[..], BEFORE));
+    assert_eq!(h[..4].iter().fold(0, |sum, w| (sum + *w as u128) % P as u128), 0);
+    // The inverse of 2, and that of 0.
+    assert_eq!(lookup_h_poly(1, &[1, P - 1], &[1, 1], &[0, 0], 1, &mut h), 0);
+    assert_eq!(h[..2], [9223372034707292161, 0]);
+}
+
+#[test]
+fn eq_table() {
+    let mut out = [BEFORE; 5];
+    assert_eq!(eq_xy(2, &[2, 3], &mut out), 0);
+    assert_eq!(out, [2, P - 4, P - 3, 6, BEFORE]);
+    assert_eq!(eq_xy(2, &[0, 1], &mut out), 0);
+    assert_eq!(out, [0, 0, 1, 0, BEFORE]);
+    let mut out = vec![BEFORE; 1 << 10];
+    assert_eq!(eq_xy(10, &[0; 10], &mut out), 0);
+    assert!(out[0] == 1 && out[1..].iter().all(|w| *w == 0));
+}
+
+#[test]
+fn stages_refuse() {
+    let high = [7, P, 5, 9];
+    let cases: [(u64, u64, &[u64], &[u64], usize); 8] = [
+        (2, 0, &INPUT, &TABLE, 4),
+        (2, 11, &high, &TABLE[..3], 0),
+        (12, 2, &INPUT[..3], &TABLE, 4),
+        (12, 2, &high, &[5, 7, 7, 9, 9], 0),
+        (13, 2, &high, &TABLE, 4),
+        (13, 2, &INPUT, &high, 0),
+        (14, 2, &INPUT, &TABLE, 3),
+        (14, 2, &[6, 6, 6, 6], &TABLE, 0),
+    ];
+    for (number, k, input, table, room) in cases {
+        let (mut m, mut h) = ([BEFORE; 4], [BEFORE; 4]);
+        assert_eq!(lookup_m_poly(k, input, table, &mut m[..room]), number);
+        assert_eq!(lookup_h_poly(k, input, table, &M, 100, &mut h[..room]), number);
+        assert_eq!((m, h), ([BEFORE; 4], [BEFORE; 4]));
+    }
+    let mut h = [BEFORE; 4];
+    assert_eq!(lookup_h_poly(2, &INPUT, &TABLE, &M[..2], P, &mut h), 12);
+    assert_eq!(lookup_h_poly(2, &INPUT, &TABLE, &high, 100, &mut h), 13);
+    assert_eq!(lookup_h_poly(2, &INPUT, &TABLE, &M, P, &mut h), 13);
+    assert_eq!(eq_xy(0, &[], &mut h), 2);
+    assert_eq!(eq_xy(11, &[0; 11], &mut h), 2);
+    assert_eq!(eq_xy(2, &[0, 1, P], &mut h), 12);
+    assert_eq!(eq_xy(2, &[0, P], &mut h), 13);
+    assert_eq!(eq_xy(2, &[0, P - 1], &mut h[..3]), 14);
+    assert_eq!(h, [BEFORE; 4]);
+}
+
+#[test]
+fn builds() {
+    let (mut columns, mut nodes) = ([BEFORE; 18], [BEFORE; 110]);
+    let built = build(&TWICE, &[], &INPUT, &[10, 100], &mut columns, &mut nodes);
+    assert_eq!(built, Built { number: 0, column_words: 16, nodes: 27, z_columns: 0 });
+    assert_eq!(columns[..16], [INPUT, TABLE, M, H].concat());
+    assert_eq!((&columns[16..], &nodes[108..]), (&[BEFORE; 2][..], &[BEFORE; 2][..]));
+    let (columns, nodes) = (&columns[..16], &nodes[..108]);
+    for (alpha, y) in [(2, [0, 2]), (0, [0, 0]), (P - 1, [P - 1, 12345])] {
+        let sum = row_sum(&TWICE, &INPUT, columns, nodes, &[10, 100, alpha], &y);
+        assert_eq!(sum, RowSum { number: 0, sum: 0 });
+    }
+    // The composed expression is h + α × (the rest): an h that is 1 higher on one row adds to it.
+    let mut other = columns.to_vec();
+    other[15] = 1;
+    let sum = row_sum(&TWICE, &INPUT, &other, nodes, &[10, 100, 0], &[0, 2]);
+    assert_eq!(sum, RowSum { number: 0, sum: 1 });
+}
+
+#[test]
+fn build_refuses() {
+    let mut k11 = TWICE;
+    k11[0] = 11;
+    let high = [7, 7, 5, P];
+    let cases: [(u64, &[u64], &[u64], &[u64], &[u64], usize, usize); 9] = [
+        (1, &TWICE[..19], &[], &INPUT, &[10, 100], 16, 108),
+        (2, &k11, &[], &high, &[10, 100], 16, 108),
+        (4, &TWICE[..36], &[], &INPUT, &[10, 100], 16, 108),
+        (12, &TWICE, &[1], &high, &[10, 100], 16, 108),
+        (12, &TWICE, &[], &INPUT, &[10, 100, 2], 0, 0),
+        (13, &TWICE, &[], &high, &[10, 100], 15, 108),
+        (13, &TWICE, &[], &INPUT, &[10, P], 0, 0),
+        (14, &TWICE, &[], &INPUT, &[10, 100], 15, 108),
+        (14, &TWICE, &[], &[6; 4], &[10, 100], 16, 107),
+    ];
+    for (number, circuit, instance, witness, challenges, room, node_room) in cases {
+        let (mut columns, mut nodes) = ([BEFORE; 16], [BEFORE; 108]);
+        let built = build(circuit, instance, witness, challenges, &mut columns[..room], &mut nodes[..node_room]);
+        assert_eq!(built, refused(number));
+        assert_eq!((columns, nodes), ([BEFORE; 16], [BEFORE; 108]));
+    }
+    let (mut columns, mut nodes) = ([BEFORE; 17], [BEFORE; 108]);
+    assert_eq!(build(&TWICE, &[], &[7, 6, 5, 9], &[10, 100], &mut columns, &mut nodes), refused(15));
+    assert_eq!((&columns[..16], columns[16], nodes), (&[0; 16][..], BEFORE, [BEFORE; 108]));
+    assert_eq!(build(&TWICE, &[], &INPUT, &[P - 1, P - 1], &mut columns, &mut nodes).number, 0);
+}
+
+#[test]
+fn row_sum_refuses() {
+    let (mut columns, mut nodes) = ([0; 16], [0; 108]);
+    assert_eq!(build(&TWICE, &[], &INPUT, &[10, 100], &mut columns, &mut nodes).number, 0);
+    let due = |number| RowSum { number, sum: 0 };
+    let high = [7, 7, 5, P];
+    let longer = [&columns[..], &[0]].concat();
+    let mut others = nodes;
+    others[107] ^= 1;
+    assert_eq!(row_sum(&[], &INPUT, &columns, &nodes, &[10, 100, 2], &[0, 2]), due(1));
+    assert_eq!(row_sum(&TWICE[..36], &high, &columns, &nodes, &[10, 100, 2], &[0, 2]), due(4));
+    assert_eq!(row_sum(&TWICE, &high, &columns, &nodes, &[10, 100, 2], &[0, 2]), due(16));
+    assert_eq!(row_sum(&TWICE, &INPUT, &longer, &nodes, &[10, 100, 2], &[0, 2]), due(16));
+    assert_eq!(row_sum(&TWICE, &INPUT, &columns, &others, &[10, 100, 2], &[0, 2]), due(16));
+    assert_eq!(row_sum(&TWICE, &INPUT, &columns, &nodes, &[10, 100], &[0, 2]), due(16));
+    assert_eq!(row_sum(&TWICE, &INPUT, &columns, &nodes, &[10, 100, 2], &[0, P]), due(16));
+    assert_eq!(row_sum(&TWICE, &INPUT, &columns, &nodes, &[10, 100, 2], &[]), due(16));
+}
+
+#[test]
+fn empty_slices() {
+    assert_eq!(build(&[], &[], &[], &[], &mut [], &mut []), refused(1));
+    assert_eq!(build(&BARE, &[], &[], &[], &mut [], &mut []), refused(12));
+    assert_eq!(build(&BARE, &[], &[3, 4], &[5, 6], &mut [], &mut []), refused(14));
+    assert_eq!(row_sum(&[], &[], &[], &[], &[], &[]), RowSum { number: 1, sum: 0 });
+    assert_eq!(row_sum(&BARE, &[], &[], &[], &[], &[]), RowSum { number: 16, sum: 0 });
+    for (k, number) in [(0, 2), (1, 12), (10, 12), (11, 2)] {
+        assert_eq!(lookup_m_poly(k, &[], &[], &mut []), number);
+        assert_eq!(lookup_h_poly(k, &[], &[], &[], 0, &mut []), number);
+        assert_eq!(eq_xy(k, &[], &mut []), number);
+    }
+    let mut nodes = [BEFORE; 12];
+    let built = build(&BARE, &[], &[3, 4], &[5, 6], &mut [], &mut nodes);
+    assert_eq!(built, Built { number: 0, column_words: 0, nodes: 3, z_columns: 0 });
+    assert_eq!(nodes, [1, 0, 0, 0, 4, 0, 0, 0, 9, 0, 1, 0]);
+    assert_eq!(row_sum(&BARE, &[3, 4], &[], &nodes, &[5, 6, 7], &[8]), RowSum { number: 0, sum: 0 });
+}
+
+#[test]
+fn threads() {
+    std::thread::scope(|scope| {
+        for _ in 0..4 {
+            scope.spawn(|| (0..8).for_each(|_| builds()));
+        }
+    });
+}
+
+/// A block of the case format: the call; each lent slice as its length and words; the returned numbers; each buffer after.
+#[test]
+fn stored_answers() {
+    let path = concat!(env!("CARGO_MANIFEST_DIR"), "/../../oracle/data/small.txt");
+    let text = std::fs::read_to_string(path).unwrap();
+    let mut calls = 0;
+    for block in text.split("\n\n").filter(|block| !block.starts_with('#')) {
+        let mut lines = block.lines();
+        let name = lines.next().unwrap();
+        let slices: Vec<Vec<u64>> =
+            lines.map(|line| line.split(' ').skip(1).map(|word| word.parse().unwrap()).collect()).collect();
+        match (name, &slices[..]) {
+            (
+                "build",
+                [circuit, instance, witness, challenges, columns, nodes, returned, columns_after, nodes_after],
+            ) => {
+                let (mut columns, mut nodes) = (columns.clone(), nodes.clone());
+                let built = build(circuit, instance, witness, challenges, &mut columns, &mut nodes);
+                let words = [built.column_words, built.nodes, built.z_columns].map(|count| count as u64);
+                assert_eq!([&[built.number][..], &words].concat(), *returned, "{block}");
+                assert_eq!((&columns, &nodes), (columns_after, nodes_after), "{block}");
+            }
+            ("row_sum", [circuit, witness, columns, nodes, challenges, y, returned]) => {
+                let sum = row_sum(circuit, witness, columns, nodes, challenges, y);
+                assert_eq!([sum.number, sum.sum], returned[..], "{block}");
+            }
+            _ => panic!("a block of another shape: {block}"),
+        }
+        calls += 1;
+    }
+    assert!(calls >= 30, "{calls} blocks");
+}
