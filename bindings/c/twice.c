@@ -1,0 +1,58 @@
+/* A log whose table lists a row twice: its counts, its row sum, and the answer to an input that is in no table row. */
+#include <hyperplonk.h>
+#include <inttypes.h>
+#include <stdio.h>
+
+#define WORDS(a) (a), sizeof(a) / sizeof((a)[0])
+
+enum { POLYNOMIAL = 5 };
+#define ROTATION(i) (UINT64_C(2147483648) + (i))
+
+/* k = 2. A table of codes is the preprocess column, polynomial 0; the log's codes are the witness column, polynomial 1. */
+static const uint64_t circuit[] = {
+    2, 0,                          /* k; no maximum degree */
+    20, 0,                         /* instance lengths */
+    20, 1,                         /* preprocess columns */
+    24, 1,                         /* rounds */
+    26, 2,                         /* nodes */
+    34, 0,                         /* constraint roots */
+    34, 1,                         /* lookup widths */
+    35, 1,                         /* lookup pairs */
+    37, 0,                         /* cycle lengths */
+    37, 0,                         /* cells */
+    5, 7, 7, 9,                    /* the table: 7 is listed twice */
+    1, 0,                          /* the round: one witness column, no challenge */
+    POLYNOMIAL, 1, 0, ROTATION(0), /* node 0, the input */
+    POLYNOMIAL, 0, 0, ROTATION(0), /* node 1, the table */
+    1,                             /* the lookup's width */
+    0, 1,                          /* input root, table root */
+};
+static const uint64_t witness[] = {7, 7, 5, 9};
+static const uint64_t unlisted[] = {7, 6, 5, 9};
+static const uint64_t challenges[] = {10, 100, 2}; /* beta, gamma, alpha */
+static const uint64_t y[] = {0, 2};
+
+/* compressed input and table, m, h */
+enum { ROWS = 4, M = 2 * ROWS, COLUMN_WORDS = 4 * ROWS, NODE_WORDS = 4 * 27 };
+
+int main(void) {
+    static const uint64_t instance[1]; /* never null, also where a slice is empty */
+    uint64_t columns[COLUMN_WORDS], nodes[NODE_WORDS], built[3], sum[1], number;
+    int b;
+
+    number = hyperplonk_build(WORDS(circuit), instance, 0, WORDS(witness), challenges, 2, WORDS(columns), WORDS(nodes), WORDS(built));
+    printf("build: number %" PRIu64 ", column words %" PRIu64 ", nodes %" PRIu64 ", z columns %" PRIu64 "\n", number, built[0], built[1],
+           built[2]);
+    printf("m:");
+    for (b = 0; b < ROWS; b++)
+        printf(" %" PRIu64, columns[M + b]);
+    printf("\n");
+
+    number = hyperplonk_row_sum(WORDS(circuit), WORDS(witness), columns, built[0], nodes, 4 * built[1], WORDS(challenges), WORDS(y),
+                                WORDS(sum));
+    printf("row sum: number %" PRIu64 ", sum %" PRIu64 "\n", number, sum[0]);
+
+    number = hyperplonk_build(WORDS(circuit), instance, 0, WORDS(unlisted), challenges, 2, WORDS(columns), WORDS(nodes), WORDS(built));
+    printf("build, input 6: number %" PRIu64 "\n", number);
+    return 0;
+}
