@@ -47,6 +47,16 @@ fn big(rng: &mut Rng) -> u64 {
     rng.pick(&[P, P + 1, MAX, MAX - 1, TOP + P / 2])
 }
 
+/// One of the words, if there is one, is p or more.
+fn spoil(words: &mut [u64], rng: &mut Rng) -> bool {
+    if words.is_empty() {
+        return false;
+    }
+    let at = rng.below(words.len());
+    words[at] = big(rng);
+    true
+}
+
 /// A random entry of a section, by its first word's index in the body.
 fn entry(s: &Sections, section: usize, rng: &mut Rng) -> Option<usize> {
     let count = s.count(section) as usize;
@@ -293,8 +303,8 @@ pub const WAYS: &[(u64, Way)] = &[
         let at = rng.below(b.log.instance.len().max(1));
         b.log.instance.get_mut(at).map(|w| *w = big(rng)).is_some()
     }),
-    (13, |b, rng| { let at = rng.below(b.log.witness.len()); b.log.witness[at] = big(rng); true }),
-    (13, |b, rng| { let at = rng.below(b.log.challenges.len()); b.log.challenges[at] = big(rng); true }),
+    (13, |b, rng| spoil(&mut b.log.witness, rng)),
+    (13, |b, rng| spoil(&mut b.log.challenges, rng)),
     // 14
     (14, |b, _| { b.short[0] = 1; true }),
     (14, |b, rng| { b.short[1] = rng.range(1, 4); true }),

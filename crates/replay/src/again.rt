@@ -3,6 +3,7 @@ use crate::slices::fill;
 use crate::slices::number_at;
 use crate::slices::part_at;
 use crate::slices::same_part;
+use crate::slices::word_at;
 
 // Is the stored number this one, and the stored buffer, on the line after it, these words?
 fn agrees(words: &[u64], starts: &[usize], returned: usize, number: u64, buffer: &[u64]) -> bool {
@@ -77,4 +78,97 @@ pub fn eq_xy(words: &[u64], starts: &[usize], room: &mut [u64]) -> bool {
     let end = y.end;
     let number = hyperplonk::eq_xy(k, &words[start..end], &mut room[0..n]);
     agrees(words, starts, 3, number, &room[0..n])
+}
+
+// Are the stored returned words these four?
+fn returned_four(words: &[u64], at: usize, a: u64, b: u64, c: u64, d: u64) -> bool {
+    if word_at(words, at, 0) != a {
+        return false;
+    }
+    if word_at(words, at, 1) != b {
+        return false;
+    }
+    if word_at(words, at, 2) != c {
+        return false;
+    }
+    word_at(words, at, 3) == d
+}
+
+pub fn build(words: &[u64], starts: &[usize], columns: &mut [u64]) -> bool {
+    if starts.len() <= 8 {
+        return false;
+    }
+    let circuit = part_at(words, starts[0]);
+    let instance = part_at(words, starts[1]);
+    let witness = part_at(words, starts[2]);
+    let challenges = part_at(words, starts[3]);
+    let n = fill(words, starts[4], columns);
+    let mut nodes = [0u64; 8192];
+    let m = fill(words, starts[5], &mut nodes);
+    let circuit_start = circuit.start;
+    let circuit_end = circuit.end;
+    let instance_start = instance.start;
+    let instance_end = instance.end;
+    let witness_start = witness.start;
+    let witness_end = witness.end;
+    let challenges_start = challenges.start;
+    let challenges_end = challenges.end;
+    let built = hyperplonk::build(
+        &words[circuit_start..circuit_end],
+        &words[instance_start..instance_end],
+        &words[witness_start..witness_end],
+        &words[challenges_start..challenges_end],
+        &mut columns[0..n],
+        &mut nodes[0..m],
+    );
+    if !returned_four(
+        words,
+        starts[6],
+        built.number,
+        built.column_words as u64,
+        built.nodes as u64,
+        built.z_columns as u64,
+    ) {
+        return false;
+    }
+    if !same_part(words, starts[7], &columns[0..n]) {
+        return false;
+    }
+    same_part(words, starts[8], &nodes[0..m])
+}
+
+pub fn row_sum(words: &[u64], starts: &[usize]) -> bool {
+    if starts.len() <= 8 {
+        return false;
+    }
+    let circuit = part_at(words, starts[0]);
+    let witness = part_at(words, starts[1]);
+    let columns = part_at(words, starts[2]);
+    let nodes = part_at(words, starts[3]);
+    let challenges = part_at(words, starts[4]);
+    let y = part_at(words, starts[5]);
+    let circuit_start = circuit.start;
+    let circuit_end = circuit.end;
+    let witness_start = witness.start;
+    let witness_end = witness.end;
+    let columns_start = columns.start;
+    let columns_end = columns.end;
+    let nodes_start = nodes.start;
+    let nodes_end = nodes.end;
+    let challenges_start = challenges.start;
+    let challenges_end = challenges.end;
+    let y_start = y.start;
+    let y_end = y.end;
+    let summed = hyperplonk::row_sum(
+        &words[circuit_start..circuit_end],
+        &words[witness_start..witness_end],
+        &words[columns_start..columns_end],
+        &words[nodes_start..nodes_end],
+        &words[challenges_start..challenges_end],
+        &words[y_start..y_end],
+    );
+    if word_at(words, starts[6], 0) != summed.number {
+        return false;
+    }
+    word_at(words, starts[6], 1) == summed.sum
 }

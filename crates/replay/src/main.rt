@@ -194,6 +194,12 @@ fn held(same: bool) -> u64 {
 }
 
 fn made_again(call: usize, words: &[u64], starts: &[usize], room: &mut [u64]) -> u64 {
+    if call == 0 {
+        return held(again::build(words, starts, room));
+    }
+    if call == 1 {
+        return held(again::row_sum(words, starts));
+    }
     if call == 2 {
         return held(again::lookup_m_poly(words, starts, room));
     }
@@ -228,6 +234,8 @@ fn print_count(name: &[u8], counts: &[u64], at: usize) {
 // Names a block by its call and its number among the blocks of the call.
 fn print_block(call: usize, counts: &[u64]) {
     match call {
+        0 => print_count(b"build, block ", counts, 0),
+        1 => print_count(b"row_sum, block ", counts, 1),
         2 => print_count(b"lookup_m_poly, block ", counts, 2),
         3 => print_count(b"lookup_h_poly, block ", counts, 3),
         _ => print_count(b"eq_xy, block ", counts, 4),

@@ -130,6 +130,17 @@ pub fn number_at(words: &[u64], at: usize) -> u64 {
     words[at + 1]
 }
 
+// Word i of the slice at a place, 0 where it has none.
+pub fn word_at(words: &[u64], at: usize, i: usize) -> u64 {
+    let part = part_at(words, at);
+    let start = part.start;
+    let end = part.end;
+    if i >= end - start {
+        return 0;
+    }
+    words[start + i]
+}
+
 // Copies the slice at a place to the front of a buffer, and answers its length; 0 where it does not fit.
 pub fn fill(words: &[u64], at: usize, room: &mut [u64]) -> usize
     ensures { λ r. ⌜ r ≤ length (now (room .exit)) ⌝ }
