@@ -110,7 +110,9 @@ impl Times {
     }
 }
 
-const STAGES: [&str; 12] = [
+const STAGES: [&str; 14] = [
+    "questions 1 to 11",
+    "user expressions",
     "instance",
     "(copying)",
     "compressed",
@@ -150,6 +152,35 @@ fn sheet(name: &str, log: &Log, library: Library, reps: usize) {
         let polys: Vec<Vec<F>> = super::calls::polys(&c, &lent[2], &columns).into_iter().map(f).collect();
         let (all, point) = (f(&challenges), f(y));
         sums.push(rust.time("row sum", || rows(c.k, &composed, &polys, &all, &point).into_iter().sum::<F>()).value());
+
+        // The user expressions on every row, one after another.
+        let roots: Vec<u64> = [CONSTRAINTS, PAIRS].iter().flat_map(|s| log.sections.bodies[*s].clone()).collect();
+        let nodes = &log.sections.bodies[NODES];
+        let (user, eq) = (&log.challenges[..c.challenges() as usize], vec![0u64; rows_in]);
+        let expressions: Vec<Expr> = roots.iter().map(|r| given::expression(nodes, *r)).collect();
+        let (theirs, zeros) = (f(user), f(&eq));
+        let values = rust.time("user expressions", || {
+            let value = |e| super::expressions::rows(c.k, e, &polys, &theirs, &zeros);
+            expressions.iter().map(value).collect::<Vec<_>>()
+        });
+        if library.has("expression_values") {
+            let start = lent[0][4];
+            let layout = [c.instances.len() as u64, c.preprocess.len() as u64, start, c.witnesses(), 0, 0, 0];
+            let mut out = vec![vec![0u64; rows_in]; roots.len()];
+            let slice = |s: &[u64]| [s.as_ptr() as usize, s.len()];
+            let lent = [&nodes[..], &lent[0], &lent[2], &columns, user, &layout, &eq].map(slice).concat();
+            ours.time("user expressions", || {
+                for (root, out) in roots.iter().zip(&mut out) {
+                    let out = [*root as usize, out.as_mut_ptr() as usize, out.len()];
+                    library.call("expression_values", &[&[c.k][..], &lent, &out].concat());
+                }
+            });
+            values.iter().zip(&out).for_each(|(theirs, mine)| assert_eq!(given::words(theirs), *mine));
+        }
+        if library.has("circuit_first_no") {
+            let circuit = [lent[0].as_ptr() as usize, lent[0].len()];
+            assert_eq!(ours.time("questions 1 to 11", || library.call("circuit_first_no", &circuit)), 0);
+        }
 
         if library.has("build") {
             let mut answer = [0u64; 3];
@@ -199,13 +230,14 @@ fn sheet(name: &str, log: &Log, library: Library, reps: usize) {
     );
     println!("  {:<18} {:>12} {:>12} {:>8}", "stage", "Rust ms", "library ms", "ratio");
     for stage in STAGES {
-        let Some(theirs) = rust.0.get(stage) else { continue };
         let ms = |d: &Duration| d.as_nanos() as f64 / 1e6;
-        match ours.0.get(stage) {
-            Some(mine) => {
+        match (rust.0.get(stage), ours.0.get(stage)) {
+            (Some(theirs), Some(mine)) => {
                 println!("  {stage:<18} {:>12.4} {:>12.4} {:>8.2}", ms(theirs), ms(mine), ms(mine) / ms(theirs))
             }
-            None => println!("  {stage:<18} {:>12.4} {:>12} {:>8}", ms(theirs), "-", "-"),
+            (Some(theirs), None) => println!("  {stage:<18} {:>12.4} {:>12} {:>8}", ms(theirs), "-", "-"),
+            (None, Some(mine)) => println!("  {stage:<18} {:>12} {:>12.4} {:>8}", "-", ms(mine), "-"),
+            (None, None) => {}
         }
     }
 }
@@ -214,6 +246,15 @@ pub fn sheets(library: Library) {
     sheet("k = 10, 8 lookups of width 8, 40 copied columns, 32 constraints", &full(), library, 20);
     sheet("k = 10, plain", &plain(), library, 40);
     sheet("k = 4", &little(), library, 400);
+    if library.has("circuit_first_no") {
+        let words = super::limits::whole().sections.words();
+        let mut times = Times::default();
+        for _ in 0..20 {
+            let no = times.time("questions", || library.call("circuit_first_no", &[words.as_ptr() as usize, words.len()]));
+            assert_eq!(no, 0);
+        }
+        println!("k = 10, everything at its limit, questions 1 to 11: {:.3} ms", times.0["questions"].as_nanos() as f64 / 1e6);
+    }
 }
 
 /// Dependent multiplications and inverses, to set crate field's benchmark beside.

@@ -29,7 +29,11 @@ macro_rules! linked {
 }
 linked!(has_build "build" hyperplonk_build, has_row_sum "row_sum" hyperplonk_row_sum,
     has_lookup_m_poly "lookup_m_poly" hyperplonk_lookup_m_poly,
-    has_lookup_h_poly "lookup_h_poly" hyperplonk_lookup_h_poly, has_eq_xy "eq_xy" hyperplonk_eq_xy);
+    has_lookup_h_poly "lookup_h_poly" hyperplonk_lookup_h_poly, has_eq_xy "eq_xy" hyperplonk_eq_xy,
+    has_expression_degree "expression_degree" expression_degree,
+    has_expression_queries "expression_queries" expression_queries,
+    has_expression_values "expression_values" expression_values,
+    has_circuit_first_no "circuit_first_no" circuit_first_no);
 
 impl Library {
     pub fn has(self, name: &str) -> bool {
@@ -47,10 +51,13 @@ impl Library {
             };
         }
         match a.len() {
+            2 => go!(0 W, 1 W),
+            3 => go!(0 W, 1 W, 2 W),
             5 => go!(0 W, 1 W, 2 W, 3 W, 4 W),
             7 => go!(0 W, 1 W, 2 W, 3 W, 4 W, 5 W, 6 W),
             10 => go!(0 W, 1 W, 2 W, 3 W, 4 W, 5 W, 6 W, 7 W, 8 W, 9 W),
             14 => go!(0 W, 1 W, 2 W, 3 W, 4 W, 5 W, 6 W, 7 W, 8 W, 9 W, 10 W, 11 W, 12 W, 13 W),
+            18 => go!(0 W, 1 W, 2 W, 3 W, 4 W, 5 W, 6 W, 7 W, 8 W, 9 W, 10 W, 11 W, 12 W, 13 W, 14 W, 15 W, 16 W, 17 W),
             n => panic!("{n} arguments"),
         }
     }
@@ -144,15 +151,15 @@ const PAGE: usize = 4096;
 const FILL: u64 = 0xa5a5_a5a5_a5a5_a5a5;
 
 /// Words in pages of their own, between two pages that can't be touched.
-struct Room {
+pub struct Room {
     base: *mut u8,
     bytes: usize,
-    words: *mut u64,
+    pub words: *mut u64,
     len: usize,
 }
 
 impl Room {
-    fn with(slice: &[u64], at_end: bool, writable: bool) -> Room {
+    pub fn with(slice: &[u64], at_end: bool, writable: bool) -> Room {
         let bytes = (8 * slice.len()).div_ceil(PAGE) * PAGE;
         unsafe {
             let base = mmap(ptr::null_mut(), bytes + 2 * PAGE, 0, 0x22, -1, 0) as *mut u8;
@@ -172,7 +179,7 @@ impl Room {
     }
 
     /// The slice now; an error if a word beside it was written.
-    fn after(&self) -> Result<Vec<u64>, String> {
+    pub fn after(&self) -> Result<Vec<u64>, String> {
         let start = unsafe { self.base.add(PAGE) } as *const u64;
         let all = (0..self.bytes / 8).map(|i| unsafe { *start.add(i) }).collect::<Vec<_>>();
         let at = (self.words as usize - start as usize) / 8;

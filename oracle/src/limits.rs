@@ -60,7 +60,7 @@ fn rotation(r: i64) -> Log {
 }
 
 /// Everything at its limit at once, as far as the limits allow each other.
-fn whole() -> Log {
+pub fn whole() -> Log {
     let mut s = base(10);
     s.bodies[INSTANCES] = vec![1023; 8];
     s.bodies[PREPROCESS] = (0..32 * 1024).map(|i| i % 5).collect();

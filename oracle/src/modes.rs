@@ -4,6 +4,7 @@ use super::calls::{Case, CALLS};
 use super::cases::{case, fixed};
 use super::differences::differences;
 use super::examples::examples;
+use super::expressions;
 use super::library::{catch_faults, Library, FAULTS, RUNNING};
 use super::prove::through_prove;
 use super::stored;
@@ -34,6 +35,7 @@ pub fn main() {
                 None => compare(library, fixed().into_iter().chain((0..count).map(|i| case(seed, i, false)))),
             }
         }
+        "expressions" => expressions::compare(seed, count),
         "sample" => print!("{}", stored::sample()),
         "small" => print!("{}", stored::small()),
         "bench" => bench::sheets(Library::Linked),

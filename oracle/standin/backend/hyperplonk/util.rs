@@ -7,6 +7,7 @@ mod calls;
 mod cases;
 mod differences;
 mod examples;
+mod expressions;
 mod generate;
 mod given;
 mod library;
