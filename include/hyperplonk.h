@@ -4,7 +4,8 @@
  *
  * A slice is lent as a pointer to its first word and its number of words. The pointer is aligned and never null, also where the
  * slice is empty. Words behind `const` are read only, and nothing writes them during the call. A buffer overlaps no other slice of
- * the call. The library keeps no pointer and no memory, allocates nothing, and can be called from several threads at once.
+ * the call. The library keeps no pointer and no memory, allocates nothing, and can be called from several threads at once. Trees are
+ * walked by recursion: a thread that makes calls should have 1 MiB of stack (1024 nodes, one in another, were seen to take 0.6 MiB).
  *
  * A field element is a word below p. Each call returns a number: 0, or the number of the first question that is answered no.
  *   1   the circuit has fewer than 20 words

@@ -2,7 +2,8 @@
 //!
 //! Each function makes one call of the proved library, libhyperplonk.a, and returns what it returns. Words are `u64`, and a
 //! field element is a word below [`P`]. Circuit words are laid out as include/hyperplonk.h says. The library allocates
-//! nothing and keeps nothing, so calls can run on several threads at once.
+//! nothing and keeps nothing, so calls can run on several threads at once. Trees are walked by recursion: a thread that makes
+//! calls should have 1 MiB of stack, as Rust's have unless told otherwise.
 //!
 //! # The number
 //!

@@ -183,6 +183,24 @@ fn threads() {
     });
 }
 
+/// An input of 1023 nodes, each the negation of the one before, is built and summed on 1 MiB of stack.
+#[test]
+fn deep() {
+    let mut circuit = vec![1, 0, 20, 0, 20, 0, 20, 1, 22, 1024, 4118, 0, 4118, 1, 4119, 1, 4121, 0, 4121, 0, 1, 0];
+    circuit.extend([1, 0, 0, 0]);
+    (0..1022).for_each(|below| circuit.extend([7, below, 0, 0]));
+    circuit.extend([5, 0, 0, 1 << 31, 1, 1022, 1023]);
+    let calls = move || {
+        let (mut columns, mut nodes) = (vec![BEFORE; 8], vec![BEFORE; 1 << 14]);
+        let built = build(&circuit, &[], &[4, 0], &[5, 6], &mut columns, &mut nodes);
+        assert_eq!((built.number, built.column_words), (0, 8));
+        assert_eq!(columns[..6], [0, 0, 4, 0, 0, 2]);
+        let sum = row_sum(&circuit, &[4, 0], &columns, &nodes[..4 * built.nodes], &[5, 6, 7], &[8]);
+        assert_eq!(sum, RowSum { number: 0, sum: 0 });
+    };
+    std::thread::Builder::new().stack_size(1 << 20).spawn(calls).unwrap().join().unwrap();
+}
+
 /// A block of the case format: the call; each lent slice as its length and words; the returned numbers; each buffer after.
 #[test]
 fn stored_answers() {
