@@ -3,6 +3,7 @@ use crate::slices::fill;
 use crate::slices::number_at;
 use crate::slices::part_at;
 use crate::slices::same_part;
+use crate::slices::slice_at;
 use crate::slices::word_at;
 
 // Is the stored number this one, and the stored buffer, on the line after it, these words?
@@ -94,33 +95,16 @@ fn returned_four(words: &[u64], at: usize, a: u64, b: u64, c: u64, d: u64) -> bo
     word_at(words, at, 3) == d
 }
 
-pub fn build(words: &[u64], starts: &[usize], columns: &mut [u64]) -> bool {
+// The building call on the lent slices of a block, with the buffers as they were lent.
+fn built_same(words: &[u64], starts: &[usize], columns: &mut [u64], nodes: &mut [u64]) -> bool {
     if starts.len() <= 8 {
         return false;
     }
-    let circuit = part_at(words, starts[0]);
-    let instance = part_at(words, starts[1]);
-    let witness = part_at(words, starts[2]);
-    let challenges = part_at(words, starts[3]);
-    let n = fill(words, starts[4], columns);
-    let mut nodes = [0u64; 8192];
-    let m = fill(words, starts[5], &mut nodes);
-    let circuit_start = circuit.start;
-    let circuit_end = circuit.end;
-    let instance_start = instance.start;
-    let instance_end = instance.end;
-    let witness_start = witness.start;
-    let witness_end = witness.end;
-    let challenges_start = challenges.start;
-    let challenges_end = challenges.end;
-    let built = hyperplonk::build(
-        &words[circuit_start..circuit_end],
-        &words[instance_start..instance_end],
-        &words[witness_start..witness_end],
-        &words[challenges_start..challenges_end],
-        &mut columns[0..n],
-        &mut nodes[0..m],
-    );
+    let circuit = slice_at(words, starts[0]);
+    let instance = slice_at(words, starts[1]);
+    let witness = slice_at(words, starts[2]);
+    let challenges = slice_at(words, starts[3]);
+    let built = hyperplonk::build(circuit, instance, witness, challenges, columns, nodes);
     if !returned_four(
         words,
         starts[6],
@@ -131,42 +115,33 @@ pub fn build(words: &[u64], starts: &[usize], columns: &mut [u64]) -> bool {
     ) {
         return false;
     }
-    if !same_part(words, starts[7], &columns[0..n]) {
+    if !same_part(words, starts[7], columns) {
         return false;
     }
-    same_part(words, starts[8], &nodes[0..m])
+    same_part(words, starts[8], nodes)
+}
+
+pub fn build(words: &[u64], starts: &[usize], room: &mut [u64]) -> bool {
+    if starts.len() <= 8 {
+        return false;
+    }
+    let mut nodes = [0u64; 8192];
+    let m = fill(words, starts[5], &mut nodes);
+    let n = fill(words, starts[4], room);
+    built_same(words, starts, &mut room[0..n], &mut nodes[0..m])
 }
 
 pub fn row_sum(words: &[u64], starts: &[usize]) -> bool {
     if starts.len() <= 8 {
         return false;
     }
-    let circuit = part_at(words, starts[0]);
-    let witness = part_at(words, starts[1]);
-    let columns = part_at(words, starts[2]);
-    let nodes = part_at(words, starts[3]);
-    let challenges = part_at(words, starts[4]);
-    let y = part_at(words, starts[5]);
-    let circuit_start = circuit.start;
-    let circuit_end = circuit.end;
-    let witness_start = witness.start;
-    let witness_end = witness.end;
-    let columns_start = columns.start;
-    let columns_end = columns.end;
-    let nodes_start = nodes.start;
-    let nodes_end = nodes.end;
-    let challenges_start = challenges.start;
-    let challenges_end = challenges.end;
-    let y_start = y.start;
-    let y_end = y.end;
-    let summed = hyperplonk::row_sum(
-        &words[circuit_start..circuit_end],
-        &words[witness_start..witness_end],
-        &words[columns_start..columns_end],
-        &words[nodes_start..nodes_end],
-        &words[challenges_start..challenges_end],
-        &words[y_start..y_end],
-    );
+    let circuit = slice_at(words, starts[0]);
+    let witness = slice_at(words, starts[1]);
+    let columns = slice_at(words, starts[2]);
+    let nodes = slice_at(words, starts[3]);
+    let challenges = slice_at(words, starts[4]);
+    let y = slice_at(words, starts[5]);
+    let summed = hyperplonk::row_sum(circuit, witness, columns, nodes, challenges, y);
     if word_at(words, starts[6], 0) != summed.number {
         return false;
     }

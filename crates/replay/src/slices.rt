@@ -130,6 +130,14 @@ pub fn number_at(words: &[u64], at: usize) -> u64 {
     words[at + 1]
 }
 
+// The words of the slice at a place.
+pub fn slice_at<'a>(words: &'a [u64], at: usize) -> &'a [u64] {
+    let part = part_at(words, at);
+    let start = part.start;
+    let end = part.end;
+    &words[start..end]
+}
+
 // Word i of the slice at a place, 0 where it has none.
 pub fn word_at(words: &[u64], at: usize, i: usize) -> u64 {
     let part = part_at(words, at);
