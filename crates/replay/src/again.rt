@@ -100,6 +100,9 @@ fn built_same(words: &[u64], starts: &[usize], columns: &mut [u64], nodes: &mut 
     if starts.len() <= 8 {
         return false;
     }
+    let returned = starts[6];
+    let columns_after = starts[7];
+    let nodes_after = starts[8];
     let circuit = slice_at(words, starts[0]);
     let instance = slice_at(words, starts[1]);
     let witness = slice_at(words, starts[2]);
@@ -107,7 +110,7 @@ fn built_same(words: &[u64], starts: &[usize], columns: &mut [u64], nodes: &mut 
     let built = hyperplonk::build(circuit, instance, witness, challenges, columns, nodes);
     if !returned_four(
         words,
-        starts[6],
+        returned,
         built.number,
         built.column_words as u64,
         built.nodes as u64,
@@ -115,10 +118,10 @@ fn built_same(words: &[u64], starts: &[usize], columns: &mut [u64], nodes: &mut 
     ) {
         return false;
     }
-    if !same_part(words, starts[7], columns) {
+    if !same_part(words, columns_after, columns) {
         return false;
     }
-    same_part(words, starts[8], nodes)
+    same_part(words, nodes_after, nodes)
 }
 
 pub fn build(words: &[u64], starts: &[usize], room: &mut [u64]) -> bool {
