@@ -1,0 +1,79 @@
+// What circuit words ask for, once questions 1 to 11 have been put to them.
+use prepare::column_words;
+use prepare::composed_nodes;
+use prepare::copied_of;
+use prepare::numbers;
+use questions::first_no;
+ghost use mathlib.Core.Path.{_≡_};
+ghost use mathlib.Core.List.{List};
+ghost use Prim.Native.Nat.{_≤_};
+ghost use lib.ListN.{take};
+ghost use Rattle.backend.specs.Circuit.{circuitOf, copied};
+ghost use Rattle.prepare.specs.Prepared.{Accepted};
+
+// The number of the first no, 0 for none; the rest is 0 for refused circuit words. `of` has the copied columns' polynomials;
+// `part` is D - 1, and `parts` is N.
+pub struct Shape {
+    pub no: u64,
+    pub instances: usize,
+    pub copied: usize,
+    pub of: [u64; 72],
+    pub lookups: usize,
+    pub polys: usize,
+    pub user: usize,
+    pub rows: usize,
+    pub part: usize,
+    pub parts: usize,
+    pub column_words: usize,
+    pub nodes: u64,
+}
+
+fn refused(no: u64) -> Shape {
+    Shape {
+        no: no,
+        instances: 0,
+        copied: 0,
+        of: [0; 72],
+        lookups: 0,
+        polys: 0,
+        user: 0,
+        rows: 0,
+        part: 0,
+        parts: 0,
+        column_words: 0,
+        nodes: 0,
+    }
+}
+
+fn accepted(circuit: &[u64], count: usize, of: [u64; 72]) -> Shape
+    requires { ⌜ Accepted (now circuit) × ((count ≤ 72) × (take count of ≡ copied (circuitOf (now circuit)))) ⌝ }
+{
+    let v = numbers(circuit, count);
+    let words = column_words(circuit, v);
+    let nodes = composed_nodes(circuit, v);
+    let instances = contents::word(circuit, 3);
+    Shape {
+        no: 0,
+        instances: instances as usize,
+        copied: count,
+        of: of,
+        lookups: v.lookups,
+        polys: v.polys,
+        user: v.user,
+        rows: v.rows,
+        part: v.part,
+        parts: v.parts,
+        column_words: words,
+        nodes: nodes,
+    }
+}
+
+pub fn shape_of(circuit: &[u64]) -> Shape {
+    let no = first_no(circuit);
+    if no != 0 {
+        return refused(no);
+    }
+    let copied = copied_of(circuit);
+    let of = copied.of;
+    accepted(circuit, copied.count, of)
+}
