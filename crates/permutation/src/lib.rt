@@ -52,7 +52,8 @@ pub fn exchange(
     label: u64,
 ) -> u64
     requires { ⌜ (polynomial < 72) × (cellWord (now starts) (record { polynomial = polynomial; row = row }) < length (now columns)) ⌝ }
-    ensures { λ r. ⌜ r ≡ getD (now (columns .entry)) (cellWord (now (starts .entry)) (record { polynomial = polynomial; row = row })) 0 ⌝ }
+    ensures { λ r. ⌜ r
+        ≡ getD (now (columns .entry)) (cellWord (now (starts .entry)) (record { polynomial = polynomial; row = row })) 0 ⌝ }
     ensures { λ r. ⌜ now (columns .exit)
         ≡ set (now (columns .entry)) (cellWord (now (starts .entry)) (record { polynomial = polynomial; row = row })) label ⌝ }
 {
