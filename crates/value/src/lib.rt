@@ -62,7 +62,7 @@ pub fn value(
 }
 
 // Lagrange at a row, by the row's place: 2^k divides 2^31, so the number kept in a word has the word's remainder.
-fn lagrange(word: u64, k: usize, row: usize, place: usize) -> u64
+pub fn lagrange(word: u64, k: usize, row: usize, place: usize) -> u64
     requires { ⌜ ((0 < k) × (k < 21)) × ((row < 2 ^ k) × (place ≡ placeOf k row)) ⌝ }
     ensures { λ r. ⌜ el r ≡ cond (eqb row (lagrangeRow k (signed word))) (𝔾 .one) (𝔾 .zero) ⌝ }
 {
@@ -109,11 +109,14 @@ fn turned(c: &[usize; 12], rotation: u64) -> usize
 {
     let k = c[0];
     let row = c[1];
+    if rotation == 2147483648 {
+        return row;
+    }
     rotate(row, rotation_of(rotation, k), k)
 }
 
 // A query at a point: a polynomial at the row that its rotation leads to.
-fn query(
+pub fn query(
     circuit: &[u64],
     witness: &[u64],
     columns: &[u64],
@@ -124,14 +127,9 @@ fn query(
     requires { ⌜ Ready (now c) ⌝ }
     ensures { λ r. ⌜ el r ≡ polyValue (now (circuit .entry)) (now (witness .entry)) (now (columns .entry)) (now (c .entry)) polynomial (signed rotation) ⌝ }
 {
-    poly_at(
-        circuit,
-        witness,
-        columns,
-        layout_of(c),
-        polynomial,
-        turned(c, rotation),
-    )
+    let row = turned(c, rotation);
+    let layout = layout_of(c);
+    poly_at(circuit, witness, columns, layout, polynomial, row)
 }
 
 // The value of node n, at the point and with the layout of the context.

@@ -17,8 +17,8 @@ turned-requires c κs = search needs
 
 poly-at-requires : tie.Need-poly-at-requires
 poly-at-requires c κs = (
-  subst⁻¹ Small (c .before .layout-of .ensures) (c .before .before .before .before .before .pre .layout),
-  c .turned .ensures .1,
+  subst⁻¹ Small (c .layout-of .ensures) (c .before .before .before .before .before .pre .layout),
+  c .before .turned .ensures .1,
 )
 
 returns : tie.Need-returns
@@ -27,8 +27,8 @@ returns c =
     let a = c .before .before .before .before .before .before .args in
     c .poly-at .ensures
     ∙ ap₂ (λ (l : Layout) (b : ℕ). polyOf 𝔾 (polysOf l (a .circuit .now) (a .witness .now) (a .columns .now)) (a .polynomial) b)
-    (c .before .before .layout-of .ensures)
-    (c .before .turned .ensures .0)
+    (c .before .layout-of .ensures)
+    (c .before .before .turned .ensures .0)
 
 pub query-spec : {M : Type 1} → statement M
-query-spec = tie.close (tie.spec layout-of-requires turned-requires poly-at-requires returns)
+query-spec = tie.close (tie.spec turned-requires layout-of-requires poly-at-requires returns)
