@@ -1,0 +1,2 @@
+mod LowerNodes
+mod Chained
