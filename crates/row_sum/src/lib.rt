@@ -5,6 +5,7 @@ use compressed::row_after;
 use expression::poly::Layout;
 use expression::value::Point;
 use multilinear::eq_at;
+use node_values::node_values;
 use prepare::column_words;
 use prepare::composed_nodes;
 use prepare::copied_of;
@@ -12,6 +13,7 @@ use prepare::numbers;
 use preprocessor::Numbers;
 use prover::rows_of;
 use questions::first_no;
+use value::context;
 use value::value;
 use words::all_below;
 ghost use mathlib.Core.Path.{_≡_};
@@ -118,7 +120,8 @@ pub fn question_16(
     values_small(witness, columns, challenges, y)
 }
 
-// The value of the last node at one row, EqXY(0) at that row with it.
+// The value of the last node at one row, EqXY(0) at that row with it. The values of all nodes are left in `known` where it has a word for
+// each; else the last node is evaluated by itself.
 fn row_value(
     circuit: &[u64],
     witness: &[u64],
@@ -130,31 +133,48 @@ fn row_value(
     k: usize,
     row: usize,
     place: usize,
+    known: &mut [u64],
 ) -> u64
     requires { ⌜ Summable (now circuit) (now nodes) (now y) layout k × (place < 2 ^ k) × (row ≡ rowAt k place) ⌝ }
     ensures { λ r. ⌜ el r ≡ valueAt 𝔾 (lentEnvironment (now (circuit .entry)) (now (witness .entry)) (now (columns .entry)) (now (challenges .entry)) (now (y .entry))) (exprOf (now (nodes .entry)) (composedNodes (circuitOf (now (circuit .entry))) - 1)) row ⌝ }
 {
     let eq = eq_at(k, y, row);
-    let root = nodes.len() / 4 - 1;
-    value(
+    let count = nodes.len() / 4;
+    let root = count - 1;
+    let point = Point {
+        k: k,
+        row: row,
+        place: place,
+        eq: eq,
+    };
+    if known.len() < count {
+        return value(
+            nodes,
+            circuit,
+            witness,
+            columns,
+            challenges,
+            layout,
+            point,
+            root,
+        );
+    }
+    let c = context(layout, point);
+    node_values(
         nodes,
         circuit,
         witness,
         columns,
         challenges,
-        layout,
-        Point {
-            k: k,
-            row: row,
-            place: place,
-            eq: eq,
-        },
-        root,
-    )
+        &c,
+        known,
+        count,
+    );
+    known[root]
 }
 
 // The sum of the last node's values over the rows, through the row order once.
-pub fn sum_rows(
+fn sum_rows(
     circuit: &[u64],
     witness: &[u64],
     columns: &[u64],
@@ -163,6 +183,7 @@ pub fn sum_rows(
     y: &[u64],
     layout: Layout,
     k: usize,
+    known: &mut [u64],
 ) -> u64
     requires { ⌜ Summable (now circuit) (now nodes) (now y) layout k ⌝ }
     ensures { λ r. ⌜ r ≡ val (sumOf (now (circuit .entry)) (now (witness .entry)) (now (columns .entry)) (now (nodes .entry)) (now (challenges .entry)) (now (y .entry))) ⌝ }
@@ -183,6 +204,7 @@ pub fn sum_rows(
             k,
             row,
             place,
+            known,
         );
         sum = field::add_u64(sum, x);
         row = row_after(row, place, k);
@@ -210,7 +232,19 @@ fn sum_prepared(
     }
     let layout = sum_layout(circuit, v);
     let k = circuit[0] as usize;
-    let sum = sum_rows(circuit, witness, columns, nodes, challenges, y, layout, k);
+    let mut known = [0u64; 11295];
+    let all = &mut known[..];
+    let sum = sum_rows(
+        circuit,
+        witness,
+        columns,
+        nodes,
+        challenges,
+        y,
+        layout,
+        k,
+        all,
+    );
     RowSum {
         number: 0,
         sum: sum,
