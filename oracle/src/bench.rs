@@ -1,15 +1,19 @@
 //! The same inputs through the Rust and through the library, in one run, on one
-//! thread. Every time is the best of several.
+//! thread, one side after the other.
 use super::super::prover::{lookup_h_poly, lookup_m_poly};
 use super::cases::demo;
 use super::generate::Log;
-use super::given::{self, f, rows, Expr, Poly};
+use super::given::{self, f, rows, words, Expr, Poly};
+use super::laps::Laps;
 use super::library::Library;
-use super::model::{Tree, P};
-use super::questions::read;
+use super::model::{composed_words, Columns, Tree, P};
+use super::questions::{read, Circuit};
 use super::sections::*;
 use super::stored::lent_for;
-use crate::util::arithmetic::{Field, Goldilocks as F};
+use crate::util::{
+    arithmetic::{Field, Goldilocks as F},
+    Itertools,
+};
 use std::{
     collections::BTreeMap,
     hint::black_box,
@@ -94,166 +98,287 @@ fn little() -> Log {
     log
 }
 
+const RUST: usize = 0;
+const OURS: usize = 1;
+
+/// Milliseconds by stage: the Rust's and the library's, one for each repetition.
 #[derive(Default)]
-struct Times(BTreeMap<&'static str, Duration>);
+struct Times(BTreeMap<&'static str, [Vec<f64>; 2]>);
 
 impl Times {
-    fn note(&mut self, stage: &'static str, took: Duration) {
-        let best = self.0.entry(stage).or_insert(took);
-        *best = took.min(*best);
+    fn note(&mut self, side: usize, stage: &'static str, took: Duration) {
+        self.0.entry(stage).or_default()[side].push(took.as_nanos() as f64 / 1e6);
     }
-    fn time<T>(&mut self, stage: &'static str, run: impl FnOnce() -> T) -> T {
+    fn time<T>(&mut self, side: usize, stage: &'static str, run: impl FnOnce() -> T) -> T {
         let start = Instant::now();
         let out = black_box(run());
-        self.note(stage, start.elapsed());
+        self.note(side, stage, start.elapsed());
         out
+    }
+    /// The last time of a stage.
+    fn last(&self, side: usize, stage: &str) -> Duration {
+        let ms = self.0.get(stage).and_then(|t| t[side].last());
+        Duration::from_nanos((ms.unwrap_or(&0.) * 1e6) as u64)
     }
 }
 
-const STAGES: [&str; 14] = [
-    "questions 1 to 11",
-    "user expressions",
+fn median(mut of: Vec<f64>) -> Option<f64> {
+    of.sort_by(f64::total_cmp);
+    of.get(of.len() / 2).copied()
+}
+
+/// What runs on both sides in each repetition, one side after the other.
+const JOBS: [&str; 6] = ["build", "m alone", "h alone", "user expressions", "eq_xy", "row sum"];
+
+/// What is printed, in order: the stages of a build as the library takes them, the
+/// build, and what is called by itself.
+const LINES: [&str; 18] = [
+    "questions 1 to 14",
     "instance",
     "(copying)",
+    "permutation",
     "compressed",
     "m",
     "h",
-    "permutation",
-    "compose",
     "z",
+    "compose",
     "build",
+    "build without m",
+    "m alone",
+    "h alone",
     "eq_xy",
+    "user expressions",
     "row sum",
+    "questions 1 to 11",
     "reading the words",
 ];
 
-fn sheet(name: &str, log: &Log, library: Library, reps: usize) {
-    let mut lent = lent_for(log);
-    let c = read(&lent[0]).unwrap();
-    let rows_in = 1 << c.k;
-    let (mut rust, mut ours) = (Times::default(), Times::default());
-    let rest: Vec<u64> = (0..1 + c.k as u64).map(|i| 1 << (20 + i)).collect();
-    let (alpha, y) = (rest[0], &rest[1..]);
-    let challenges = [&log.challenges[..], &[alpha]].concat();
-    let mut sums = vec![];
-    for _ in 0..reps {
-        let given = rust.time("reading the words", || given::Log::of(&lent[0], &lent[1], &lent[2], &lent[3]));
-        let (mut last, mut whole) = (Instant::now(), Duration::ZERO);
-        let (built, composed): (_, Expr) = given::build(&given, &mut |stage| {
-            let took = last.elapsed();
-            rust.note(stage, took);
-            whole += took;
-            last = Instant::now();
-        })
-        .unwrap();
-        rust.note("build", whole);
-        rust.time("eq_xy", || Poly::eq_xy(&f(y)));
+struct Sheet {
+    c: Circuit,
+    lent: Vec<Vec<u64>>,
+    given: given::Log,
+    /// The columns that the Rust builds, and all that its row sum reads.
+    built: Columns,
+    columns: Vec<u64>,
+    composed: Expr,
+    polys: Vec<Vec<F>>,
+    /// With α.
+    challenges: Vec<u64>,
+    y: Vec<u64>,
+    /// User expressions: constraints, then inputs and tables.
+    roots: Vec<u64>,
+    nodes: Vec<u64>,
+    expressions: Vec<Expr>,
+    laps: Option<Laps>,
+}
+
+fn slice(s: &[u64]) -> [usize; 2] {
+    [s.as_ptr() as usize, s.len()]
+}
+
+impl Sheet {
+    fn of(log: &Log) -> Sheet {
+        let mut lent = lent_for(log);
+        let c = read(&lent[0]).unwrap();
+        lent[5] = composed_words(&c);
+        let given = given::Log::of(&lent[0], &lent[1], &lent[2], &lent[3]);
+        let (built, composed) = given::build(&given, &mut |_| {}).unwrap();
         let columns = built.words();
-        let polys: Vec<Vec<F>> = super::calls::polys(&c, &lent[2], &columns).into_iter().map(f).collect();
-        let (all, point) = (f(&challenges), f(y));
-        sums.push(rust.time("row sum", || rows(c.k, &composed, &polys, &all, &point).into_iter().sum::<F>()).value());
-
-        // The user expressions on every row, one after another.
+        let polys = super::calls::polys(&c, &lent[2], &columns).into_iter().map(f).collect();
         let roots: Vec<u64> = [CONSTRAINTS, PAIRS].iter().flat_map(|s| log.sections.bodies[*s].clone()).collect();
-        let nodes = &log.sections.bodies[NODES];
-        let (user, eq) = (&log.challenges[..c.challenges() as usize], vec![0u64; rows_in]);
-        let expressions: Vec<Expr> = roots.iter().map(|r| given::expression(nodes, *r)).collect();
-        let (theirs, zeros) = (f(user), f(&eq));
-        let values = rust.time("user expressions", || {
-            let value = |e| super::expressions::rows(c.k, e, &polys, &theirs, &zeros);
-            expressions.iter().map(value).collect::<Vec<_>>()
-        });
-        if library.has("expression_values") {
-            let start = lent[0][4];
-            let layout = [c.instances.len() as u64, c.preprocess.len() as u64, start, c.witnesses(), 0, 0, 0];
-            let mut out = vec![vec![0u64; rows_in]; roots.len()];
-            let slice = |s: &[u64]| [s.as_ptr() as usize, s.len()];
-            let lent = [&nodes[..], &lent[0], &lent[2], &columns, user, &layout, &eq].map(slice).concat();
-            ours.time("user expressions", || {
-                for (root, out) in roots.iter().zip(&mut out) {
-                    let out = [*root as usize, out.as_mut_ptr() as usize, out.len()];
-                    library.call("expression_values", &[&[c.k][..], &lent, &out].concat());
-                }
-            });
-            values.iter().zip(&out).for_each(|(theirs, mine)| assert_eq!(given::words(theirs), *mine));
-        }
-        if library.has("circuit_first_no") {
-            let circuit = [lent[0].as_ptr() as usize, lent[0].len()];
-            assert_eq!(ours.time("questions 1 to 11", || library.call("circuit_first_no", &circuit)), 0);
-        }
+        let nodes = log.sections.bodies[NODES].clone();
+        let expressions = roots.iter().map(|r| given::expression(&nodes, *r)).collect();
+        let challenges = [&log.challenges[..], &[1 << 20]].concat();
+        let y = (1..=c.k as u64).map(|i| 1 << (20 + i)).collect();
+        let laps = Laps::of(&c, lent[5].len());
+        Sheet { c, lent, given, built, columns, composed, polys, challenges, y, roots, nodes, expressions, laps }
+    }
 
-        if library.has("build") {
-            let mut answer = [0u64; 3];
-            let mut args: Vec<usize> = lent.iter_mut().flat_map(|s| [s.as_mut_ptr() as usize, s.len()]).collect();
-            args.extend([answer.as_mut_ptr() as usize, 3]);
-            assert_eq!(ours.time("build", || library.call("build", &args)), 0);
-            assert_eq!(lent[4], columns);
-        }
-        let slice = |s: &[u64]| [s.as_ptr() as usize, s.len()];
-        let mut out = vec![0u64; rows_in];
-        let out = [out.as_mut_ptr() as usize, rows_in];
-        if library.has("eq_xy") {
-            ours.time("eq_xy", || library.call("eq_xy", &[&[c.k][..], &slice(y), &out].concat()));
-        }
-        let pairs: Vec<_> = built.compressed.chunks(2).collect();
-        if library.has("lookup_m_poly") && !pairs.is_empty() {
-            let call = |p: &&[Vec<u64>]| {
-                library.call("lookup_m_poly", &[&[c.k][..], &slice(&p[0]), &slice(&p[1]), &out].concat())
-            };
-            ours.time("m", || pairs.iter().map(call).sum::<u64>());
-        }
-        if library.has("lookup_h_poly") && !pairs.is_empty() {
-            let gamma = log.challenges[log.challenges.len() - 1] as usize;
-            let call = |(p, m): (&&[Vec<u64>], &Vec<u64>)| {
-                library.call(
-                    "lookup_h_poly",
-                    &[&[c.k][..], &slice(&p[0]), &slice(&p[1]), &slice(m), &[gamma], &out].concat(),
-                )
-            };
-            ours.time("h", || pairs.iter().zip(&built.m).map(call).sum::<u64>());
-        }
-        if library.has("row_sum") && library.has("build") {
-            let mut sum = [0u64];
-            let lent = [&lent[0][..], &lent[2], &columns, &lent[5], &challenges, y];
-            let mut args: Vec<usize> = lent.iter().flat_map(|s| slice(s)).collect();
-            args.extend([sum.as_mut_ptr() as usize, 1]);
-            assert_eq!(ours.time("row sum", || library.call("row_sum", &args)), 0);
-            assert_eq!(sum[0], sums[0]);
+    fn rust(&self, job: &'static str, times: &mut Times) -> Vec<Vec<u64>> {
+        let pairs =
+            || self.built.compressed.chunks(2).map(|p| [Poly::new(f(&p[0])), Poly::new(f(&p[1]))]).collect_vec();
+        let challenges = f(&self.challenges);
+        let value = |e: &Expr, eq: &[F]| rows(self.c.k, e, &|p, b| self.polys[p][b], &|i| challenges[i], eq);
+        match job {
+            "build" => {
+                let (mut last, mut whole) = (Instant::now(), Duration::ZERO);
+                let built = given::build(&self.given, &mut |stage| {
+                    let took = last.elapsed();
+                    times.note(RUST, stage, took);
+                    whole += took;
+                    last = Instant::now();
+                });
+                times.note(RUST, "build", whole);
+                times.note(RUST, "build without m", whole - times.last(RUST, "m"));
+                vec![built.unwrap().0.words()]
+            }
+            "m alone" => {
+                let pairs = pairs();
+                let m = times.time(RUST, job, || pairs.iter().map(|p| lookup_m_poly(p).unwrap()).collect_vec());
+                m.iter().map(|m| words(&m.evals)).collect()
+            }
+            "h alone" => {
+                let (pairs, m) = (pairs(), self.built.m.iter().map(|m| Poly::new(f(m))).collect_vec());
+                let gamma = &self.given.gamma;
+                let all = || pairs.iter().zip(&m).map(|(p, m)| lookup_h_poly(p, m, gamma)).collect_vec();
+                times.time(RUST, job, all).iter().map(|h| words(&h.evals)).collect()
+            }
+            "user expressions" => {
+                let zeros = vec![F::ZERO; 1 << self.c.k];
+                let all = || self.expressions.iter().map(|e| value(e, &zeros)).collect_vec();
+                times.time(RUST, job, all).iter().map(|v| words(v)).collect()
+            }
+            "eq_xy" => {
+                let y = f(&self.y);
+                vec![words(&times.time(RUST, job, || Poly::eq_xy(&y)).evals)]
+            }
+            _ => {
+                let y = f(&self.y);
+                let sum = || value(&self.composed, &Poly::eq_xy(&y).evals).into_iter().sum::<F>();
+                vec![vec![times.time(RUST, job, sum).value()]]
+            }
         }
     }
+
+    /// None: the library lacks the call.
+    fn ours(&mut self, job: &'static str, library: Library, times: &mut Times) -> Option<Vec<Vec<u64>>> {
+        let call = match job {
+            "m alone" => "lookup_m_poly",
+            "h alone" => "lookup_h_poly",
+            "user expressions" => "expression_values",
+            _ => job.strip_suffix(" sum").map_or(job, |_| "row_sum"),
+        };
+        if !library.has(call) {
+            return None;
+        }
+        let (k, rows) = ([self.c.k], 1 << self.c.k);
+        let outs = |n: usize| vec![vec![0u64; rows]; n];
+        let mut run = |calls: Vec<Vec<usize>>| {
+            times.time(OURS, job, || calls.iter().for_each(|args| drop(library.call(call, args))))
+        };
+        let lookups = self.c.lookups.len();
+        let compressed =
+            |l: usize| [slice(&self.built.compressed[2 * l]), slice(&self.built.compressed[2 * l + 1])].concat();
+        match job {
+            "build" => {
+                let mut answer = [0u64; 3];
+                let mut args: Vec<usize> =
+                    self.lent.iter_mut().flat_map(|s| [s.as_mut_ptr() as usize, s.len()]).collect();
+                args.extend([answer.as_mut_ptr() as usize, 3]);
+                run(vec![args]);
+                if let Some(laps) = &mut self.laps {
+                    let stages = laps.build(library, &self.lent);
+                    assert_eq!(laps.columns(), self.lent[4]);
+                    times.note(OURS, "build, fenced", stages.iter().map(|s| s.1).sum());
+                    stages.into_iter().for_each(|(stage, took)| times.note(OURS, stage, took));
+                    let m = times.last(OURS, "m");
+                    times.note(OURS, "build without m", times.last(OURS, "build").saturating_sub(m));
+                }
+                Some(vec![self.lent[4].clone()])
+            }
+            "m alone" => {
+                let mut out = outs(lookups);
+                let to = out.iter_mut().map(|o| [o.as_mut_ptr() as usize, rows]).collect_vec();
+                run((0..lookups).map(|l| [&k[..], &compressed(l), &to[l]].concat()).collect());
+                Some(out)
+            }
+            "h alone" => {
+                let mut out = outs(lookups);
+                let to = out.iter_mut().map(|o| [o.as_mut_ptr() as usize, rows]).collect_vec();
+                let gamma = [self.given.gamma.value() as usize];
+                let args = |l: usize| [&k[..], &compressed(l), &slice(&self.built.m[l]), &gamma, &to[l]].concat();
+                run((0..lookups).map(args).collect());
+                Some(out)
+            }
+            "user expressions" => {
+                let mut out = outs(self.roots.len());
+                let to = out.iter_mut().map(|o| [o.as_mut_ptr() as usize, rows]).collect_vec();
+                let (c, start, eq) = (&self.c, self.lent[0][4], vec![0u64; rows]);
+                let layout = [c.instances.len() as u64, c.preprocess.len() as u64, start, c.witnesses(), 0, 0, 0];
+                let user = &self.challenges[..c.challenges() as usize];
+                let lent = [&self.nodes[..], &self.lent[0], &self.lent[2], &self.columns, user, &layout, &eq];
+                let lent = lent.map(slice).concat();
+                let args = |(root, to): (&u64, &[usize; 2])| [&k[..], &lent, &[*root as usize], to].concat();
+                run(self.roots.iter().zip(&to).map(args).collect());
+                Some(out)
+            }
+            "eq_xy" => {
+                let mut out = outs(1);
+                let to = [out[0].as_mut_ptr() as usize, rows];
+                run(vec![[&k[..], &slice(&self.y), &to].concat()]);
+                Some(out)
+            }
+            _ => {
+                let mut sum = vec![0u64];
+                let to = [sum.as_mut_ptr() as usize, 1];
+                let lent = [&self.lent[0][..], &self.lent[2], &self.columns, &self.lent[5], &self.challenges, &self.y];
+                run(vec![[&lent.map(slice).concat()[..], &to].concat()]);
+                Some(vec![sum])
+            }
+        }
+    }
+}
+
+fn sheet(name: &str, log: &Log, library: Library, reps: usize) {
+    let mut sheet = Sheet::of(log);
+    let mut times = Times::default();
+    for rep in 0..reps {
+        for job in JOBS.into_iter().filter(|job| !log.sections.bodies[WIDTHS].is_empty() || !job.ends_with("alone")) {
+            // Each side is first in every other repetition.
+            let (mut theirs, mut mine) = (None, None);
+            for side in [rep % 2, 1 - rep % 2] {
+                match side {
+                    RUST => theirs = Some(sheet.rust(job, &mut times)),
+                    _ => mine = sheet.ours(job, library, &mut times),
+                }
+            }
+            assert!(mine.is_none() || mine == theirs, "{job}: the sides differ");
+        }
+        let lent = &sheet.lent;
+        times.time(RUST, "reading the words", || given::Log::of(&lent[0], &lent[1], &lent[2], &lent[3]));
+        if library.has("circuit_first_no") {
+            let asked = times.time(OURS, "questions 1 to 11", || library.call("circuit_first_no", &slice(&lent[0])));
+            assert_eq!(asked, 0);
+        }
+    }
+    let c = &sheet.c;
     println!(
-        "{name}: {} copied, {} z, {} columns, {} nodes; best of {reps}",
+        "{name}: {} copied, {} z, {} columns, {} nodes; medians of {reps}",
         c.copied().len(),
         c.parts(),
-        c.column_words() / rows_in,
-        lent[5].len() / 4
+        c.column_words() >> c.k,
+        sheet.lent[5].len() / 4
     );
     println!("  {:<18} {:>12} {:>12} {:>8}", "stage", "Rust ms", "library ms", "ratio");
-    for stage in STAGES {
-        let ms = |d: &Duration| d.as_nanos() as f64 / 1e6;
-        match (rust.0.get(stage), ours.0.get(stage)) {
-            (Some(theirs), Some(mine)) => {
-                println!("  {stage:<18} {:>12.4} {:>12.4} {:>8.2}", ms(theirs), ms(mine), ms(mine) / ms(theirs))
-            }
-            (Some(theirs), None) => println!("  {stage:<18} {:>12.4} {:>12} {:>8}", ms(theirs), "-", "-"),
-            (None, Some(mine)) => println!("  {stage:<18} {:>12} {:>12.4} {:>8}", "-", ms(mine), "-"),
-            (None, None) => {}
-        }
+    for stage in LINES {
+        let Some(of) = times.0.get(stage) else { continue };
+        let ratios = of[OURS].iter().zip(&of[RUST]).map(|(mine, theirs)| mine / theirs).collect();
+        let tell = |ms: Option<f64>, digits: usize| ms.map_or("-".into(), |ms| format!("{ms:.digits$}"));
+        let [theirs, mine] = [RUST, OURS].map(|side| tell(median(of[side].clone()), 4));
+        println!("  {stage:<18} {theirs:>12} {mine:>12} {:>8}", tell(median(ratios), 2));
+    }
+    if let Some(of) = times.0.get("build, fenced") {
+        println!(
+            "  The library's stages, questions 1 to 14 to compose, are the times between the first writes to their \
+             sections in a build of {:.4} ms whose buffers are fenced.",
+            median(of[OURS].clone()).unwrap()
+        );
     }
 }
 
 pub fn sheets(library: Library) {
-    sheet("k = 10, 8 lookups of width 8, 40 copied columns, 32 constraints", &full(), library, 20);
-    sheet("k = 10, plain", &plain(), library, 40);
-    sheet("k = 4", &little(), library, 400);
+    println!("Each repetition runs both sides, in turn first; a ratio is the median of the repetitions' ratios.");
+    sheet("k = 10, 8 lookups of width 8, 40 copied columns, 32 constraints", &full(), library, 61);
+    sheet("k = 10, plain", &plain(), library, 201);
+    sheet("k = 4", &little(), library, 401);
     if library.has("circuit_first_no") {
         let words = super::limits::whole().sections.words();
         let mut times = Times::default();
-        for _ in 0..20 {
-            let no = times.time("questions", || library.call("circuit_first_no", &[words.as_ptr() as usize, words.len()]));
-            assert_eq!(no, 0);
+        for _ in 0..21 {
+            assert_eq!(times.time(OURS, "questions", || library.call("circuit_first_no", &slice(&words))), 0);
         }
-        println!("k = 10, everything at its limit, questions 1 to 11: {:.3} ms", times.0["questions"].as_nanos() as f64 / 1e6);
+        let ms = median(times.0["questions"][OURS].clone()).unwrap();
+        println!("k = 10, everything at its limit, questions 1 to 11: {ms:.3} ms");
     }
 }
 

@@ -160,7 +160,7 @@ pub fn differences() {
         vec![Query::new(0, Rotation(0)).into(), Query::new(1, Rotation(0)).into()],
         Expr::Challenge(0).into(),
     );
-    let value = rows(1, &list, &[f(&[1, 1]), f(&[10, 10])], &f(&[100]), &f(&[0]))[0].value();
+    let value = rows(1, &list, &|p, _| F::from([1, 10][p]), &|_| F::from(100), &f(&[0, 0]))[0].value();
     println!(
         "a list of p0, p1 by c0: `identifier` prints {}; with p0 = 1, p1 = 10, c0 = 100 it is {value}",
         list.identifier()

@@ -3,13 +3,13 @@
 //! (crate expression_entry). Half of the cases are trees as document 01 lays them,
 //! half are any node words, which the definition reads as a tree too.
 use super::generate::{tree, value, Scope};
-use super::given::{f, words, Expr, Poly};
+use super::given::{f, rows, words, Expr, Poly};
 use super::library::{catch_faults, Library, Room, RUNNING};
 use super::model::{order, Place, Tree, P, SIGN};
 use super::sections::Rng;
 use crate::util::{
-    arithmetic::{BooleanHypercube, Field, Goldilocks as F},
-    expression::{CommonPolynomial, Query, Rotation},
+    arithmetic::{Field, Goldilocks as F},
+    expression::{Query, Rotation},
 };
 use std::{process::exit, sync::atomic::Ordering};
 
@@ -85,26 +85,10 @@ fn near(r: i64, k: usize) -> i64 {
 }
 
 /// The Rust's value on every row; what there is none of is 0.
-pub fn rows(k: usize, expression: &Expr, polys: &[Vec<F>], challenges: &[F], eq: &[F]) -> Vec<F> {
-    let bh = BooleanHypercube::new(k);
-    let order: Vec<usize> = bh.iter().collect();
-    let row = |b: usize| {
-        expression.evaluate(
-            &|constant| constant,
-            &|common| match common {
-                CommonPolynomial::Identity => F::from(b as u64),
-                CommonPolynomial::Lagrange(i) => F::from((order[i.rem_euclid(1 << k) as usize] == b) as u64),
-                CommonPolynomial::EqXY(_) => eq[b],
-            },
-            &|query| polys.get(query.poly()).map_or(F::ZERO, |p| p[bh.rotate(b, query.rotation())]),
-            &|idx| challenges.get(idx).copied().unwrap_or(F::ZERO),
-            &|value| -value,
-            &|lhs, rhs| lhs + rhs,
-            &|lhs, rhs| lhs * rhs,
-            &|value, scalar| value * scalar,
-        )
-    };
-    (0..1 << k).map(row).collect()
+fn values(k: usize, expression: &Expr, polys: &[Vec<u64>], challenges: &[u64], eq: &[u64]) -> Vec<u64> {
+    let poly = |p: usize, b: usize| polys.get(p).map_or(F::ZERO, |p| F::from(p[b]));
+    let challenge = |i: usize| challenges.get(i).map_or(F::ZERO, |c| F::from(*c));
+    words(&rows(k, expression, &poly, &challenge, &f(eq)))
 }
 
 /// Lent words, and where the polynomials stand in them.
@@ -170,7 +154,8 @@ fn case(seed: u64, i: u64) -> Case {
         witness.resize_with(30, || (0..n).map(|_| value(rng, wide)).collect());
     }
     let before: Vec<u64> = (0..rng.below(40)).map(|_| rng.word()).collect();
-    let layout = [instance.len(), preprocess.len(), before.len(), witness.len(), permutation.len(), skipped.len(), rest.len()];
+    let layout =
+        [instance.len(), preprocess.len(), before.len(), witness.len(), permutation.len(), skipped.len(), rest.len()];
     let polys = [&instance[..], &preprocess, &witness, &permutation, &rest].concat();
     let challenges: Vec<u64> = (0..rng.below(4)).map(|_| value(rng, true)).collect();
     let y: Vec<u64> = (0..k).map(|_| value(rng, true)).collect();
@@ -266,8 +251,7 @@ fn differs(c: &Case, i: u64) -> Result<(), String> {
     let l = &c.lent;
     let (k, there) = (l.k, l.root < l.nodes.len() as u64 / 4);
     let rust = given(&c.tree, k);
-    let polys: Vec<Vec<F>> = c.polys.iter().map(|p| f(p)).collect();
-    let values = words(&rows(k, &rust, &polys, &f(&l.challenges), &f(&l.eq)));
+    let values = values(k, &rust, &c.polys, &l.challenges, &l.eq);
     let degree = if there { rust.degree().min(MOST) as u64 } else { 0 };
     let mut queries: Vec<(u64, i32)> = (rust.used_query().into_iter())
         .map(|q| (q.poly() as u64, q.rotation().0))
@@ -289,7 +273,9 @@ fn differs(c: &Case, i: u64) -> Result<(), String> {
         }
     }
     for at_end in [true, false] {
-        let same = |what: &str, got: &[u64], due: &[u64]| match (0..due.len().max(got.len())).find(|j| got.get(*j) != due.get(*j)) {
+        let same = |what: &str, got: &[u64], due: &[u64]| match (0..due.len().max(got.len()))
+            .find(|j| got.get(*j) != due.get(*j))
+        {
             Some(j) => Err(format!("{what}, word {j}: {:?}, and {:?} is due", got.get(j), due.get(j))),
             None => Ok(()),
         };

@@ -157,11 +157,17 @@ pub fn build(log: &Log, lap: &mut impl FnMut(&'static str)) -> Option<(Columns, 
     Some((built, composed))
 }
 
-/// The expression's value on every row, by the Rust's `evaluate`.
-pub fn rows(k: usize, expression: &Expr, polys: &[Vec<F>], challenges: &[F], y: &[F]) -> Vec<F> {
+/// The expression's value on every row, by the Rust's `evaluate`, over a polynomial
+/// at a row and a challenge by their numbers.
+pub fn rows(
+    k: usize,
+    expression: &Expr,
+    poly: &impl Fn(usize, usize) -> F,
+    challenge: &impl Fn(usize) -> F,
+    eq: &[F],
+) -> Vec<F> {
     let bh = BooleanHypercube::new(k);
     let order = bh.iter().collect_vec();
-    let eq = Poly::eq_xy(y);
     let row = |b: usize| {
         expression.evaluate(
             &|constant| constant,
@@ -170,8 +176,8 @@ pub fn rows(k: usize, expression: &Expr, polys: &[Vec<F>], challenges: &[F], y: 
                 CommonPolynomial::Lagrange(i) => F::from((order[i.rem_euclid(1 << k) as usize] == b) as u64),
                 CommonPolynomial::EqXY(_) => eq[b],
             },
-            &|query| polys[query.poly()][bh.rotate(b, query.rotation())],
-            &|idx| challenges[idx],
+            &|query| poly(query.poly(), bh.rotate(b, query.rotation())),
+            challenge,
             &|value| -value,
             &|lhs, rhs| lhs + rhs,
             &|lhs, rhs| lhs * rhs,
@@ -185,13 +191,14 @@ pub fn rows(k: usize, expression: &Expr, polys: &[Vec<F>], challenges: &[F], y: 
 /// in value on every row, degree, `used_query`, and as trees.
 fn composed_alike(c: &Circuit, rust: &Expr, nodes: &[u64], polys: &[&[u64]], challenges: &[u64], y: &[u64]) -> F {
     let mine = expression(nodes, nodes.len() as u64 / 4 - 1);
-    let (polys, challenges, y) = (polys.iter().map(|p| f(p)).collect_vec(), f(challenges), f(y));
-    let values = rows(c.k, rust, &polys, &challenges, &y);
-    assert_eq!(values, rows(c.k, &mine, &polys, &challenges, &y), "values of the composed expressions");
+    let (polys, challenges, eq) = (polys.iter().map(|p| f(p)).collect_vec(), f(challenges), Poly::eq_xy(&f(y)));
+    let values = |e: &Expr| rows(c.k, e, &|p, b| polys[p][b], &|i| challenges[i], &eq.evals);
+    let theirs = values(rust);
+    assert_eq!(theirs, values(&mine), "values of the composed expressions");
     assert_eq!(rust.degree(), mine.degree(), "degree");
     assert_eq!(rust.used_query(), mine.used_query(), "used_query");
     assert_eq!(*rust, mine, "the composed trees");
-    values.into_iter().sum()
+    theirs.into_iter().sum()
 }
 
 /// The answer to a call: the model's number, the Rust's columns, the model's

@@ -140,14 +140,14 @@ impl Library {
 // ---- fenced memory
 
 extern "C" {
-    fn mmap(at: *mut c_void, len: usize, prot: i32, flags: i32, fd: i32, offset: i64) -> *mut c_void;
-    fn mprotect(at: *mut c_void, len: usize, prot: i32) -> i32;
+    pub fn mmap(at: *mut c_void, len: usize, prot: i32, flags: i32, fd: i32, offset: i64) -> *mut c_void;
+    pub fn mprotect(at: *mut c_void, len: usize, prot: i32) -> i32;
     fn munmap(at: *mut c_void, len: usize) -> i32;
-    fn signal(number: i32, handler: usize) -> usize;
+    pub fn signal(number: i32, handler: usize) -> usize;
     fn write(fd: i32, bytes: *const u8, len: usize) -> isize;
     fn _exit(status: i32) -> !;
 }
-const PAGE: usize = 4096;
+pub const PAGE: usize = 4096;
 const FILL: u64 = 0xa5a5_a5a5_a5a5_a5a5;
 
 /// Words in pages of their own, between two pages that can't be touched.

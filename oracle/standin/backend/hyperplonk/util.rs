@@ -10,6 +10,7 @@ mod examples;
 mod expressions;
 mod generate;
 mod given;
+mod laps;
 mod library;
 mod limits;
 mod model;
