@@ -1,7 +1,8 @@
 //! Expressions alone: value on every row, degree and queries, by the Rust's
 //! `evaluate`, `degree`, `used_query`, beside the library's entry points
 //! (crate expression_entry). Half of the cases are trees as document 01 lays them,
-//! half are any node words, which the definition reads as a tree too.
+//! half are any node words, which the definition reads as a tree too. `stub` puts the
+//! Rust in the library's place, whole or with one fault, to try the comparison itself.
 use super::generate::{tree, value, Scope};
 use super::given::{f, rows, words, Expr, Poly};
 use super::library::{catch_faults, Library, Room, RUNNING};
@@ -11,7 +12,7 @@ use crate::util::{
     arithmetic::{Field, Goldilocks as F},
     expression::{Query, Rotation},
 };
-use std::{process::exit, sync::atomic::Ordering};
+use std::{process::exit, ptr, sync::atomic::Ordering};
 
 /// The largest degree that is told.
 const MOST: usize = 1025;
@@ -89,6 +90,14 @@ fn values(k: usize, expression: &Expr, polys: &[Vec<u64>], challenges: &[u64], e
     let poly = |p: usize, b: usize| polys.get(p).map_or(F::ZERO, |p| F::from(p[b]));
     let challenge = |i: usize| challenges.get(i).map_or(F::ZERO, |c| F::from(*c));
     words(&rows(k, expression, &poly, &challenge, &f(eq)))
+}
+
+/// The queries that are told, two words each in rising order.
+fn queries(expression: &Expr, polys: usize, k: usize) -> Vec<u64> {
+    let used = expression.used_query().into_iter().map(|q| (q.poly(), q.rotation().0));
+    let mut told: Vec<_> = used.filter(|q| q.0 < polys && q.1.unsigned_abs() as usize <= k).collect();
+    told.sort();
+    told.iter().flat_map(|q| [q.0 as u64, (q.1 as i64 + SIGN) as u64]).collect()
 }
 
 /// Lent words, and where the polynomials stand in them.
@@ -219,7 +228,7 @@ enum Arg<'a> {
 }
 use Arg::*;
 
-fn fenced(name: &str, args: &[Arg], out: &[u64], at_end: bool) -> Result<(u64, Vec<u64>), String> {
+fn fenced(library: Library, name: &str, args: &[Arg], out: &[u64], at_end: bool) -> Result<(u64, Vec<u64>), String> {
     let (mut registers, mut rooms) = (vec![], vec![]);
     for arg in args {
         match arg {
@@ -235,7 +244,10 @@ fn fenced(name: &str, args: &[Arg], out: &[u64], at_end: bool) -> Result<(u64, V
     if name != "expression_degree" {
         registers.extend([room.words as usize, out.len()]);
     }
-    let number = Library::Linked.call(name, &registers);
+    let number = match library {
+        Library::Stub(fault) => stub(name, &registers, fault),
+        Library::Linked => library.call(name, &registers),
+    };
     for room in &rooms {
         room.after()?;
     }
@@ -247,21 +259,13 @@ pub fn value_args<'a>(l: &'a Lent, k: u64, root: u64, layout: &'a [u64]) -> Vec<
     [Number(k)].into_iter().chain(slices).chain([Slice(layout), Slice(&l.eq), Number(root)]).collect()
 }
 
-fn differs(c: &Case, i: u64) -> Result<(), String> {
+fn differs(library: Library, c: &Case, i: u64) -> Result<(), String> {
     let l = &c.lent;
     let (k, there) = (l.k, l.root < l.nodes.len() as u64 / 4);
     let rust = given(&c.tree, k);
     let values = values(k, &rust, &c.polys, &l.challenges, &l.eq);
     let degree = if there { rust.degree().min(MOST) as u64 } else { 0 };
-    let mut queries: Vec<(u64, i32)> = (rust.used_query().into_iter())
-        .map(|q| (q.poly() as u64, q.rotation().0))
-        .filter(|q| there && q.1.unsigned_abs() as usize <= k)
-        .collect();
-    queries.sort();
-    let named = |polys: usize| -> Vec<u64> {
-        let pairs = queries.iter().filter(|q| q.0 < polys as u64);
-        pairs.flat_map(|q| [q.0, (q.1 as i64 + SIGN) as u64]).collect()
-    };
+    let named = |polys: usize| if there { queries(&rust, polys, k) } else { vec![] };
     // The model beside the Rust, where it has all that is named.
     if c.whole {
         let columns: Vec<&[u64]> = c.polys.iter().map(|p| &p[..]).collect();
@@ -279,14 +283,14 @@ fn differs(c: &Case, i: u64) -> Result<(), String> {
             Some(j) => Err(format!("{what}, word {j}: {:?}, and {:?} is due", got.get(j), due.get(j))),
             None => Ok(()),
         };
-        let (got, _) = fenced("expression_degree", &[Slice(&l.nodes), Number(l.root)], &[], at_end)?;
+        let (got, _) = fenced(library, "expression_degree", &[Slice(&l.nodes), Number(l.root)], &[], at_end)?;
         same("degree", &[got], &[degree])?;
         // All polynomials, one less, and a buffer that is exact, longer or short.
         for (count, more) in [(c.polys.len() + 2, 0), (c.polys.len().saturating_sub(1), 3), (c.polys.len() + 2, -1)] {
             let due = named(count);
             let before: Vec<u64> = (0..(due.len() as i64 + more).max(0) as u64).map(|j| j ^ 0x5a5a).collect();
             let args = [Slice(&l.nodes), Number(l.root), Number(count as u64), Number(k as u64)];
-            let (got, after) = fenced("expression_queries", &args, &before, at_end)?;
+            let (got, after) = fenced(library, "expression_queries", &args, &before, at_end)?;
             same("how many queries", &[got], &[due.len() as u64 / 2])?;
             let fits = due.len() <= before.len();
             let due = if fits { [&due[..], &before[due.len()..]].concat() } else { before };
@@ -294,7 +298,8 @@ fn differs(c: &Case, i: u64) -> Result<(), String> {
         }
         let before: Vec<u64> = (0..values.len() as u64 + i % 3).map(|j| j ^ 0x5a5a).collect();
         let due = if there { [&values[..], &before[values.len()..]].concat() } else { before.clone() };
-        let (_, after) = fenced("expression_values", &value_args(l, k as u64, l.root, &l.layout), &before, at_end)?;
+        let (_, after) =
+            fenced(library, "expression_values", &value_args(l, k as u64, l.root, &l.layout), &before, at_end)?;
         same("values", &after, &due)?;
         // What is out of range leaves the buffer.
         let past = l.nodes.len() as u64 / 4;
@@ -309,17 +314,92 @@ fn differs(c: &Case, i: u64) -> Result<(), String> {
             (k as u64, l.root, &l.layout, &before[..values.len() - 1]),
         ];
         let (k, root, layout, out) = refused[i as usize % 6];
-        let (_, after) = fenced("expression_values", &value_args(l, k, root, layout), out, at_end)?;
+        let (_, after) = fenced(library, "expression_values", &value_args(l, k, root, layout), out, at_end)?;
         same("a buffer that must stay", &after, out)?;
-        let (got, _) = fenced("expression_degree", &[Slice(&l.nodes), Number(past + i % 2 * (1 << 62))], &[], at_end)?;
+        let (got, _) =
+            fenced(library, "expression_degree", &[Slice(&l.nodes), Number(past + i % 2 * (1 << 62))], &[], at_end)?;
         same("degree of no node", &[got], &[0])?;
     }
     Ok(())
 }
 
+// ---- the Rust in the library's place
+
+pub const FAULTS: [&str; 12] = [
+    "none",
+    "the degree",
+    "a degree past the largest is told as it is",
+    "how many queries there are",
+    "the first query's rotation",
+    "queries that do not fit are written",
+    "the value at the last row",
+    "a word past the values",
+    "a polynomial that is not there is 1",
+    "a refusal writes",
+    "the word after the nodes is read",
+    "the word before the buffer is written",
+];
+
+fn stub(name: &str, a: &[usize], fault: u64) -> u64 {
+    let slice = |i: usize| unsafe { std::slice::from_raw_parts(a[i] as *const u64, a[i + 1]) };
+    let at = (name == "expression_values") as usize;
+    let (nodes, n) = (slice(at), a[if at == 1 { 15 } else { 2 }] as u64);
+    if fault == 10 {
+        drop(unsafe { ptr::read_volatile(nodes.as_ptr().add(nodes.len())) });
+    }
+    let there = n < nodes.len() as u64 / 4;
+    let tree = |k: usize| given(&read(nodes, n), k);
+    if name == "expression_degree" {
+        let most = if fault == 2 { usize::MAX } else { MOST };
+        return (if there { tree(1).degree().min(most) as u64 } else { 0 }) + (fault == 1) as u64;
+    }
+    let out = unsafe { std::slice::from_raw_parts_mut(a[a.len() - 2] as *mut u64, a[a.len() - 1]) };
+    if fault == 11 {
+        unsafe { ptr::write_volatile(out.as_mut_ptr().sub(1), 0) };
+    }
+    if name == "expression_queries" {
+        let mut told = if there { queries(&tree(a[4]), a[3], a[4]) } else { vec![] };
+        let count = told.len() as u64 / 2;
+        told.get_mut(1).into_iter().for_each(|w| *w ^= (fault == 4) as u64);
+        if told.len() <= out.len() || fault == 5 {
+            out.iter_mut().zip(told).for_each(|(to, w)| *to = w);
+        }
+        return count + (fault == 3) as u64;
+    }
+    let (k, layout) = (a[0], slice(11));
+    let good = (1..=20).contains(&k) && layout.len() == 7 && layout.iter().all(|w| *w <= 1 << 20);
+    if !(good && there && 1 << k <= out.len()) {
+        out.iter_mut().take((fault == 9) as usize).for_each(|w| *w ^= 1);
+        return 0;
+    }
+    let rows = 1 << k;
+    let [instances, preprocess, start, witnesses, permutations, skipped, rest] =
+        [0, 1, 2, 3, 4, 5, 6].map(|i| layout[i] as usize);
+    let behind = instances + permutations + skipped;
+    let parts = [
+        &slice(7)[..instances * rows],
+        &slice(3)[start..][..preprocess * rows],
+        &slice(5)[..witnesses * rows],
+        &slice(7)[instances * rows..][..permutations * rows],
+        &slice(7)[behind * rows..][..rest * rows],
+    ];
+    let mut polys: Vec<Vec<u64>> = parts.concat().chunks(rows).map(|p| p.to_vec()).collect();
+    if fault == 8 {
+        polys.resize(polys.len() + 2, vec![1; rows]);
+    }
+    let values = values(k, &tree(k), &polys, slice(9), slice(13));
+    out[..rows].copy_from_slice(&values);
+    out[rows - 1] ^= (fault == 6) as u64;
+    out.iter_mut().skip(rows).take((fault == 7) as usize).for_each(|w| *w ^= 1);
+    0
+}
+
 /// Ends with 'N compared, M differ'.
-pub fn compare(seed: u64, count: u64) {
-    if !Library::Linked.has("expression_values") {
+pub fn compare(library: Library, seed: u64, count: u64) {
+    if let Library::Stub(fault) = library {
+        println!("the Rust stands in the library's place; fault: {}", FAULTS[fault as usize]);
+    }
+    if !library.has("expression_values") {
         println!("skipped: no target/staticlib/libexpression_entry.a (rt staticlib expression_entry)");
         return;
     }
@@ -332,10 +412,13 @@ pub fn compare(seed: u64, count: u64) {
         whole += c.whole as u64;
         most += (c.whole && c.tree.degree() >= MOST as u64) as u64;
         nodes += c.lent.nodes.len() / 4;
-        if let Err(what) = differs(&c, i) {
+        if let Err(what) = differs(library, &c, i) {
             differ += 1;
             if differ <= 5 {
                 println!("case {i}: {what}; k = {}, node {} of {:?}", c.lent.k, c.lent.root, c.lent.nodes);
+            }
+            if library != Library::Linked {
+                break;
             }
         }
     }

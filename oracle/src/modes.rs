@@ -23,19 +23,17 @@ fn number(name: &str, default: u64) -> u64 {
 pub fn main() {
     let mode = std::env::args().nth(1).unwrap_or_default();
     let (seed, count) = (number("--seed", 1), number("--count", 1000));
+    let library = option("--stub").map_or(Library::Linked, |n| Library::Stub(n.parse().unwrap()));
     match mode.as_str() {
         "cases" => {
             print!("{}", stored::head(&format!("oracle/run cases --seed {seed} --count {count}")));
             (0..count).for_each(|i| print!("\n{}", case(seed, i, false).text()));
         }
-        "compare" => {
-            let library = option("--stub").map_or(Library::Linked, |n| Library::Stub(n.parse().unwrap()));
-            match option("--file") {
-                Some(file) => compare(library, stored::read(&file).into_iter()),
-                None => compare(library, fixed().into_iter().chain((0..count).map(|i| case(seed, i, false)))),
-            }
-        }
-        "expressions" => expressions::compare(seed, count),
+        "compare" => match option("--file") {
+            Some(file) => compare(library, stored::read(&file).into_iter()),
+            None => compare(library, fixed().into_iter().chain((0..count).map(|i| case(seed, i, false)))),
+        },
+        "expressions" => expressions::compare(library, seed, count),
         "sample" => print!("{}", stored::sample()),
         "small" => print!("{}", stored::small()),
         "bench" => bench::sheets(Library::Linked),
@@ -44,7 +42,8 @@ pub fn main() {
         "differences" => differences(),
         "examples" => examples(),
         "survey" => survey(seed, count),
-        "faults" => println!("{}", FAULTS.len()),
+        // How many ways `--stub` has, by mode.
+        "faults" => println!("compare {}\nexpressions {}", FAULTS.len(), expressions::FAULTS.len()),
         _ => {
             eprintln!("oracle: see the head of oracle/run for the modes");
             exit(2);
@@ -72,6 +71,9 @@ fn compare(library: Library, cases: impl Iterator<Item = Case>) {
                 let file = format!("target/oracle/differs-{differ}.txt");
                 let told = fs::write(&file, case.text()).map_or(String::new(), |_| format!("; the case is in {file}"));
                 println!("case {i}, {}: {what}{told}", case.call);
+            }
+            if library != Library::Linked {
+                break;
             }
         }
     }
