@@ -170,6 +170,7 @@ struct Sheet {
     nodes: Vec<u64>,
     expressions: Vec<Expr>,
     laps: Option<Laps>,
+    fenced_first: bool,
 }
 
 fn slice(s: &[u64]) -> [usize; 2] {
@@ -191,7 +192,22 @@ impl Sheet {
         let challenges = [&log.challenges[..], &[1 << 20]].concat();
         let y = (1..=c.k as u64).map(|i| 1 << (20 + i)).collect();
         let laps = Laps::of(&c, lent[5].len());
-        Sheet { c, lent, given, built, columns, composed, polys, challenges, y, roots, nodes, expressions, laps }
+        Sheet {
+            c,
+            lent,
+            given,
+            built,
+            columns,
+            composed,
+            polys,
+            challenges,
+            y,
+            roots,
+            nodes,
+            expressions,
+            laps,
+            fenced_first: false,
+        }
     }
 
     fn rust(&self, job: &'static str, times: &mut Times) -> Vec<Vec<u64>> {
@@ -261,20 +277,28 @@ impl Sheet {
             |l: usize| [slice(&self.built.compressed[2 * l]), slice(&self.built.compressed[2 * l + 1])].concat();
         match job {
             "build" => {
-                let mut answer = [0u64; 3];
-                let mut args: Vec<usize> =
-                    self.lent.iter_mut().flat_map(|s| [s.as_mut_ptr() as usize, s.len()]).collect();
-                args.extend([answer.as_mut_ptr() as usize, 3]);
-                run(vec![args]);
-                if let Some(laps) = &mut self.laps {
-                    let stages = laps.build(library, &self.lent);
-                    assert_eq!(laps.columns(), self.lent[4]);
-                    times.note(OURS, "build, fenced", stages.iter().map(|s| s.1).sum());
-                    stages.into_iter().for_each(|(stage, took)| times.note(OURS, stage, took));
-                    let m = times.last(OURS, "m");
-                    times.note(OURS, "build without m", times.last(OURS, "build").saturating_sub(m));
+                let Some(laps) = &mut self.laps else {
+                    let mut answer = [0u64; 3];
+                    let mut args: Vec<usize> =
+                        self.lent.iter_mut().flat_map(|s| [s.as_mut_ptr() as usize, s.len()]).collect();
+                    args.extend([answer.as_mut_ptr() as usize, 3]);
+                    run(vec![args]);
+                    return Some(vec![self.lent[4].clone()]);
+                };
+                // Without fences and with them, in the same buffers, in turn first.
+                self.fenced_first = !self.fenced_first;
+                for fenced in [self.fenced_first, !self.fenced_first] {
+                    if fenced {
+                        let stages = laps.stages(library, &self.lent);
+                        let whole: Duration = stages.iter().map(|s| s.1).sum();
+                        times.note(OURS, "build, fenced", whole);
+                        stages.into_iter().for_each(|(stage, took)| times.note(OURS, stage, took));
+                        times.note(OURS, "build without m", whole - times.last(OURS, "m"));
+                    } else {
+                        times.note(OURS, "build", laps.whole(library, &self.lent));
+                    }
                 }
-                Some(vec![self.lent[4].clone()])
+                Some(vec![laps.columns().to_vec()])
             }
             "m alone" => {
                 let mut out = outs(lookups);
@@ -349,17 +373,19 @@ fn sheet(name: &str, log: &Log, library: Library, reps: usize) {
         c.column_words() >> c.k,
         sheet.lent[5].len() / 4
     );
-    println!("  {:<18} {:>12} {:>12} {:>8}", "stage", "Rust ms", "library ms", "ratio");
+    println!("  {:<18} {:>12} {:>12} {:>8} {:>9}", "stage", "Rust ms", "library ms", "ratio", "of bests");
     for stage in LINES {
         let Some(of) = times.0.get(stage) else { continue };
         let ratios = of[OURS].iter().zip(&of[RUST]).map(|(mine, theirs)| mine / theirs).collect();
         let tell = |ms: Option<f64>, digits: usize| ms.map_or("-".into(), |ms| format!("{ms:.digits$}"));
         let [theirs, mine] = [RUST, OURS].map(|side| tell(median(of[side].clone()), 4));
-        println!("  {stage:<18} {theirs:>12} {mine:>12} {:>8}", tell(median(ratios), 2));
+        let best = |side: usize| of[side].iter().copied().min_by(f64::total_cmp);
+        let bests = best(OURS).zip(best(RUST)).map(|(mine, theirs)| mine / theirs);
+        println!("  {stage:<18} {theirs:>12} {mine:>12} {:>8} {:>9}", tell(median(ratios), 2), tell(bests, 2));
     }
     if let Some(of) = times.0.get("build, fenced") {
         println!(
-            "  The library's stages, questions 1 to 14 to compose, are the times between the first writes to their \
+            "  The library's stages, and its build without m, are the times between the first writes to their \
              sections in a build of {:.4} ms whose buffers are fenced.",
             median(of[OURS].clone()).unwrap()
         );
@@ -367,7 +393,10 @@ fn sheet(name: &str, log: &Log, library: Library, reps: usize) {
 }
 
 pub fn sheets(library: Library) {
-    println!("Each repetition runs both sides, in turn first; a ratio is the median of the repetitions' ratios.");
+    println!(
+        "Each repetition runs both sides, in turn first. Times are medians; a ratio is the median of the repetitions'"
+    );
+    println!("ratios, and, of bests, that of the two shortest times, which other work on the machine disturbs least.");
     sheet("k = 10, 8 lookups of width 8, 40 copied columns, 32 constraints", &full(), library, 61);
     sheet("k = 10, plain", &plain(), library, 201);
     sheet("k = 4", &little(), library, 401);

@@ -92,8 +92,28 @@ impl Laps {
         Some(Laps { columns: pages(c.column_words()), nodes: pages(nodes), sizes: [a, b, d, e, f, g, nodes] })
     }
 
+    /// Builds with no fence; tells what that took.
+    pub fn whole(&mut self, library: Library, lent: &[Vec<u64>]) -> Duration {
+        let (start, end) = self.call(library, lent);
+        Duration::from_nanos((end - start) as u64)
+    }
+
+    /// Builds; when it began and ended.
+    fn call(&mut self, library: Library, lent: &[Vec<u64>]) -> (usize, usize) {
+        let mut answer = [0u64; 3];
+        let mut args: Vec<usize> = lent[..4].iter().flat_map(|s| [s.as_ptr() as usize, s.len()]).collect();
+        for buffer in [&mut *self.columns, &mut *self.nodes, &mut answer] {
+            args.extend([buffer.as_mut_ptr() as usize, buffer.len()]);
+        }
+        let start = now();
+        let number = library.call("build", &args);
+        let end = now();
+        assert_eq!(number, 0);
+        (start, end)
+    }
+
     /// Builds; tells what each stage took, and the questions before them.
-    pub fn build(&mut self, library: Library, lent: &[Vec<u64>]) -> Vec<(&'static str, Duration)> {
+    pub fn stages(&mut self, library: Library, lent: &[Vec<u64>]) -> Vec<(&'static str, Duration)> {
         let sections = &SECTIONS.get().unwrap().0;
         let mut at = self.columns.as_ptr() as usize;
         for (stage, (s, words)) in sections.iter().zip(self.sizes).enumerate() {
@@ -104,18 +124,10 @@ impl Laps {
             at += 8 * words;
             s.end.store(at, Relaxed);
         }
-        let mut answer = [0u64; 3];
-        let mut args: Vec<usize> = lent[..4].iter().flat_map(|s| [s.as_ptr() as usize, s.len()]).collect();
-        for buffer in [&mut *self.columns, &mut *self.nodes, &mut answer] {
-            args.extend([buffer.as_mut_ptr() as usize, buffer.len()]);
-        }
         for buffer in [&*self.columns, &*self.nodes] {
             assert_eq!(unsafe { mprotect(buffer.as_ptr() as _, 8 * buffer.len(), 1) }, 0);
         }
-        let start = now();
-        let number = library.call("build", &args);
-        let end = now();
-        assert_eq!(number, 0);
+        let (start, end) = self.call(library, lent);
         let mut laps = vec![("questions 1 to 14", start, start)];
         for (i, s) in sections.iter().enumerate().filter(|(i, _)| self.sizes[*i] > 0) {
             let (came, done) = (s.came.load(Relaxed), s.done.load(Relaxed));
