@@ -1,5 +1,5 @@
 // How many nodes `compose` writes, counted beforehand from the sizes of the user's expressions; 2^60 where there are more.
-use compose::num_constraints;
+use composed_constraints::num_constraints;
 use degree::size_of;
 use node::index;
 use preprocessor::Numbers;

@@ -13,9 +13,9 @@ use borrow.Fn.PlainCycle.{Measures, is, falls, and}
 use Rattle.compose.proofs.outer_items.Reads as outer-items
 use Rattle.compose.proofs.outer_items.Kinds as outer-items-kinds
 use Rattle.compose.proofs.+outer_items.Lts-outer_items as outer-items-lts
-use Rattle.compose.proofs.item.Reads as item-reads
-use Rattle.compose.proofs.list_end.Reads as list-end-reads
-use Rattle.compose.proofs.query.Reads as query-reads
+use Rattle.operations.proofs.item.Reads as item-reads
+use Rattle.operations.proofs.list_end.Reads as list-end-reads
+use Rattle.operations.proofs.query.Reads as query-reads
 use Rattle.compose.proofs.zero_check.Reads as zero-check-reads
 use Rattle.compose.proofs.+outer_items.{statement}
 use Rattle.compose.proofs.+outer_items.Tie.{close}
