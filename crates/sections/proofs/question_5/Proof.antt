@@ -1,10 +1,10 @@
 use Rattle.backend.proofs.Numbers.{five}
 use borrow.Author.Needs.{needs}
-use Rattle.limits.proofs.question_5.Statement.{statement}
-use Rattle.limits.proofs.question_5.Tie as tie
-use Rattle.limits.proofs.question_5.Reads as reads
-use Rattle.limits.proofs.question_5.Lts as lts
-use Rattle.limits.proofs.rounds_good.Reads as rounds-good-reads
+use Rattle.sections.proofs.question_5.Statement.{statement}
+use Rattle.sections.proofs.question_5.Tie as tie
+use Rattle.sections.proofs.question_5.Reads as reads
+use Rattle.sections.proofs.question_5.Lts as lts
+use Rattle.sections.proofs.rounds_good.Reads as rounds-good-reads
 use Rattle.bodies.proofs.rows.Reads as rows-reads
 use Rattle.contents.proofs.section.Reads as section-reads
 use Rattle.words.proofs.all_below.Reads as all-below-reads

@@ -4,10 +4,10 @@ use lib.ListN.{length}
 use Rattle.util.proofs.Walks.{Walked, walk-none, walk-more, walk-done, walk-fails}
 use Rattle.backend.specs.Questions.{smallValue}
 use Rattle.backend.proofs.Numbers.{value-large, value-small}
-use Rattle.limits.proofs.values_small.Statement.{statement}
-use Rattle.limits.proofs.values_small.Tie as tie
-use Rattle.limits.proofs.values_small.Reads as reads
-use Rattle.limits.proofs.values_small.Lts as lts
+use Rattle.sections.proofs.values_small.Statement.{statement}
+use Rattle.sections.proofs.values_small.Tie as tie
+use Rattle.sections.proofs.values_small.Reads as reads
+use Rattle.sections.proofs.values_small.Lts as lts
 
 abbrev Inv-loop : tie.InvT-loop
 Inv-loop nodes n i₀ i = Walked (smallValue nodes) (λ (i : ℕ). i) (length nodes / 4) i

@@ -2,10 +2,10 @@ use native.Mathlib.Omega.{arith}
 use mathlib.Core.Path.{refl}
 use Rattle.backend.proofs.Numbers.{entries-fit, fewer-fit, some-rounds, rounds-tested}
 use borrow.Author.Needs.{needs}
-use Rattle.limits.proofs.rounds_good.Statement.{statement}
-use Rattle.limits.proofs.rounds_good.Tie as tie
-use Rattle.limits.proofs.rounds_good.Reads as reads
-use Rattle.limits.proofs.rounds_good.Lts as lts
+use Rattle.sections.proofs.rounds_good.Statement.{statement}
+use Rattle.sections.proofs.rounds_good.Tie as tie
+use Rattle.sections.proofs.rounds_good.Reads as reads
+use Rattle.sections.proofs.rounds_good.Lts as lts
 use Rattle.contents.proofs.section.Reads as section-reads
 use Rattle.words.proofs.all_positive.Reads as all-positive-reads
 

@@ -2,10 +2,10 @@ use native.Mathlib.Omega.{arith}
 use mathlib.Core.Path.{refl}
 use Rattle.backend.proofs.Numbers.{entries-fit, nine}
 use borrow.Author.Needs.{needs}
-use Rattle.limits.proofs.question_9.Statement.{statement}
-use Rattle.limits.proofs.question_9.Tie as tie
-use Rattle.limits.proofs.question_9.Reads as reads
-use Rattle.limits.proofs.question_9.Lts as lts
+use Rattle.sections.proofs.question_9.Statement.{statement}
+use Rattle.sections.proofs.question_9.Tie as tie
+use Rattle.sections.proofs.question_9.Reads as reads
+use Rattle.sections.proofs.question_9.Lts as lts
 use Rattle.contents.proofs.section.Reads as section-reads
 use Rattle.words.proofs.all_positive.Reads as all-positive-reads
 

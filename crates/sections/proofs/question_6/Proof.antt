@@ -1,10 +1,10 @@
 use Rattle.backend.proofs.Numbers.{six}
 use borrow.Author.Needs.{needs}
-use Rattle.limits.proofs.question_6.Statement.{statement}
-use Rattle.limits.proofs.question_6.Tie as tie
-use Rattle.limits.proofs.question_6.Reads as reads
-use Rattle.limits.proofs.question_6.Lts as lts
-use Rattle.limits.proofs.values_small.Reads as values-small-reads
+use Rattle.sections.proofs.question_6.Statement.{statement}
+use Rattle.sections.proofs.question_6.Tie as tie
+use Rattle.sections.proofs.question_6.Reads as reads
+use Rattle.sections.proofs.question_6.Lts as lts
+use Rattle.sections.proofs.values_small.Reads as values-small-reads
 use Rattle.contents.proofs.section.Reads as section-reads
 use Rattle.words.proofs.all_below.Reads as all-below-reads
 
