@@ -10,20 +10,11 @@ use operations::query;
 use preprocessor::Numbers;
 ghost use mathlib.Core.Path.{_≡_};
 ghost use Prim.Native.Nat.{_+_, _-_, _*_, _≤_, _<_, _^_};
-ghost use Rattle.util.specs.Lists.{ceilDiv};
 ghost use Rattle.expression.specs.Expr.{Expr};
 ghost use Rattle.expression.specs.Flat.{size, sizes, extra};
 ghost use Rattle.expression.specs.Written.{mostWords, Written, WrittenList};
 ghost use Rattle.backend.specs.Circuit.{Circuit};
 ghost use Rattle.preprocessor.specs.Pieces.{handedTrees, zeroTree, outerTrees, composeTree, exprsFrom, Handed, PiecesOf, Composed};
-
-// N: the number of z columns.
-pub fn num_z(copied: usize, degree: usize) -> usize
-    requires { ⌜ (2 ≤ degree) × (copied + degree < 2 ^ 64) ⌝ }
-    ensures { λ r. ⌜ r ≡ ceilDiv copied (degree - 1) ⌝ }
-{
-    (copied + (degree - 1) - 1) / (degree - 1)
-}
 
 // The zero check: the constraints by powers of alpha, times EqXY(0).
 fn zero_check(
