@@ -1,4 +1,3 @@
 pub mod Suffix
-pub mod Backwards
 pub mod Passes
 pub mod Both

@@ -7,13 +7,14 @@ use native.Mathlib.Omega.{arith}
 use native.Mathlib.Nat.{mul-le-mul}
 use lib.ListN.{length, getD, take, drop}
 use lib.Dec.{eqb, leb, ltb}
-use lib.Seq.{take-add, take-all}
+use lib.Seq.{take-all}
 use borrow.Author.Tests.{le-leb, leb-true}
 use Rattle.field.specs.Prime.{P}
-use Rattle.util.specs.Lists.{column, allOf, total, concat, split, All}
+use Rattle.util.specs.Lists.{allOf, total, concat, split, All}
 use Rattle.util.proofs.All.{all-from}
 use Rattle.util.proofs.Columns.{column-length}
 use Rattle.util.proofs.Once.{same-tests}
+use Rattle.util.proofs.Parts.{concat-split}
 use Rattle.expression.specs.Nodes.{exprOf}
 use Rattle.backend.specs.Circuit.{Section, wordK, bodyOf, wordEach, cellAt, cellsOf, pairsOf, statedOf, circuitOf, rowsOf, numWitness, numUser, numPoly, numLookups, copiedIn, copied, numCopied}
 use Rattle.backend.specs.Constraints.{maxDegree}
@@ -33,12 +34,6 @@ use Rattle.prepare.specs.Prepared.{Accepted}
 use Rattle.prepare.proofs.Accepted as known
 
 -- ---- over plain lists and numbers
-
--- the parts of a list, joined again
-pub concat-split : {A : Type 0} (ns : List ℕ) (xs : List A) → concat (split ns xs) ≡ take (total ns) xs
-unfolding concat split total
-concat-split [] xs = refl
-concat-split (n ∷ ns) xs = ap (λ (ys : List _). take n xs ++ ys) (concat-split ns (drop n xs)) ∙ sym (take-add n (total ns) xs)
 
 -- a sum of numbers that are at most m
 total-most : (m : ℕ) (ns : List ℕ) → All (λ n. n ≤ m) ns → total ns ≤ length ns * m

@@ -13,9 +13,10 @@ use lib.Dec.{eqb}
 use borrow.Author.Tests.{eq-eqb, ne-eqb}
 use Rattle.util.specs.Lists.{column, below, concat, indexOf, over, All}
 use Rattle.util.proofs.Tests.{by-test}
-use Rattle.util.proofs.Columns.{column-cong, columns-length, get-columns, set-column}
+use Rattle.util.proofs.Columns.{column-cong, columns-length, get-columns}
 use Rattle.util.proofs.Over.{over-inside, length-over}
-use Rattle.util.proofs.Parts.{div-row, mod-row, over-set, columns-flat}
+use Rattle.util.proofs.Parts.{div-row, mod-row, columns-flat}
+use Rattle.util.proofs.Sets.{over-set, set-column}
 use Rattle.util.proofs.Places.{get-index}
 use Rattle.backend.specs.Circuit.{Cell, sameCell}
 use Rattle.preprocessor.specs.Permutation.{lastCell, before, source, firstLabelIn, cellIn, labelIn, labelColumns, Placed, Once, cellWord, Moved}

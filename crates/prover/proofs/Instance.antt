@@ -18,7 +18,7 @@ use Rattle.bh.proofs.Place.{row-place, place-row}
 use Rattle.util.specs.Lists.{column, over, split, total}
 use Rattle.util.proofs.Columns.{column-cong, column-replicate}
 use Rattle.util.proofs.Lists.{get-none, get-map, split-length}
-use Rattle.util.proofs.Splits.{split-more}
+use Rattle.util.proofs.Parts.{split-more}
 use Rattle.util.proofs.Sets.{over-column-set}
 use Rattle.prover.specs.Columns.{instanceAt}
 use Rattle.prover.specs.Words.{wordsOf}

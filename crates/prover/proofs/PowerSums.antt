@@ -17,7 +17,7 @@ use Rattle.util.specs.Lists.{column, concat, over, split, total}
 use Rattle.util.proofs.Columns.{column-length, column-cong, get-column, map-column}
 use Rattle.util.proofs.Lists.{get-none, concat-end, pairs-length, split-length}
 use Rattle.util.proofs.Over.{over-none, over-over, over-before}
-use Rattle.util.proofs.Splits.{split-more}
+use Rattle.util.proofs.Parts.{split-more}
 use Rattle.identities.proofs.Totals.{upTo-cong, upTo-suc}
 use Rattle.expression.specs.Expr.{Expr, evaluate}
 use Rattle.expression.specs.Nodes.{wordOf, nodeOf, kindOf, noExpr, noExprs, under, exprOf, itemsOf}

@@ -1,15 +1,12 @@
 -- Columns: f 0, f 1, …, f (n - 1). Assumes nothing.
 use mathlib.Core.Path.{_≡_, refl, sym, ap, ap₂, _∙_}
-use mathlib.Core.Bool.{Bool, cond}
 use mathlib.Core.List.{List, [], _∷_, _++_, map, append-assoc, append-nil, map-append}
 use Prim.Native.Nat.{ℕ, zero, suc, _+_, _*_, _≤_, _<_}
 use native.Mathlib.Nat.{not-suc-le-zero, add-zero, add-suc, suc-mul, zero-mul}
 use native.Mathlib.Decide.{decLt, ℕ-discrete}
 use native.Mathlib.Omega.{arith}
-use lib.Dec.{eqb}
-use lib.ListN.{length, getD, take, drop, set, replicate, length-append, length-set}
-use lib.Seq.{ext-getD, take-suc, getD-set-same, getD-set-other, take-add}
-use borrow.Author.Tests.{eq-eqb, ne-eqb}
+use lib.ListN.{length, getD, take, drop, replicate, length-append}
+use lib.Seq.{ext-getD, take-suc, take-add}
 use Rattle.util.specs.Lists.{column, below, concat}
 use Rattle.util.proofs.Lists.{get-left, get-past, concat-end}
 
@@ -70,22 +67,6 @@ module _ {A : Type 0} where
   unfolding column
   column-replicate v zero = refl
   column-replicate v (suc n) = column-first (λ i. v) n ∙ ap (λ (l : List A). v ∷ l) (column-replicate v n)
-
-  -- one entry changed
-  pub set-column : (f : ℕ → A) (n a : ℕ) (v : A) → a < n → set (column f n) a v ≡ column (λ i. cond (eqb i a) v (f i)) n
-  set-column f n a v l =
-      ext-getD v (set (column f n) a v) (column (λ i. cond (eqb i a) v (f i)) n)
-      (length-set (column f n) a v ∙ column-length f n ∙ sym (column-length (λ i. cond (eqb i a) v (f i)) n))
-      (λ i m. at i (let q = length-set (column f n) a v in let w = column-length f n in omega arith) (ℕ-discrete i a))
-    where
-      at : (i : ℕ) → i < n → Dec (i ≡ a) → getD (set (column f n) a v) i v ≡ getD (column (λ i. cond (eqb i a) v (f i)) n) i v
-      at i m (yes e) =
-          ap (λ (j : ℕ). getD (set (column f n) a v) j v) e
-          ∙ getD-set-same (column f n) a v v (let w = column-length f n in omega arith)
-          ∙ sym (get-column (λ i. cond (eqb i a) v (f i)) n i v m ∙ ap (λ (t : Bool). cond t v (f i)) (eq-eqb i a e))
-      at i m (no e) =
-          getD-set-other (column f n) a i v v e ∙ get-column f n i v m
-          ∙ sym (get-column (λ i. cond (eqb i a) v (f i)) n i v m ∙ ap (λ (t : Bool). cond t v (f i)) (ne-eqb i a e))
 
 pub map-column : {A B : Type 0} (f : A → B) (p : ℕ → A) (n : ℕ) → map f (column p n) ≡ column (λ i. f (p i)) n
 unfolding column

@@ -14,7 +14,6 @@ pub mod Turns
 pub mod Fill
 pub mod Rising
 pub mod Parts
-pub mod Splits
 pub mod Runs
 pub mod Window
 pub mod Same

@@ -1,30 +1,22 @@
 -- A buffer after a run of words was written into it: `over d at s`, d with s from place `at` on. Assumes nothing.
 use mathlib.Core.Path.{_≡_, refl, sym, ap, ap₂, _∙_}
-use mathlib.Core.List.{List, [], _∷_, _++_, append-assoc, append-nil}
-use Prim.Native.Nat.{ℕ, zero, suc, _+_, _-_, _≤_, _<_}
+use mathlib.Core.List.{List, [], _∷_, _++_, append-assoc}
+use Prim.Native.Nat.{ℕ, suc, _+_, _-_, _≤_, _<_}
 use native.Mathlib.Nat.{add-zero, zero-add}
 use native.Mathlib.Numerals.{add-one}
-use native.Mathlib.Decide.{decLt}
 use native.Mathlib.Omega.{arith}
-use lib.ListN.{length, getD, take, drop, set, replicate, length-append, length-drop, length-replicate, take-append-drop}
-use lib.Seq.{
-  length-take-le,
-  take-at,
-  drop-at,
-  take-append-seam,
-  drop-append-add,
-  drop-drop,
-  drop-length,
-  set-split,
-  sets,
-  sets-eq,
-  getD-take,
-  getD-drop,
-  ext-getD,
-}
+use lib.ListN.{length, getD, take, drop, set, length-append, length-drop, take-append-drop}
+use lib.Seq.{length-take-le, take-at, drop-at, drop-append-add, drop-drop, set-split, sets, sets-eq, getD-take, getD-drop}
 use Rattle.util.specs.Lists.{column, written, over}
 use Rattle.util.proofs.Lists.{get-left}
 use Rattle.util.proofs.Columns.{column-length, column-suc}
+
+-- lists that agree from a place on agree further behind
+pub drop-more : {A : Type 0} (m n : ℕ) (x y : List A) → m ≤ n → drop m x ≡ drop m y → drop n x ≡ drop n y
+drop-more {A} m n x y h e =
+    let q : n ≡ m + (n - m) = omega arith in
+    ap (λ (i : ℕ). drop i x) q ∙ sym (drop-drop (n - m) m x) ∙ ap (drop (n - m)) e ∙ drop-drop (n - m) m y
+    ∙ ap (λ (i : ℕ). drop i y) (sym q)
 
 module _ {A : Type 0} (d : List A) (at : ℕ) (s : List A) where
   pub length-over : at + length s ≤ length d → length (over d at s) ≡ length d
@@ -47,13 +39,14 @@ module _ {A : Type 0} (d : List A) (at : ℕ) (s : List A) where
   unfolding over
   from-over h = drop-at (take at d) (s ++ drop (at + length s) d) at (length-take-le at d h)
 
-  pub part-over : at ≤ length d → take (length s) (drop at (over d at s)) ≡ s
-  part-over h = ap (take (length s)) (from-over h) ∙ take-append-seam s (drop (at + length s) d)
-
   pub drop-over : at ≤ length d → drop (at + length s) (over d at s) ≡ drop (at + length s) d
   drop-over h =
       sym (drop-drop (length s) at (over d at s)) ∙ ap (drop (length s)) (from-over h)
       ∙ drop-at s (drop (at + length s) d) (length s) refl
+
+  -- further behind
+  pub drop-past : (n : ℕ) → at ≤ length d → at + length s ≤ n → drop n (over d at s) ≡ drop n d
+  drop-past n h l = drop-more (at + length s) n (over d at s) d l (drop-over h)
 
   -- ---- its entries
   pub over-before : (i : ℕ) (z : A) → at ≤ length d → i < at → getD (over d at s) i z ≡ getD d i z
@@ -99,11 +92,6 @@ module _ {A : Type 0} where
   unfolding over
   over-none d at = ap (λ (n : ℕ). take at d ++ drop n d) (add-zero at) ∙ take-append-drop at d
 
-  pub over-all : (d s : List A) → length s ≡ length d → over d 0 s ≡ s
-  unfolding over
-  over-all d s e =
-      ap (λ (n : ℕ). s ++ drop n d) (zero-add (length s) ∙ e) ∙ ap (λ (r : List A). s ++ r) (drop-length d) ∙ append-nil s
-
   -- from the first place on
   pub over-front : (d s : List A) → over d 0 s ≡ s ++ drop (length s) d
   unfolding over
@@ -115,85 +103,6 @@ module _ {A : Type 0} where
   over-again d at s t h e =
       ap₂ (λ (x y : List A). x ++ (t ++ y)) (take-over d at s (omega arith))
       (ap (λ (n : ℕ). drop (at + n) (over d at s)) (sym e) ∙ drop-over d at s (omega arith) ∙ ap (λ (n : ℕ). drop (at + n) d) e)
-
-  -- runs that do not touch, in either order
-  pub over-apart : (d : List A) (at : ℕ) (s : List A) (to : ℕ) (t : List A) (z : A) → at + length s ≤ to → to + length t ≤ length d
-      → over (over d at s) to t ≡ over (over d to t) at s
-  over-apart d at s to t z h l =
-      ext-getD z (over (over d at s) to t) (over (over d to t) at s) (left ∙ sym right)
-      (λ i m. by i (decLt i at) (decLt i (at + length s)) (decLt i to) (decLt i (to + length t)))
-    where
-      ls : length (over d at s) ≡ length d
-      ls = length-over d at s (omega arith)
-
-      lt : length (over d to t) ≡ length d
-      lt = length-over d to t l
-
-      left : length (over (over d at s) to t) ≡ length d
-      left = length-over (over d at s) to t (let e = ls in omega arith) ∙ ls
-
-      right : length (over (over d to t) at s) ≡ length d
-      right = length-over (over d to t) at s (let e = lt in omega arith) ∙ lt
-
-      inside : (b : List A) (p i : ℕ) (r : List A) → p ≤ length b → p ≤ i → i < p + length r → getD (over b p r) i z ≡ getD r (i - p) z
-      inside b p i r h l m =
-          let e : i ≡ p + (i - p) = omega arith in
-          ap (λ (j : ℕ). getD (over b p r) j z) e ∙ over-inside b p r (i - p) z h (omega arith)
-
-      by : (i : ℕ) → Dec (i < at) → Dec (i < at + length s) → Dec (i < to) → Dec (i < to + length t)
-          → getD (over (over d at s) to t) i z ≡ getD (over (over d to t) at s) i z
-      by i (yes a) b c e =
-          over-before (over d at s) to t i z (let q = ls in omega arith) (omega arith)
-          ∙ over-before d at s i z (omega arith) a
-          ∙ sym (over-before (over d to t) at s i z (let q = lt in omega arith) a ∙ over-before d to t i z (omega arith) (omega arith))
-      by i (no a) (yes b) c e =
-          over-before (over d at s) to t i z (let q = ls in omega arith) (omega arith)
-          ∙ inside d at i s (omega arith) (omega arith) b
-          ∙ sym (inside (over d to t) at i s (let q = lt in omega arith) (omega arith) b)
-      by i (no a) (no b) (yes c) e =
-          over-before (over d at s) to t i z (let q = ls in omega arith) c
-          ∙ over-after d at s i z (omega arith) (omega arith)
-          ∙ sym (over-after (over d to t) at s i z (let q = lt in omega arith) (omega arith) ∙ over-before d to t i z (omega arith) c)
-      by i (no a) (no b) (no c) (yes e) =
-          inside (over d at s) to i t (let q = ls in omega arith) (omega arith) e
-          ∙ sym (over-after (over d to t) at s i z (let q = lt in omega arith) (omega arith) ∙ inside d to i t (omega arith) (omega arith) e)
-      by i (no a) (no b) (no c) (no e) =
-          over-after (over d at s) to t i z (let q = ls in omega arith) (omega arith)
-          ∙ over-after d at s i z (omega arith) (omega arith)
-          ∙ sym (over-after (over d to t) at s i z (let q = lt in omega arith) (omega arith) ∙ over-after d to t i z (omega arith) (omega arith))
-
-  -- a run written into a part of the buffer
-  pub over-part : (d : List A) (at n i : ℕ) (s : List A) → at + n ≤ length d → i + length s ≤ n
-      → over d at (over (take n (drop at d)) i s) ≡ over d (at + i) s
-  unfolding over
-  over-part d at n i s h l =
-      ap (λ (m : ℕ). take at d ++ (over part i s ++ drop (at + m) d)) len
-      ∙ ap (λ (x : List A). take at d ++ x)
-      (append-assoc (take i part) (s ++ drop (i + length s) part) (drop (at + n) d)
-      ∙ ap (λ (x : List A). take i part ++ x) (append-assoc s (drop (i + length s) part) (drop (at + n) d)))
-      ∙ sym (append-assoc (take at d) (take i part) (s ++ (drop (i + length s) part ++ drop (at + n) d)))
-      ∙ ap₂ (λ (x y : List A). x ++ (s ++ y)) front back
-    where
-      part : List A
-      part = take n (drop at d)
-
-      plen : length part ≡ n
-      plen = length-take-le n (drop at d) (let q = length-drop at d in omega arith)
-
-      len : length (over part i s) ≡ n
-      len = length-over part i s (let q = plen in omega arith) ∙ plen
-
-      front : take at d ++ take i part ≡ take (at + i) d
-      front = ap (λ (x : List A). take at d ++ x) (lib.Seq.take-take i n (drop at d) (omega arith)) ∙ sym (lib.Seq.take-add at i d)
-
-      back : drop (i + length s) part ++ drop (at + n) d ≡ drop (at + i + length s) d
-      back =
-          let e : at + i + length s ≡ at + (i + length s) = omega arith in
-          ap (λ (x : List A). drop (i + length s) part ++ x) (sym (drop-drop n at d))
-          ∙ sym (lib.Seq.drop-append-le (i + length s) part (drop n (drop at d)) (let q = plen in omega arith))
-          ∙ ap (drop (i + length s)) (take-append-drop n (drop at d))
-          ∙ drop-drop (i + length s) at d
-          ∙ ap (λ (m : ℕ). drop m d) (sym e)
 
   -- ---- word by word
   pub over-one : (d : List A) (at : ℕ) (v : A) → at < length d → over d at (v ∷ []) ≡ set d at v
@@ -215,18 +124,6 @@ module _ {A : Type 0} where
       ap (λ (m : ℕ). set (over d at (column f n)) (at + m) (f n)) (sym e)
       ∙ over-snoc d at (column f n) (f n) (omega arith)
       ∙ ap (over d at) (sym (column-suc f n))
-
-  pub over-replicate : (d : List A) (at : ℕ) (v : A) (n : ℕ) → at + n < length d
-      → set (over d at (replicate n v)) (at + n) v ≡ over d at (replicate (suc n) v)
-  over-replicate d at v n h =
-      let e = length-replicate n v in
-      ap (λ (m : ℕ). set (over d at (replicate n v)) (at + m) v) (sym e)
-      ∙ over-snoc d at (replicate n v) v (omega arith)
-      ∙ ap (over d at) (more n)
-    where
-      more : (n : ℕ) → replicate n v ++ (v ∷ []) ≡ replicate (suc n) v
-      more zero = refl
-      more (suc n) = ap (λ (l : List A). v ∷ l) (more n)
 
   -- words set one after another
   pub over-sets : (vs d : List A) (at : ℕ) → at + length vs ≤ length d → sets d at vs ≡ over d at vs

@@ -1,12 +1,10 @@
--- Parts of lists: a word set behind a run, the parts that `split` gives, columns one after another as one. Assumes nothing.
+-- Parts of lists: the parts that `split` gives, columns one after another as one. Assumes nothing.
 use mathlib.Core.Path.{_≡_, refl, sym, ap, ap₂, _∙_}
 use mathlib.Core.List.{List, [], _∷_, _++_}
-use Prim.Native.Nat.{ℕ, zero, suc, _+_, _-_, _*_, _/_, _%_, _≤_, _<_}
+use Prim.Native.Nat.{ℕ, zero, suc, _+_, _*_, _/_, _%_, _≤_, _<_}
 use native.Mathlib.Nat.{
   not-suc-le-zero,
   add-zero,
-  zero-add,
-  suc-add,
   zero-mul,
   suc-mul,
   mul-add-div-right,
@@ -14,11 +12,12 @@ use native.Mathlib.Nat.{
   div-eq-of-lt,
   mod-eq-of-lt,
 }
+use native.Mathlib.Numerals.{add-one}
 use native.Mathlib.Omega.{arith}
-use lib.ListN.{length, getD, take, drop, set, length-set}
-use lib.Seq.{length-take-le, set-append-left, drop-drop, drop-at, take-at}
-use Rattle.util.specs.Lists.{column, concat, split, total, over}
-use Rattle.util.proofs.Columns.{columns-suc, column-length, column-append, column-cong}
+use lib.ListN.{length, getD, take, drop}
+use lib.Seq.{take-add, take-suc, drop-drop}
+use Rattle.util.specs.Lists.{column, concat, split, total}
+use Rattle.util.proofs.Columns.{columns-suc, column-append, column-cong}
 
 -- column and row of a place
 pub div-row : (i rows b : ℕ) → b < rows → (i * rows + b) / rows ≡ i
@@ -42,25 +41,6 @@ total-within (n ∷ ns) zero = omega arith
 total-within (n ∷ ns) (suc i) = let q = total-within ns i in omega arith
 
 module _ {A : Type 0} where
-  -- a word set in the second list, at a number that is the first's length and i more
-  pub set-past : (xs ys : List A) (n i : ℕ) (v : A) → n ≡ length xs + i → set (xs ++ ys) n v ≡ xs ++ set ys i v
-  set-past xs ys n i v e = ap (λ (m : ℕ). set (xs ++ ys) m v) e ∙ go xs
-    where
-      go : (xs : List A) → set (xs ++ ys) (length xs + i) v ≡ xs ++ set ys i v
-      go [] = ap (λ (m : ℕ). set ys m v) (zero-add i)
-      go (x ∷ xs) = ap (λ (m : ℕ). set (x ∷ (xs ++ ys)) m v) (suc-add (length xs) i) ∙ ap (λ (l : List A). x ∷ l) (go xs)
-
-  -- a word of a run set
-  pub over-set : (d : List A) (at : ℕ) (s : List A) (i : ℕ) (v : A) → at + length s ≤ length d → i < length s
-      → set (over d at s) (at + i) v ≡ over d at (set s i v)
-  unfolding over
-  over-set d at s i v h l =
-      set-past (take at d) (s ++ drop (at + length s) d) (at + i) i v
-      (ap (λ (n : ℕ). n + i) (sym (length-take-le at d (omega arith))))
-      ∙ ap (λ (x : List A). take at d ++ x)
-      (set-append-left s (drop (at + length s) d) i v l
-      ∙ ap (λ (n : ℕ). set s i v ++ drop (at + n) d) (sym (length-set s i v)))
-
   -- part i: as many as its number, behind those of the parts before
   pub get-split : (ns : List ℕ) (xs : List A) (i : ℕ) → i < length ns → getD (split ns xs) i [] ≡ take (getD ns i 0) (drop (total (take i ns)) xs)
   unfolding split total
@@ -68,6 +48,20 @@ module _ {A : Type 0} where
   get-split (n ∷ ns) xs zero l = refl
   get-split (n ∷ ns) xs (suc i) l =
       get-split ns (drop n xs) i (omega arith) ∙ ap (take (getD ns i 0)) (drop-drop (total (take i ns)) n xs)
+
+  -- one part more
+  pub split-end : (ns : List ℕ) (n : ℕ) (xs : List A) → split (ns ++ (n ∷ [])) xs ≡ split ns xs ++ (take n (drop (total ns) xs) ∷ [])
+  unfolding split total
+  split-end [] n xs = refl
+  split-end (m ∷ ns) n xs =
+      ap (λ (l : List (List A)). take m xs ∷ l)
+      (split-end ns n (drop m xs) ∙ ap (λ (ys : List A). split ns (drop m xs) ++ (take n ys ∷ [])) (drop-drop (total ns) m xs))
+
+  -- the parts, joined again
+  pub concat-split : (ns : List ℕ) (xs : List A) → concat (split ns xs) ≡ take (total ns) xs
+  unfolding concat split total
+  concat-split [] xs = refl
+  concat-split (n ∷ ns) xs = ap (λ (ys : List A). take n xs ++ ys) (concat-split ns (drop n xs)) ∙ sym (take-add n (total ns) xs)
 
   -- columns of one length, one after another, by place
   pub columns-flat : (rows : ℕ) (f : ℕ → ℕ → A) (n : ℕ) → concat (column (λ i. column (f i) rows) n) ≡ column (λ j. f (j / rows) (j % rows)) (n * rows)
@@ -81,3 +75,17 @@ module _ {A : Type 0} where
     where
       same : (b : ℕ) → b < rows → f n b ≡ f ((n * rows + b) / rows) ((n * rows + b) % rows)
       same b l = sym (ap₂ f (div-row n rows b l) (mod-row n rows b l))
+
+module _ (ns : List ℕ) (i : ℕ) (lt : i < length ns) where
+  pub total-more : total (take i ns) + getD ns i 0 ≡ total (take (i + 1) ns)
+  total-more = sym (total-next ns i lt) ∙ ap (λ (j : ℕ). total (take j ns)) (sym (add-one i))
+
+  pub split-more : {A : Type 0} (xs : List A)
+      → split (take (i + 1) ns) xs ≡ split (take i ns) xs ++ (take (getD ns i 0) (drop (total (take i ns)) xs) ∷ [])
+  split-more xs =
+      ap (λ (l : List ℕ). split l xs) (ap (λ (n : ℕ). take n ns) (add-one i) ∙ take-suc ns i 0 lt)
+      ∙ split-end (take i ns) (getD ns i 0) xs
+
+  -- what part i needs is there
+  pub part-there : (from len : ℕ) → from ≡ total (take i ns) → total ns ≤ len → from + getD ns i 0 ≤ len
+  part-there from len e h = let q = total-within ns i in omega arith

@@ -3,7 +3,7 @@ use mathlib.Core.Path.{_≡_, sym, ap, _∙_, subst}
 use mathlib.Core.Logic.{_≢_}
 use mathlib.Core.Bool.{Bool, true, false, cond}
 use mathlib.Core.List.{List, [], _∷_, _++_}
-use Prim.Native.Nat.{ℕ, zero, suc, _≤_, _<_}
+use Prim.Native.Nat.{ℕ, zero, suc, _<_}
 use native.Mathlib.Nat.{not-suc-le-zero}
 use native.Mathlib.Decide.{ℕ-discrete}
 use native.Mathlib.Omega.{arith}
@@ -22,15 +22,6 @@ index-here q x xs e = ap (λ (t : Bool). cond t 0 (suc (indexOf q xs))) (eq-eqb 
 pub index-cons : (q x : ℕ) (xs : List ℕ) → q ≢ x → indexOf q (x ∷ xs) ≡ suc (indexOf q xs)
 unfolding indexOf
 index-cons q x xs n = ap (λ (t : Bool). cond t 0 (suc (indexOf q xs))) (ne-eqb q x n)
-
-pub index-le : (q : ℕ) (xs : List ℕ) → indexOf q xs ≤ length xs
-unfolding indexOf
-index-le q [] = omega arith
-index-le q (x ∷ xs) = go (ℕ-discrete q x) (index-le q xs)
-  where
-    go : Dec (q ≡ x) → indexOf q xs ≤ length xs → indexOf q (x ∷ xs) ≤ length (x ∷ xs)
-    go (yes e) h = let w = index-here q x xs e in omega arith
-    go (no n) h = let w = index-cons q x xs n in omega arith
 
 -- what stands there is q
 pub get-index : (q : ℕ) (xs : List ℕ) (d : ℕ) → Among q xs → getD xs (indexOf q xs) d ≡ q

@@ -1,15 +1,14 @@
 -- Parts of a column, sums of a list's first numbers, and part j of a split list. Proved.
-use mathlib.Core.Path.{_≡_, refl, sym, ap, ap₂, _∙_}
-use mathlib.Core.List.{List, [], _∷_}
-use Prim.Native.Nat.{ℕ, zero, suc, _+_, _-_, _≤_, _<_, min}
+use mathlib.Core.Path.{_≡_, refl, ap, ap₂, _∙_}
+use mathlib.Core.List.{List}
+use Prim.Native.Nat.{ℕ, _+_, _-_, _≤_, _<_, min}
 use native.Mathlib.Decide.{decLt}
-use native.Mathlib.Numerals.{add-one}
 use native.Mathlib.Omega.{arith}
 use lib.ListN.{length, getD, take, drop}
-use lib.Seq.{take-all, take-at, drop-at, drop-drop}
-use Rattle.util.specs.Lists.{column, total, split}
+use lib.Seq.{take-all, take-at, drop-at}
+use Rattle.util.specs.Lists.{column, total}
 use Rattle.util.proofs.Columns.{column-length, column-append}
-use Rattle.util.proofs.Parts.{total-next}
+use Rattle.util.proofs.Parts.{total-within, total-more}
 
 -- ---- runs of a column
 module _ {A : Type 0} (f : ℕ → A) where
@@ -39,11 +38,7 @@ part-column f s w n h =
 
 -- ---- sums of the first numbers
 pub total-first : (ns : List ℕ) (i : ℕ) → total (take i ns) ≤ total ns
-unfolding total
-total-first [] zero = omega arith
-total-first [] (suc i) = omega arith
-total-first (n ∷ ns) zero = omega arith
-total-first (n ∷ ns) (suc i) = let q = total-first ns i in omega arith
+total-first ns i = let q = total-within ns i in omega arith
 
 pub total-none : (ns : List ℕ) → total (take 0 ns) ≡ 0
 unfolding total
@@ -51,5 +46,4 @@ total-none ns = refl
 
 pub total-step : (ns : List ℕ) (i sum n : ℕ) → i < length ns → sum ≡ total (take i ns) → n ≡ getD ns i 0
     → sum + n ≡ total (take (i + 1) ns)
-total-step ns i sum n h p q =
-    ap₂ _+_ p q ∙ sym (total-next ns i h) ∙ ap (λ (j : ℕ). total (take j ns)) (sym (add-one i))
+total-step ns i sum n h p q = ap₂ _+_ p q ∙ total-more ns i h

@@ -1,13 +1,16 @@
 -- One word of a column in a buffer changed. Assumes nothing.
 use mathlib.Core.Path.{_≡_, refl, sym, ap, ap₂, _∙_}
 use mathlib.Core.Logic.{_≢_}
+use mathlib.Core.Bool.{Bool, cond}
 use mathlib.Core.List.{List, [], _∷_, _++_}
-use Prim.Native.Nat.{ℕ, zero, suc, _+_, _≤_, _<_}
+use Prim.Native.Nat.{ℕ, _+_, _≤_, _<_}
 use native.Mathlib.Nat.{zero-add, suc-add}
 use native.Mathlib.Decide.{ℕ-discrete}
 use native.Mathlib.Omega.{arith}
+use lib.Dec.{eqb}
 use lib.ListN.{length, getD, take, drop, set, length-set, length-drop, take-append-drop}
 use lib.Seq.{set-append-left, length-take-le, getD-set-same, getD-set-other, getD-drop, drop-drop, ext-getD}
+use borrow.Author.Tests.{eq-eqb, ne-eqb}
 use Rattle.util.specs.Lists.{column, over}
 use Rattle.util.proofs.Columns.{column-length, get-column, column-cong, column-take}
 
@@ -41,6 +44,13 @@ module _ {A : Type 0} where
           ∙ sym (get-column g n i (g a) m ∙ ap g e)
       at i m (no e) =
           getD-set-other (column f n) a i (g a) (g a) e ∙ get-column f n i (g a) m ∙ h i m e ∙ sym (get-column g n i (g a) m)
+
+  -- one entry changed
+  pub set-column : (f : ℕ → A) (n a : ℕ) (v : A) → a < n → set (column f n) a v ≡ column (λ i. cond (eqb i a) v (f i)) n
+  set-column f n a v l =
+      let g : ℕ → A = λ i. cond (eqb i a) v (f i) in
+      ap (set (column f n) a) (sym (ap (λ (t : Bool). cond t v (f a)) (eq-eqb a a refl)))
+      ∙ set-column-to f g n a l (λ i _ e. sym (ap (λ (t : Bool). cond t v (f i)) (ne-eqb i a e)))
 
 -- a word of a column in a buffer: the others stay as they are
 pub over-column-set : (d : List ℕ) (at : ℕ) (f g : ℕ → ℕ) (n a : ℕ) → at ≤ length d → a < n → ((i : ℕ) → i < n → i ≢ a → f i ≡ g i)

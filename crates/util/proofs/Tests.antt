@@ -1,6 +1,6 @@
 -- Tests: what `allOf`, `anyOf`, `those` and `countOf` say. (A test of two numbers: borrow.Author.Tests.) Assumes nothing.
 use mathlib.Core.Path.{_≡_, refl, sym, ap, ap₂, _∙_, subst}
-use mathlib.Core.Logic.{_≢_, ite}
+use mathlib.Core.Logic.{ite}
 use mathlib.Core.Bool.{Bool, true, false, cond, decide, _&&_, _||_}
 use mathlib.Core.List.{List, [], _∷_, _++_}
 use Prim.Native.Nat.{ℕ, zero, suc, _+_, _≤_, _<_}
@@ -31,6 +31,13 @@ and-right false b e = false-true e
 
 pub and-both : (a b : Bool) → a ≡ true → b ≡ true → (a && b) ≡ true
 and-both a b p q = ap₂ _&&_ p q
+
+pub eqb-sym : (m n : ℕ) → eqb m n ≡ eqb n m
+eqb-sym m n = go (ℕ-discrete m n)
+  where
+    go : Dec (m ≡ n) → eqb m n ≡ eqb n m
+    go (yes e) = eq-eqb m n e ∙ sym (eq-eqb n m (sym e))
+    go (no e) = ne-eqb m n e ∙ sym (ne-eqb n m (λ h. e (sym h)))
 
 -- a choice by a test is the choice by what it decides
 pub cond-ite : {P C : Type 0} (d : Dec P) (x y : C) → cond (decide d) x y ≡ ite d x y

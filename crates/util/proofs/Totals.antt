@@ -1,7 +1,7 @@
 -- Totals, the largest of numbers, n / s rounded up, and the parts of a cut. Assumes nothing.
 use mathlib.Core.Path.{_≡_, refl, sym, ap, _∙_, subst}
 use mathlib.Core.List.{List, [], _∷_, _++_}
-use Prim.Native.Nat.{ℕ, zero, suc, _+_, _-_, _*_, _/_, _≤_, _<_, max}
+use Prim.Native.Nat.{ℕ, zero, suc, _+_, _-_, _*_, _≤_, _<_, max}
 use native.Mathlib.Nat.{
   lt-div-mul-add,
   le-div-iff-mul-le,
@@ -27,18 +27,6 @@ pub total-append : (ms ns : List ℕ) → total (ms ++ ns) ≡ total ms + total 
 unfolding total
 total-append [] ns = omega arith
 total-append (m ∷ ms) ns = ap (λ (x : ℕ). m + x) (total-append ms ns) ∙ sym (add-assoc m (total ms) (total ns))
-
-pub total-le : (ns : List ℕ) (i : ℕ) → getD ns i 0 ≤ total ns
-unfolding total
-total-le [] i = omega arith
-total-le (n ∷ ns) zero = omega arith
-total-le (n ∷ ns) (suc i) = let q = total-le ns i in omega arith
-
-pub largest-le : (ns : List ℕ) (i : ℕ) → getD ns i 0 ≤ largest ns
-unfolding largest
-largest-le [] i = omega arith
-largest-le (n ∷ ns) zero = omega arith
-largest-le (n ∷ ns) (suc i) = let q = largest-le ns i in omega arith
 
 pub largest-append : (ms ns : List ℕ) → largest (ms ++ ns) ≡ max (largest ms) (largest ns)
 unfolding largest

@@ -9,7 +9,7 @@ use lib.ListN.{length, take}
 use lib.Seq.{take-all}
 use Rattle.field.specs.Field.{𝔾, el}
 use Rattle.util.specs.Lists.{over, split, total}
-use Rattle.util.proofs.Splits.{total-more, part-there}
+use Rattle.util.proofs.Parts.{total-more, part-there}
 use Rattle.prover.specs.Words.{wordsOf}
 use Rattle.prover.specs.Lent.{lentEnvironment, compressedPolysIn, pairsOf}
 use Rattle.prover.proofs.PowerSums.{all-start, all-more, lookup-there, lookup-next}

@@ -11,7 +11,7 @@ use lib.Seq.{take-all}
 use Rattle.util.specs.Lists.{over, total}
 use Rattle.prover.specs.Words.{wordsOf}
 use Rattle.prover.proofs.Instance.{polys, instance-start, instance-more, words-there}
-use Rattle.util.proofs.Splits.{total-more, part-there}
+use Rattle.util.proofs.Parts.{total-more, part-there}
 use Rattle.prover.proofs.instance_polys.Statement.{statement}
 use Rattle.prover.proofs.instance_polys.Tie as tie
 use Rattle.prover.proofs.instance_polys.Reads as reads
