@@ -2,19 +2,21 @@
 use mathlib.Core.Path.{_≡_, sym, ap, _∙_}
 use Prim.Native.Nat.{ℕ, suc, _+_}
 use native.Mathlib.Nat.{add-zero, add-suc}
+use native.Mathlib.Numerals.{add-one}
 use Rattle.field.specs.Algebra.{Field, zero-add, add-assoc as f-assoc, add-zero as f-zero}
-use Rattle.field.specs.Field.{𝔾, el, val, val-el, el-zero, el-one, P-pos}
+use Rattle.field.specs.Field.{𝔾, el, el-zero, el-one, el-add}
+use Rattle.field.proofs.Elements.{el-mod}
 use Rattle.bh.specs.Sums.{upTo}
 use Rattle.identities.specs.Lookup.{num}
-use Rattle.identities.proofs.Words.{el-suc}
 use Rattle.calls.specs.Meaning.{Embeds}
 
 -- the words of 𝔾 do
 pub embeds : Embeds 𝔾 el
-embeds = record { el-zero = el-zero; el-suc = λ n. el-suc n ∙ ap (𝔾 .add (el n)) el-one }
-
-pub val-zero : val (𝔾 .zero) ≡ 0
-val-zero = ap val (sym el-zero) ∙ val-el 0 P-pos
+embeds =
+    record {
+      el-zero = el-zero;
+      el-suc = λ n. ap el (sym (add-one n)) ∙ sym (el-mod (n + 1)) ∙ el-add n 1 ∙ ap (𝔾 .add (el n)) el-one;
+    }
 
 module _ (𝓕 : Field) (el : ℕ → 𝓕 .F) (h : Embeds 𝓕 el) where
   open Field 𝓕 using (F, zero, one, add)

@@ -22,7 +22,8 @@ use Rattle.calls.specs.Build.{Output, logOf, wordsOf, checkBuild, buildOf, made
 use Rattle.calls.specs.RowSum.{rowSumOf, sumOf, lentEnvironment}
 use Rattle.calls.specs.Meaning.{Each, Admitted, Premises, Conclusions}
 use Rattle.calls.specs.Demand.{Succeeds, Demand3, DemandThreeAt, DemandThree}
-use Rattle.calls.proofs.Embeds.{embeds, val-zero}
+use Rattle.field.proofs.Elements.{val-zero}
+use Rattle.calls.proofs.Embeds.{embeds}
 use Rattle.calls.proofs.Building.{columns-length, fifteen-by, built-by, written-by}
 use Rattle.calls.proofs.ReadsBack.{reads-back}
 use Rattle.completeness.proofs.Passed.{yes-all, k-small}

@@ -18,8 +18,7 @@ use Rattle.bh.specs.Rows.{rowAt}
 use Rattle.util.specs.Lists.{indexOf, All, below, concat}
 use Rattle.util.proofs.Tests.{and-left, and-right, by-test}
 use Rattle.util.proofs.Totals.{concat-cut}
-use Rattle.identities.proofs.Cycles.{good-labels}
-use Rattle.identities.proofs.Walk.{unit-copied}
+use Rattle.identities.proofs.Cycles.{good-labels, labels-good}
 use Rattle.identities.specs.Copies.{atCell}
 use Rattle.identities.proofs.Totals.{upTo-cong, upTo-add, upTo-flat, upTo-zero}
 use Rattle.identities.proofs.Fields.{muls}
@@ -87,7 +86,7 @@ module _ (c : Circuit) where
       go : Dec (Placed c x) → Dec (Placed c y) → x ≡ y
       go (yes p) (yes q) =
           let n : firstLabel c x ≡ firstLabel c y =
-          good-labels (numCopied c) (rowsOf c) (λ n. tt) Cs (cycles-good c e) (unit-copied Cs) .apart (firstLabel c x) (firstLabel c y)
+          labels-good (numCopied c) (rowsOf c) Cs (cycles-good c e) .apart (firstLabel c x) (firstLabel c y)
           (sym (source-agree c (c .cycles) x a p) ∙ ap (firstLabel c) h ∙ source-agree c (c .cycles) y a q) in
           same-cell x y (same-polynomial c x y p q n) (same-row c x y p q n)
       go (yes p) (no q) = absurd (q (subst (Placed c) (h ∙ source-out (c .cycles) y a q) (source-placed c (c .cycles) x a p)))

@@ -1,13 +1,13 @@
 -- With true copies and no zero denominator, the copied columns' z meets every permutation constraint. Assumes nothing.
 use mathlib.Core.Path.{_≡_, sym, ap, ap₂, _∙_}
 use mathlib.Core.Logic.{_≢_}
-use mathlib.Core.List.{List, [], _∷_}
-use Prim.Native.Nat.{ℕ, zero, suc, _+_, _-_, _*_, _/_, _%_, _^_, _≤_, _<_, min}
-use native.Mathlib.Nat.{mod-eq-of-lt, mul-add-mod-self-right, mul-add-div-right, div-eq-of-lt, add-zero}
+use mathlib.Core.List.{List}
+use Prim.Native.Nat.{ℕ, zero, suc, _+_, _-_, _*_, _^_, _≤_, _<_, min}
 use native.Mathlib.Omega.{arith}
 use lib.Pow.{pow-pos}
 use Rattle.field.specs.Algebra.{Field}
 use Rattle.bh.specs.Sums.{upTo}
+use Rattle.util.proofs.Parts.{div-row, mod-row}
 use Rattle.identities.specs.Copies as R
 use Rattle.identities.specs.Copies.{atCell}
 use Rattle.identities.proofs.Totals.{upTo-cong, upTo-swap, upTo-cut}
@@ -18,8 +18,7 @@ use Rattle.identities.specs.Running.{zCol, Met, NoZero, Balanced}
 use Rattle.identities.proofs.Running.{z-meets, z-unique}
 
 pub at-cell : {W : Type 0} (M : ℕ) (val : ℕ → ℕ → W) (i b : ℕ) → b < M → atCell M val (i * M + b) ≡ val i b
-at-cell M val i b h =
-    ap₂ val (mul-add-div-right {m = M} (omega arith) i b ∙ ap (λ (x : ℕ). i + x) (div-eq-of-lt h) ∙ add-zero i) (mul-add-mod-self-right i M b ∙ mod-eq-of-lt h)
+at-cell M val i b h = ap₂ val (div-row i M b h) (mod-row i M b h)
 
 module _ (𝓕 : Field) {W : Type 0} (k n s : ℕ) (val : ℕ → ℕ → W) (φ : W → ℕ → 𝓕 .F) where
   open Field 𝓕 using (F, zero as nil, one, mul)

@@ -3,7 +3,7 @@ use mathlib.Core.Path.{_≡_, refl, sym, ap, _∙_}
 use mathlib.Core.Logic.{_≢_, _↔_, ite, if-pos, if-neg}
 use mathlib.Core.Bool.{Bool, true, false}
 use mathlib.Core.Option.{Option, some, none, Option·none-ne-some, Option·some-injective}
-use Prim.Native.Nat.{ℕ, zero, suc, _+_, _≤_, _<_}
+use Prim.Native.Nat.{ℕ, zero, suc, _+_, _<_}
 use native.Mathlib.Nat.{not-suc-le-zero}
 use native.Mathlib.Decide.{ℕ-discrete}
 use native.Mathlib.Omega.{arith}
@@ -204,3 +204,25 @@ module _ {A : Type 0} (dec : Discrete A) (ni nt : ℕ) (input table : ℕ → A)
           go : (o : Option (ℕ → ℕ)) → counted dec ni nt input table ≡ o → counted dec ni nt input table ≡ none
           go none e = e
           go (some c) e = absurd (h (counts dec ni nt input table, count-turns (counted-stand c e)))
+
+-- ---- a map that keeps table rows and inputs apart keeps the counts
+module _ {A B : Type 0} (dA : Discrete A) (dB : Discrete B) (f : A → B) where
+  pub last-map : (t : ℕ → A) (n : ℕ) (v : A) → ((r : ℕ) → r < n → f (t r) ≡ f v → t r ≡ v)
+      → lastRow dB (λ r. f (t r)) n (f v) ≡ lastRow dA t n v
+  unfolding lastRow
+  last-map t zero v h = refl
+  last-map t (suc n) v h = go (dB (f (t n)) (f v)) (dA (t n) v) (last-map t n v (λ r l. h r (omega arith)))
+    where
+      go : (p : Dec (f (t n) ≡ f v)) (q : Dec (t n ≡ v)) → lastRow dB (λ r. f (t r)) n (f v) ≡ lastRow dA t n v
+          → ite p (some n) (lastRow dB (λ r. f (t r)) n (f v)) ≡ ite q (some n) (lastRow dA t n v)
+      go (yes p) (yes q) e = refl
+      go (yes p) (no q) e = absurd (q (h n (omega arith) p))
+      go (no p) (yes q) e = absurd (p (ap f q))
+      go (no p) (no q) e = e
+
+  pub counts-map : (ni nt : ℕ) (i t : ℕ → A) → ((b r : ℕ) → b < ni → r < nt → f (t r) ≡ f (i b) → t r ≡ i b) → (r : ℕ)
+      → counts dB ni nt (λ b. f (i b)) (λ s. f (t s)) r ≡ counts dA ni nt i t r
+  unfolding counts
+  counts-map ni nt i t h r =
+      upTo-cong _+_ 0 (λ b. hit (lastRow dB (λ s. f (t s)) nt (f (i b))) r) (λ b. hit (lastRow dA t nt (i b)) r) ni
+      (λ b l. ap (λ (o : Option ℕ). hit o r) (last-map t nt (i b) (λ s m. h b s l m)))

@@ -2,13 +2,15 @@
 -- same over the cells' own labels and over the moved ones. Assumes nothing.
 use mathlib.Core.Path.{_≡_, refl, sym, ap, _∙_, subst, subst⁻¹}
 use mathlib.Core.Logic.{_≢_, ite, if-pos, if-neg}
-use mathlib.Core.List.{List, [], _∷_}
-use Prim.Native.Nat.{ℕ, suc, _+_, _-_, _*_, _/_, _%_, _≤_, _<_}
-use native.Mathlib.Nat.{mod-eq-of-lt, mul-add-mod-self-right, lt-irrefl}
+use mathlib.Core.List.{List, [], _∷_, _++_}
+use Prim.Native.Nat.{ℕ, suc, _+_, _-_, _*_, _%_, _<_}
+use native.Mathlib.Nat.{lt-irrefl}
 use native.Mathlib.Decide.{ℕ-discrete}
 use Rattle.bh.specs.Sums.{upTo}
 use Rattle.bh.proofs.Perm.{Keeps, sum-through, Out, Nodup}
 use Rattle.util.specs.Lists.{All}
+use Rattle.util.proofs.All.{all-any}
+use Rattle.util.proofs.Parts.{mod-row}
 use Rattle.identities.specs.Cycles.{
   lastCell,
   beforeIn,
@@ -22,6 +24,7 @@ use Rattle.identities.specs.Cycles.{
   Copied,
   Good,
   overCells,
+  OutAll,
 }
 use Rattle.identities.specs.Totals.{Monoid}
 use Rattle.identities.proofs.Totals.{sums, upTo-cong, upTo-flat, upTo-but-0}
@@ -186,7 +189,7 @@ module _ {A : Type 0} (op : A → A → A) (e : A) (𝓜 : Monoid op e) (n M : �
       line : (i : ℕ) → upTo op e (λ r. g (i * M + r)) M ≡ upTo op e (λ b. f (i * M + suc b)) (M - 1)
       line i =
           upTo-cong op e (λ r. g (i * M + r)) (λ r. ite (ℕ-discrete r 0) e (f (i * M + r))) M
-          (λ r h. ap (λ (x : ℕ). ite (ℕ-discrete x 0) e (f (i * M + r))) (mul-add-mod-self-right i M r ∙ mod-eq-of-lt h))
+          (λ r h. ap (λ (x : ℕ). ite (ℕ-discrete x 0) e (f (i * M + r))) (mod-row i M r h))
           ∙ upTo-but-0 op e 𝓜 (λ r. f (i * M + r)) M pos
 
   -- a function of value and label, over the cells' own labels and over the moved ones
@@ -215,3 +218,39 @@ module _ {A : Type 0} (op : A → A → A) (e : A) (𝓜 : Monoid op e) (n M : �
           if-neg (ℕ-discrete (σ c % M) 0) (λ w. z (subst (λ (x : ℕ). x % M ≡ 0) (good .apart (σ c) c (good .still (σ c) w)) w)) e (φ (v (σ c)) (σ c))
           ∙ ap (λ (x : W). φ x (σ c)) (good .same c)
           ∙ sym (if-neg (ℕ-discrete (c % M) 0) z e (φ (v c) (σ c)))
+
+-- ---- a cell that stands in one cycle only
+-- a cycle moves none but its own cells
+before-still : (C : List ℕ) (c : ℕ) → Out c C → before C c ≡ c
+unfolding before
+before-still [] c o = refl
+before-still (x ∷ xs) c o = before-out (lastCell x xs) c (x ∷ xs) o
+
+moved-append : (l : ℕ → ℕ) (Xs Ys : List (List ℕ)) (c : ℕ) → moved l (Xs ++ Ys) c ≡ moved (moved l Xs) Ys c
+unfolding moved
+moved-append l [] Ys c = refl
+moved-append l (X ∷ Xs) Ys c = moved-append (λ d. l (before X d)) Xs Ys c
+
+moved-out : (l : ℕ → ℕ) (Ys : List (List ℕ)) (c : ℕ) → OutAll c Ys → moved l Ys c ≡ l c
+unfolding moved
+moved-out l [] c o = refl
+moved-out l (Y ∷ Ys) c o = moved-out (λ d. l (before Y d)) Ys c (o .1) ∙ ap l (before-still Y c (o .0))
+
+-- its label is the cell before it in that cycle, whatever the order of the cycles
+pub labels-alone : (Xs : List (List ℕ)) (C : List ℕ) (Ys : List (List ℕ)) (c : ℕ) → OutAll (before C c) Xs → OutAll c Ys
+    → labels (Xs ++ (C ∷ Ys)) c ≡ before C c
+unfolding labels moved
+labels-alone Xs C Ys c x y =
+    moved-append (λ d. d) Xs (C ∷ Ys) c ∙ moved-out (λ d. moved (λ e. e) Xs (before C d)) Ys c y
+    ∙ moved-out (λ d. d) Xs (before C c) x
+
+-- ---- the labels are the cells, each once, with row 0 as it was
+unit-copied : (Cs : List (List ℕ)) → Copied (λ (c : ℕ). tt {0}) Cs
+unit-copied Cs = all-any (Equal (λ (c : ℕ). tt {0})) unit-equal Cs
+  where
+    unit-equal : (C : List ℕ) → Equal (λ (c : ℕ). tt {0}) C
+    unit-equal [] = tt
+    unit-equal (x ∷ xs) = all-any (λ y. _≡_ {A = Unit {0}} tt tt) (λ y. refl) xs
+
+pub labels-good : (n M : ℕ) (Cs : List (List ℕ)) → Cycles n M Cs → Good n M (λ (c : ℕ). tt {0}) (labels Cs)
+labels-good n M Cs h = good-labels n M (λ (c : ℕ). tt {0}) Cs h (unit-copied Cs)

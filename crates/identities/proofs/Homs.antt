@@ -1,7 +1,7 @@
 -- A field inside a field: m, h and z of embedded columns are the embedded m, h and z. Assumes nothing.
 use mathlib.Core.Path.{_≡_, sym, ap, ap₂, _∙_}
 use mathlib.Core.Logic.{_≢_, ite, apply-ite}
-use Prim.Native.Nat.{ℕ, zero, suc, _+_, _-_, _*_, _^_, _≤_, _<_}
+use Prim.Native.Nat.{ℕ, zero, suc, _-_}
 use native.Mathlib.Decide.{ℕ-discrete}
 use Rattle.field.specs.Algebra.{Field, add-left-cancel, neg-unique, zero-mul}
 use Rattle.bh.specs.Sums.{upTo}
@@ -12,7 +12,7 @@ use Rattle.identities.specs.Homs.{Hom}
 use Rattle.identities.specs.Counts.{counts}
 use Rattle.identities.specs.Lookup.{num, hAt}
 use Rattle.identities.specs.Running.{ratio, rowRatio, zAt, zCol}
-use Rattle.identities.proofs.Words.{counts-map}
+use Rattle.identities.proofs.Counts.{counts-map}
 
 module _ (𝓔 𝓕 : Field) (f : 𝓔 .F → 𝓕 .F) (H : Hom 𝓔 𝓕 f) where
   pub hom-zero : f (𝓔 .zero) ≡ 𝓕 .zero

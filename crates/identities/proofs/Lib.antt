@@ -6,8 +6,5 @@ pub mod Lookup
 pub mod Cycles
 pub mod Running
 pub mod Copies
-pub mod Walk
-pub mod Words
-pub mod Steps
 pub mod Groups
 pub mod Homs

@@ -2,7 +2,7 @@
 use mathlib.Core.Path.{_≡_, refl, sym, ap, ap₂, _∙_, subst, subst⁻¹}
 use mathlib.Core.Logic.{_≢_, if-pos, if-neg}
 use Prim.Native.Nat.{ℕ, zero, suc, _+_, _-_, _*_, _/_, _%_, _^_, _≤_, _<_}
-use native.Mathlib.Nat.{suc-ne-zero, mul-add-mod-self-right, mul-add-div-right, mod-eq-of-lt, div-eq-of-lt, add-zero}
+use native.Mathlib.Nat.{suc-ne-zero}
 use native.Mathlib.Decide.{ℕ-discrete}
 use native.Mathlib.Omega.{arith}
 use lib.Pow.{pow-pos, pow-lt}
@@ -12,6 +12,7 @@ use Rattle.bh.specs.Rows.{nextRow, rowAt, placeOf}
 use Rattle.bh.proofs.Iter.{iter-zero}
 use Rattle.bh.proofs.Order.{row-suc, row-nought, row-next, row-last, row-lt, row-once, row-sum-but-0, next-nought}
 use Rattle.bh.proofs.Place.{row-place, place-row, place-lt}
+use Rattle.util.proofs.Parts.{div-row, mod-row}
 use Rattle.identities.specs.Running as R
 use Rattle.identities.proofs.Totals.{sums, upTo-cong, upTo-suc, upTo-zero, upTo-op, upTo-add, upTo-flat}
 use Rattle.identities.proofs.Fields.{muls, ratio-back, ratio-only, prod-inv, prod-nonzero}
@@ -97,8 +98,7 @@ module _ (𝓕 : Field) (k N : ℕ) (A B : ℕ → ℕ → 𝓕 .F) where
 
       at : (s i : ℕ) → i < N → f (s * N + i) ≡ ratio i (rowAt k (suc s))
       at s i w =
-          ap₂ (λ (x y : ℕ). ratio x (rowAt k (suc y))) (mul-add-mod-self-right s N i ∙ mod-eq-of-lt w)
-          (mul-add-div-right {m = N} p s i ∙ ap (λ (x : ℕ). s + x) (div-eq-of-lt w) ∙ add-zero s)
+          ap₂ (λ (x y : ℕ). ratio x (rowAt k (suc y))) (mod-row s N i w) (div-row s N i w)
 
   module _ (h : 0 < k) (l : k < 21) where
     one-lt : 1 < 2 ^ k

@@ -11,7 +11,7 @@ use Rattle.prover.specs.Log.{Log}
 use Rattle.calls.specs.Build.{logOf, checkBuild, buildOf}
 use Rattle.calls.specs.Meaning.{Premises, cellValue}
 use Rattle.calls.specs.Demand.{Succeeds}
-use Rattle.calls.proofs.Embeds.{val-zero}
+use Rattle.field.proofs.Elements.{val-zero}
 use Rattle.completeness.proofs.DemandThree.{demand-three}
 use Rattle.examples.specs.Open.{everything}
 
