@@ -1,4 +1,5 @@
 pub mod Sections
 pub mod Numbers
 pub mod Answers
+pub mod Cells
 pub mod Degree

@@ -1,30 +1,21 @@
 -- Question 11, cell by cell and cycle by cycle. Assumes nothing.
 use mathlib.Core.Path.{_≡_, refl, sym, ap, ap₂, _∙_}
 use mathlib.Core.Bool.{Bool, true, false, not, _&&_, and-false}
-use mathlib.Core.List.{List, [], _∷_, _++_}
-use Prim.Native.Nat.{ℕ, zero, suc, _+_, _-_, _/_, _≤_, _<_}
+use mathlib.Core.List.{List}
+use Prim.Native.Nat.{ℕ, _+_, _-_, _/_, _≤_, _<_}
 use native.Mathlib.Omega.{arith}
-use lib.Dec.{eqb, leb, ltb}
-use lib.ListN.{length, getD, take, drop, drop-of-length-le}
-use borrow.Author.Tests.{eqb-true, eq-eqb, ne-eqb, leb-true, le-leb, ltb-true, lt-ltb, le-ltb, not-true, not-false}
-use Rattle.util.specs.Lists.{column, below, allOf, split, total, within}
-use Rattle.util.proofs.Tests.{by-test, and-left, and-right, and-both}
+use lib.Dec.{leb, ltb}
+use lib.ListN.{length, getD, drop, drop-of-length-le}
+use borrow.Author.Tests.{leb-true, le-leb, ltb-true, lt-ltb, not-true, not-false}
+use Rattle.util.specs.Lists.{below, allOf, split, total, within}
+use Rattle.util.proofs.Tests.{and-left, and-right, and-both}
 use Rattle.util.proofs.Columns.{column-length}
 use Rattle.util.proofs.Searches.{column-part, total-drop, split-drop}
 use Rattle.util.proofs.Once.{same-tests, once-by-turns}
 use Rattle.backend.specs.Circuit.{Cell, cellAt, cellsOf, sameCell}
 use Rattle.backend.specs.Questions.{goodCell, goodCycle, cyclesGood}
+use Rattle.backend.proofs.Cells.{same-self, same-sym}
 use Rattle.backend.specs.Cycles.{run, fresh, goodAt}
-
-eqb-sym : (a b : ℕ) → eqb a b ≡ eqb b a
-eqb-sym a b =
-    same-tests (eqb a b) (eqb b a) (λ e. eq-eqb b a (sym (eqb-true a b e))) (λ e. eq-eqb a b (sym (eqb-true b a e)))
-
-same-self : (x : Cell) → sameCell x x ≡ true
-same-self x = ap₂ _&&_ (eq-eqb (x .polynomial) (x .polynomial) refl) (eq-eqb (x .row) (x .row) refl)
-
-same-both : (x y : Cell) → sameCell x y ≡ sameCell y x
-same-both x y = ap₂ _&&_ (eqb-sym (x .polynomial) (y .polynomial)) (eqb-sym (x .row) (y .row))
 
 -- ---- a cell
 rows-in : (r rows : ℕ) → (leb 1 r && ltb r rows) ≡ within 1 (rows - 1) r
@@ -61,7 +52,7 @@ module _ (polys rows : ℕ) (cells : List ℕ) (start : ℕ) where
 
   by-turns : (n : ℕ) → allOf turn (below n) ≡ allOf (goodCell polys rows (run cells start n)) (run cells start n)
   by-turns n =
-      once-by-turns sameCell same-self same-both (λ (x : Cell). ltb (x .polynomial) polys && within 1 (rows - 1) (x .row)) (λ i. cellAt cells (start + i)) n
+      once-by-turns sameCell same-self same-sym (λ (x : Cell). ltb (x .polynomial) polys && within 1 (rows - 1) (x .row)) (λ i. cellAt cells (start + i)) n
 
   pub no-cell : (n : ℕ) → n ≡ 0 → false ≡ goodCycle polys rows (run cells start n)
   no-cell n e =

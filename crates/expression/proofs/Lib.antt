@@ -1,6 +1,7 @@
 pub mod Within
 pub mod Evaluate
 pub mod Agree
+pub mod SameRows
 pub mod FlatLength
 pub mod ReadBack
 pub mod Fuel

@@ -15,7 +15,7 @@ use Rattle.util.proofs.Places.{Among, among-below, among-those}
 use Rattle.util.proofs.Rising.{rising-below, rising-those, rising-index}
 use Rattle.backend.specs.Circuit.{Circuit, Cell, cellAt, cellsOf, sameCell, rowsOf, numPoly, copied, copiedIn, numCopied}
 use Rattle.backend.specs.Questions.{q11, cyclesGood}
-use Rattle.preprocessor.specs.Permutation.{firstLabel, label, labelColumns, permutationColumns, Placed, Apart, Walkable}
+use Rattle.preprocessor.specs.Permutation.{firstLabel, label, labelColumns, permutationColumns, Placed, Once, Apart, Walkable}
 use Rattle.preprocessor.proofs.Labels as Labels
 
 module _ (polys rows : ℕ) (cycles : List (List Cell)) where
@@ -26,14 +26,18 @@ module _ (polys rows : ℕ) (cycles : List (List Cell)) where
   abbrev ps : List ℕ
   ps = those named (below polys)
 
+  pub each-once : Once ps
+  each-once i l = rising-index ps i (rising-those named (below polys) (rising-below polys)) l
+
   -- question 11
   abbrev good : List Cell → Cell → Bool
   good cycle x = ltb (x .polynomial) polys && within 1 (rows - 1) (x .row) && eqb (countOf (sameCell x) cycle) 1
 
-  record Good (cycle : List Cell) (x : Cell) : Type 0 where
-    polynomial-in : x .polynomial < polys
-    row-in : x .row < rows
-    once : countOf (sameCell x) cycle ≡ 1
+  pub record Good (cycle : List Cell) (x : Cell) : Type 0 where
+    pub polynomial-in : x .polynomial < polys
+    pub row-pos : 1 ≤ x .row
+    pub row-in : x .row < rows
+    pub once : countOf (sameCell x) cycle ≡ 1
 
   good-cell : (cycle : List Cell) (x : Cell) → good cycle x ≡ true → Good cycle x
   good-cell cycle x e =
@@ -47,6 +51,7 @@ module _ (polys rows : ℕ) (cycles : List (List Cell)) where
       let q = leb-true (x .row) (rows - 1) (and-right t2 t3 b) in
       record {
         polynomial-in = ltb-true (x .polynomial) polys (and-left t1 (t2 && t3) a);
+        row-pos = p;
         row-in = omega arith;
         once = eqb-true (countOf (sameCell x) cycle) 1 (and-right (t1 && (t2 && t3)) t4 e);
       }
@@ -58,7 +63,7 @@ module _ (polys rows : ℕ) (cycles : List (List Cell)) where
       (ltb-true 0 (length cycle) (and-left t u e), all-weaken (λ x. good cycle x ≡ true) (Good cycle) (good-cell cycle) cycle (all-true (good cycle) cycle (and-right t u e)))
 
   module _ (e : allOf (λ cycle. ltb 0 (length cycle) && allOf (good cycle) cycle) cycles ≡ true) where
-    all-good : All (λ cycle. (0 < length cycle) × All (Good cycle) cycle) cycles
+    pub all-good : All (λ cycle. (0 < length cycle) × All (Good cycle) cycle) cycles
     all-good =
         all-weaken (λ cycle. (ltb 0 (length cycle) && allOf (good cycle) cycle) ≡ true) (λ cycle. (0 < length cycle) × All (Good cycle) cycle) good-cycle cycles
         (all-true (λ cycle. ltb 0 (length cycle) && allOf (good cycle) cycle) cycles e)
@@ -79,15 +84,18 @@ module _ (polys rows : ℕ) (cycles : List (List Cell)) where
         (any-at (λ (z : Cell). eqb (z .polynomial) q) nowhere (getD cycles j []) i m (eq-eqb q q refl)))
         (among-below polys q (good-at j l i m .polynomial-in))
 
+    pub all-placed : All (All (Placed ps rows)) cycles
+    all-placed =
+        all-from (All (Placed ps rows)) cycles []
+        (λ j l.
+        all-from (Placed ps rows) (getD cycles j []) nowhere (λ i m. record { column-in = among j l i m; row-in = good-at j l i m .row-in }))
+
     pub good-walkable : polys ≤ 72 → Walkable ps rows cycles
     good-walkable h =
         record {
-          once = λ i l. rising-index ps i (rising-those named (below polys) (rising-below polys)) l;
+          once = each-once;
           few = all-those (λ q. q < 72) named (below polys) (all-column (λ q. q < 72) (λ i. i) polys (λ i l. omega arith));
-          placed =
-              all-from (All (Placed ps rows)) cycles []
-              (λ j l.
-              all-from (Placed ps rows) (getD cycles j []) nowhere (λ i m. record { column-in = among j l i m; row-in = good-at j l i m .row-in }));
+          placed = all-placed;
           some = all-weaken (λ cycle. (0 < length cycle) × All (Good cycle) cycle) (λ cycle. 0 < length cycle) (λ cycle g. g .0) cycles all-good;
           apart =
               all-weaken (λ cycle. (0 < length cycle) × All (Good cycle) cycle) Apart
@@ -95,6 +103,20 @@ module _ (polys rows : ℕ) (cycles : List (List Cell)) where
               cycles
               all-good;
         }
+
+pub copied-once : (c : Circuit) → Once (copied c)
+unfolding copiedIn copied
+copied-once c = each-once (numPoly c) (rowsOf c) (c .cycles)
+
+-- what question 11 tells of each cell
+module _ (c : Circuit) (yes-11 : q11 c ≡ true) where
+  pub cells-good : All (λ cycle. (0 < length cycle) × All (Good (numPoly c) (rowsOf c) (c .cycles) cycle) cycle) (c .cycles)
+  unfolding q11 cyclesGood
+  cells-good = all-good (numPoly c) (rowsOf c) (c .cycles) yes-11
+
+  pub cells-placed : All (All (Placed (copied c) (rowsOf c))) (c .cycles)
+  unfolding q11 cyclesGood copiedIn copied
+  cells-placed = all-placed (numPoly c) (rowsOf c) (c .cycles) yes-11
 
 module _ (c : Circuit) (yes-11 : q11 c ≡ true) (few : numPoly c ≤ 72) where
   pub walkable : Walkable (copied c) (rowsOf c) (c .cycles)

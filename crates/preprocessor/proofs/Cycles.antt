@@ -1,17 +1,15 @@
 -- Cycles: one more at the end; labels passed on along the cells of a cycle, one carried at a time. Assumes nothing.
-use mathlib.Core.Path.{_≡_, refl, sym, ap, ap₂, _∙_}
-use mathlib.Core.Bool.{Bool, true, false, cond, _&&_}
+use mathlib.Core.Path.{_≡_, refl, sym, ap, _∙_}
+use mathlib.Core.Bool.{Bool, true, false, cond}
 use mathlib.Core.List.{List, [], _∷_, _++_}
-use Prim.Native.Nat.{ℕ, suc, _≤_}
-use native.Mathlib.Decide.{ℕ-discrete}
+use Prim.Native.Nat.{suc, _≤_}
 use native.Mathlib.Omega.{arith}
 use lib.ListN.{length}
-use lib.Dec.{eqb}
-use borrow.Author.Tests.{eq-eqb, ne-eqb, eqb-true}
 use Rattle.util.specs.Lists.{those, countOf, All}
-use Rattle.util.proofs.Tests.{and-left, and-right, by-test, count-cons, count-none}
+use Rattle.util.proofs.Tests.{by-test, count-cons, count-none}
 use Rattle.util.proofs.All.{all-weaken, all-both, all-any}
 use Rattle.backend.specs.Circuit.{Cell, sameCell}
+use Rattle.backend.proofs.Cells.{same-self, same-sym, same-cell}
 use Rattle.preprocessor.specs.Permutation.{lastCell, beforeFrom, before, source, Apart}
 
 -- "Cycles act one after another"
@@ -19,27 +17,6 @@ pub source-end : (cycles : List (List Cell)) (cycle : List Cell) (x : Cell) → 
 unfolding source
 source-end [] cycle x = refl
 source-end (y ∷ ys) cycle x = ap (before y) (source-end ys cycle x)
-
--- ---- the same cell
-eqb-sym : (m n : ℕ) → eqb m n ≡ eqb n m
-eqb-sym m n = go (ℕ-discrete m n)
-  where
-    go : Dec (m ≡ n) → eqb m n ≡ eqb n m
-    go (yes e) = eq-eqb m n e ∙ sym (eq-eqb n m (sym e))
-    go (no e) = ne-eqb m n e ∙ sym (ne-eqb n m (λ h. e (sym h)))
-
-same-sym : (x y : Cell) → sameCell x y ≡ sameCell y x
-same-sym x y = ap₂ _&&_ (eqb-sym (x .polynomial) (y .polynomial)) (eqb-sym (x .row) (y .row))
-
-pub same-self : (x : Cell) → sameCell x x ≡ true
-same-self x = ap₂ _&&_ (eq-eqb (x .polynomial) (x .polynomial) refl) (eq-eqb (x .row) (x .row) refl)
-
-pub same-cell : (x y : Cell) → sameCell x y ≡ true → x ≡ y
-same-cell x y e =
-    let s : Bool = eqb (x .polynomial) (y .polynomial) in
-    let t : Bool = eqb (x .row) (y .row) in
-    ap₂ (λ (q b : ℕ). record { polynomial = q; row = b }) (eqb-true (x .polynomial) (y .polynomial) (and-left s t e))
-    (eqb-true (x .row) (y .row) (and-right s t e))
 
 -- ---- no cell twice
 abbrev pub Other : Cell → Cell → Type 0

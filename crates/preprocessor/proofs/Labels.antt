@@ -4,7 +4,7 @@ use mathlib.Core.Path.{_≡_, refl, sym, ap, ap₂, _∙_}
 use mathlib.Core.Bool.{Bool, cond, _&&_}
 use mathlib.Core.List.{List, [], _∷_, map}
 use Prim.Native.Nat.{ℕ, zero, suc, _+_, _-_, _*_, _/_, _%_, _≤_, _<_}
-use native.Mathlib.Nat.{not-suc-le-zero, suc-mul, mul-zero, mul-le-mul-right, div-add-mod', div-lt-iff-lt-mul}
+use native.Mathlib.Nat.{not-suc-le-zero, mul-zero, div-add-mod', div-lt-iff-lt-mul}
 use native.Mathlib.Decide.{ℕ-discrete}
 use native.Mathlib.Omega.{arith}
 use lib.ListN.{length, getD, drop, set, drop-of-length-le}
@@ -17,10 +17,12 @@ use Rattle.util.proofs.Columns.{column-cong, columns-length, get-columns}
 use Rattle.util.proofs.Over.{over-inside, length-over}
 use Rattle.util.proofs.Parts.{div-row, mod-row, columns-flat}
 use Rattle.util.proofs.Sets.{over-set, set-column}
+use Rattle.util.proofs.Turns.{grid-lt}
 use Rattle.util.proofs.Places.{get-index}
 use Rattle.backend.specs.Circuit.{Cell, sameCell}
+use Rattle.backend.proofs.Cells.{same-cell}
 use Rattle.preprocessor.specs.Permutation.{lastCell, before, source, firstLabelIn, cellIn, labelIn, labelColumns, Placed, Once, cellWord, Moved}
-use Rattle.preprocessor.proofs.Cycles.{last-all, source-all, same-cell, apart-distinct, taken, passed, passed-cycle}
+use Rattle.preprocessor.proofs.Cycles.{last-all, source-all, apart-distinct, taken, passed, passed-cycle}
 
 -- ---- labels exchanged: the first place takes v, each after it what the place before it held
 unfoldable pub exchanged : List ℕ → ℕ → List ℕ → List ℕ
@@ -45,11 +47,7 @@ module _ (ps : List ℕ) (rows : ℕ) where
 
   -- ---- cells and places
   pub placed-lt : (x : Cell) → Placed ps rows x → firstLabelIn ps rows x < length ps * rows
-  placed-lt x h =
-      let q : suc (indexOf (x .polynomial) ps) * rows ≤ length ps * rows = mul-le-mul-right rows (h .column-in) in
-      let w = suc-mul (indexOf (x .polynomial) ps) rows in
-      let r = h .row-in in
-      omega arith
+  placed-lt x h = grid-lt (length ps) rows (indexOf (x .polynomial) ps) (x .row) (h .column-in) (h .row-in)
 
   -- the cell at its column and row
   cell-at : (x : Cell) → Placed ps rows x → cellIn ps (indexOf (x .polynomial) ps) (x .row) ≡ x
@@ -73,7 +71,7 @@ module _ (ps : List ℕ) (rows : ℕ) where
     pub cell-number : (i b : ℕ) → i < length ps → firstLabelIn ps rows (cellIn ps i b) ≡ i * rows + b
     cell-number i b l = ap (λ (j : ℕ). j * rows + b) (once i l)
 
-    cell-placed : (i b : ℕ) → i < length ps → b < rows → Placed ps rows (cellIn ps i b)
+    pub cell-placed : (i b : ℕ) → i < length ps → b < rows → Placed ps rows (cellIn ps i b)
     cell-placed i b l m = record { column-in = (let e = once i l in omega arith); row-in = m }
 
     -- a label is the place of a cell
