@@ -1,59 +1,29 @@
 -- The building call: a refusal but 15 writes nothing; what 15 and success write; the words needed are those written.
 -- Assumes nothing.
-use mathlib.Core.Path.{_≡_, sym, ap, _∙_}
+use mathlib.Core.Path.{_≡_, ap, _∙_}
 use mathlib.Core.Bool.{true, false}
-use mathlib.Core.List.{List, [], _∷_, _++_}
-use Prim.Native.Nat.{ℕ, suc, _+_, _*_, _%_}
-use native.Mathlib.Nat.{zero-mul, suc-mul}
-use native.Mathlib.Omega.{arith}
-use lib.ListN.{length, take, drop, length-append, length-map}
+use mathlib.Core.List.{List}
+use Prim.Native.Nat.{ℕ, suc, _*_}
+use lib.ListN.{length, take, drop}
 use lib.Seq.{take-at, drop-at}
 use lib.Dec.{eqb·suc-zero}
 use Rattle.field.specs.ModP as ModP
-use Rattle.field.specs.Field.{𝔾, val}
-use Rattle.util.specs.Lists.{concat}
-use Rattle.util.proofs.Lists.{split-length, pairs-length}
-use Rattle.util.proofs.Columns.{column-length}
-use Rattle.expression.proofs.FlatLength.{flat-length}
-use Rattle.backend.specs.Circuit.{Circuit, circuitOf, rowsOf, numInstance, numCopied, numLookups}
-use Rattle.preprocessor.specs.Compose.{numZ, compose, composedWords, composedNodes}
+use Rattle.field.specs.Field.{𝔾}
+use Rattle.backend.specs.Circuit.{Circuit, circuitOf, rowsOf}
+use Rattle.preprocessor.specs.Compose.{composedWords, composedNodes}
 use Rattle.prover.specs.Log.{Log}
-use Rattle.prover.specs.Columns.{
-  allCovered,
-  instancePolys,
-  permutationPolys,
-  compressedPolys,
-  mPolys,
-  hPolys,
-  zPolys,
-  writtenPolys,
-}
+use Rattle.prover.specs.Columns.{allCovered, writtenPolys}
+use Rattle.preprocessor.proofs.Composed.{composed-length}
+use Rattle.prover.proofs.Words.{words-length}
+use Rattle.prover.proofs.Lengths.{written-length}
 use Rattle.calls.specs.Build.{Output, logOf, wordsOf, columnWords, checkBuild, refusal, made, zeroed, buildLog, buildOf}
 use Rattle.calls.specs.Demand.{Written}
 
-words-length : (rows : ℕ) (ps : List (ℕ → 𝔾 .F)) → length (wordsOf rows ps) ≡ length ps * rows
-unfolding wordsOf concat
-words-length rows [] = sym (zero-mul rows)
-words-length rows (p ∷ ps) =
-    simp length-append
-    (omega (arith, column-length (λ b. val (p b)) rows, words-length rows ps, suc-mul (length ps) rows))
-
 module _ (g : Log 𝔾) where
-  polys-length : length (writtenPolys 𝔾 g)
-      ≡ numInstance (g .circuit) + numCopied (g .circuit) + numLookups (g .circuit) * 4 + numZ (g .circuit)
-  unfolding writtenPolys instancePolys permutationPolys compressedPolys mPolys hPolys zPolys
-  polys-length =
-      simp (length-append, length-map, column-length, split-length, pairs-length) (omega arith)
-
   -- the columns take the words that question 14 asks for
   pub columns-length : length (wordsOf (rowsOf (g .circuit)) (writtenPolys 𝔾 g)) ≡ columnWords (g .circuit)
   unfolding columnWords
-  columns-length = words-length (rowsOf (g .circuit)) (writtenPolys 𝔾 g) ∙ ap (λ (n : ℕ). n * rowsOf (g .circuit)) polys-length
-
--- and the nodes
-pub nodes-length : (c : Circuit) → length (composedWords c) ≡ composedNodes c * 4
-unfolding composedWords composedNodes
-nodes-length c = flat-length (compose c) 0
+  columns-length = words-length (rowsOf (g .circuit)) (writtenPolys 𝔾 g) ∙ ap (λ (n : ℕ). n * rowsOf (g .circuit)) (written-length 𝔾 g)
 
 -- ---- the building call
 
@@ -96,9 +66,9 @@ module _ (ws instances witness challenges columns nodes : List ℕ) where
             ∙ ap (λ (n : ℕ). drop n columns) (columns-length g);
         nodes-written =
             ap (λ (o : Output). take (composedNodes c * 4) (o .nodes)) m
-            ∙ take-at (composedWords c) (drop (length (composedWords c)) nodes) (composedNodes c * 4) (nodes-length c);
+            ∙ take-at (composedWords c) (drop (length (composedWords c)) nodes) (composedNodes c * 4) (composed-length c);
         nodes-past =
             ap (λ (o : Output). drop (composedNodes c * 4) (o .nodes)) m
-            ∙ drop-at (composedWords c) (drop (length (composedWords c)) nodes) (composedNodes c * 4) (nodes-length c)
-            ∙ ap (λ (n : ℕ). drop n nodes) (nodes-length c);
+            ∙ drop-at (composedWords c) (drop (length (composedWords c)) nodes) (composedNodes c * 4) (composed-length c)
+            ∙ ap (λ (n : ℕ). drop n nodes) (composed-length c);
       }

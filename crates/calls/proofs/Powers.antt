@@ -2,10 +2,10 @@
 -- lists sum to zero. Assumes nothing.
 use mathlib.Core.Path.{_≡_, refl, sym, ap, ap₂, _∙_, fun-ext}
 use mathlib.Core.List.{List, [], _∷_, _++_, map, map-append}
-use Prim.Native.Nat.{ℕ, suc, _+_, _<_}
+use Prim.Native.Nat.{ℕ, suc, _<_}
 use native.Mathlib.Omega.{arith}
 use lib.ListN.{length, getD}
-use Rattle.field.specs.Algebra.{Field, add-assoc, add-zero, mul-assoc, mul-add, mul-zero, one-mul}
+use Rattle.field.specs.Algebra.{Field, add-assoc, add-zero, mul-assoc, mul-add, mul-zero, one-mul, pow}
 use Rattle.bh.specs.Sums.{upTo}
 use Rattle.bh.specs.Rows.{rotated, iter}
 use Rattle.util.specs.Lists.{column, All}
@@ -17,7 +17,7 @@ use Rattle.expression.specs.Value.{Environment, valueOps, valueAt}
 use Rattle.backend.specs.Circuit.{Circuit, numLookups, hNumber}
 use Rattle.backend.specs.Constraints.{alphaOf}
 use Rattle.preprocessor.specs.Compose.{composedConstraints, zeroCheck, compose}
-use Rattle.prover.specs.Columns.{pow, powerSum}
+use Rattle.prover.specs.Columns.{powerSum}
 use Rattle.calls.specs.Meaning.{Embeds}
 use Rattle.calls.specs.Composed.{PowersValue, ComposeValue, zeroCheckIn}
 

@@ -4,27 +4,28 @@ use mathlib.Core.List.{List, [], _++_, append-assoc, append-nil}
 use Prim.Native.Nat.{ℕ, _+_, _*_, _≤_, _<_}
 use native.Mathlib.Nat.{mul-le-mul, zero-add, zero-mul, add-mul}
 use native.Mathlib.Omega.{arith}
-use lib.ListN.{length, getD, take, length-append, length-map}
+use lib.ListN.{length, getD, take, length-append}
 use Rattle.field.specs.Field.{𝔾, el, el-val}
 use Rattle.util.specs.Lists.{column, over, written}
-use Rattle.util.proofs.Lists.{split-length, pairs-length}
-use Rattle.util.proofs.Columns.{column-length, get-column, map-below}
+use Rattle.util.proofs.Columns.{get-column, map-below}
 use Rattle.util.proofs.Turns.{grid-lt}
 use Rattle.util.proofs.Over.{over-written}
 use Rattle.expression.specs.Value.{polyOf}
 use Rattle.backend.specs.Circuit.{Circuit, Section, circuitOf, entries, rowsOf, numInstance, numUser, copied, numCopied, numLookups}
 use Rattle.preprocessor.specs.Compose.{numZ}
 use Rattle.prover.specs.Log.{Log}
-use Rattle.prover.specs.Columns.{inputAt, tableAt, permutationAt, instancePolys, permutationPolys, compressedPolys, mPolys, hPolys, zPolys, writtenPolys}
+use Rattle.prover.specs.Columns.{permutationAt, instancePolys, permutationPolys, compressedPolys, mPolys, hPolys, zPolys, writtenPolys}
 use Rattle.prover.specs.Words.{wordsOf}
 use Rattle.prover.specs.Lent.{Given, lentEnvironment, compressedPolysIn, lentRatio}
 use Rattle.prover.specs.Running.{zOf}
-use Rattle.prover.proofs.Lent.{Reads, compressed-agree, words-get}
+use Rattle.prover.proofs.Words.{words-get, over-columns}
+use Rattle.prover.proofs.Lengths.{instances-length, permutations-length, compressed-length, m-length, h-length}
+use Rattle.prover.proofs.Lent.{Reads, compressed-agree}
 use Rattle.prover.proofs.Z.{z-agree}
 use Rattle.calls.specs.Build.{logOf, columnWords}
 use Rattle.prepare.specs.Prepared.{layoutOf, permutationsAt, compressedAt, countsAt, hsAt, zsAt}
 use Rattle.columns.specs.Kinds.{uncountedPolys, countedPolys, lastPolys}
-use Rattle.columns.proofs.Fronts.{over-columns, over-take, take-over, front-get}
+use Rattle.columns.proofs.Fronts.{over-take, take-over, front-get}
 
 module _ (g : Log 𝔾) where
   abbrev c : Circuit
@@ -35,42 +36,22 @@ module _ (g : Log 𝔾) where
 
   -- ---- how many of each kind
 
-  instances-length : length (instancePolys 𝔾 g) ≡ numInstance c
-  unfolding instancePolys
-  instances-length = simp (length-map, split-length)
-
-  permutations-length : length (permutationPolys 𝔾 g) ≡ numCopied c
-  unfolding permutationPolys
-  permutations-length = simp (length-map, column-length)
-
-  compressed-length : length (compressedPolys 𝔾 g) ≡ numLookups c * 2
-  unfolding compressedPolys
-  compressed-length = pairs-length (inputAt 𝔾 g) (tableAt 𝔾 g) (c .lookups)
-
-  counts-length : length (mPolys 𝔾 g) ≡ numLookups c
-  unfolding mPolys
-  counts-length = simp length-map
-
-  hs-length : length (hPolys 𝔾 g) ≡ numLookups c
-  unfolding hPolys
-  hs-length = simp length-map
-
   named-length : length (instancePolys 𝔾 g ++ permutationPolys 𝔾 g) ≡ numInstance c + numCopied c
   named-length =
-      length-append (instancePolys 𝔾 g) (permutationPolys 𝔾 g) ∙ ap₂ _+_ instances-length permutations-length
+      length-append (instancePolys 𝔾 g) (permutationPolys 𝔾 g) ∙ ap₂ _+_ (instances-length 𝔾 g) (permutations-length 𝔾 g)
 
   pub uncounted-length : length (uncountedPolys 𝔾 g) ≡ numInstance c + numCopied c + numLookups c * 2
   uncounted-length =
-      length-append (instancePolys 𝔾 g ++ permutationPolys 𝔾 g) (compressedPolys 𝔾 g) ∙ ap₂ _+_ named-length compressed-length
+      length-append (instancePolys 𝔾 g ++ permutationPolys 𝔾 g) (compressedPolys 𝔾 g) ∙ ap₂ _+_ named-length (compressed-length 𝔾 g)
 
   counted-length : length (countedPolys 𝔾 g) ≡ numInstance c + numCopied c + numLookups c * 3
   counted-length =
       length-append (uncountedPolys 𝔾 g) (mPolys 𝔾 g)
-      ∙ (let a = uncounted-length in let b = counts-length in omega arith)
+      ∙ (let a = uncounted-length in let b = m-length 𝔾 g in omega arith)
 
   -- where each begins
   permutations-at : permutationsAt c ≡ length (instancePolys 𝔾 g) * R
-  permutations-at = ap (λ (n : ℕ). n * R) (sym instances-length)
+  permutations-at = ap (λ (n : ℕ). n * R) (sym (instances-length 𝔾 g))
 
   compressed-at : compressedAt c ≡ length (instancePolys 𝔾 g ++ permutationPolys 𝔾 g) * R
   compressed-at = ap (λ (n : ℕ). n * R) (sym named-length)
@@ -84,7 +65,7 @@ module _ (g : Log 𝔾) where
   zs-at : zsAt c ≡ hsAt c + length (hPolys 𝔾 g) * R
   zs-at =
       let n : numInstance c + numCopied c + numLookups c * 4 ≡ numInstance c + numCopied c + numLookups c * 3 + length (hPolys 𝔾 g) =
-      let e = hs-length in omega arith in
+      let e = h-length 𝔾 g in omega arith in
       ap (λ (m : ℕ). m * R) n ∙ add-mul (numInstance c + numCopied c + numLookups c * 3) (length (hPolys 𝔾 g)) R
 
   -- ---- room
@@ -169,11 +150,11 @@ module _ (g : Log 𝔾) where
       let n : (numInstance c + i) * R + b ≡ permutationsAt c + (i * R + b) =
       let q = add-mul (numInstance c) i R in omega arith in
       let inside : i * R + b < length (permutationPolys 𝔾 g) * R =
-      grid-lt (length (permutationPolys 𝔾 g)) R i b (let q = permutations-length in omega arith) hb in
+      grid-lt (length (permutationPolys 𝔾 g)) R i b (let q = permutations-length 𝔾 g in omega arith) hb in
       ap el
       (ap (λ (m : ℕ). getD d m 0) n
       ∙ front-get R e d (instancePolys 𝔾 g) (permutationPolys 𝔾 g) rs all parts front (permutationsAt c) permutations-at (i * R + b) inside
-      ∙ words-get R (permutationPolys 𝔾 g) i b (let q = permutations-length in omega arith) hb)
+      ∙ words-get R (permutationPolys 𝔾 g) i b (let q = permutations-length 𝔾 g in omega arith) hb)
       ∙ el-val (polyOf 𝔾 (permutationPolys 𝔾 g) i b)
       ∙ ap (λ (ps : List (ℕ → 𝔾 .F)). polyOf 𝔾 ps i b) (map-below (permutationAt 𝔾 g) (numCopied c))
       ∙ ap (λ (p : ℕ → 𝔾 .F). p b) (get-column (permutationAt 𝔾 g) (numCopied c) i (λ r. 𝔾 .zero) hi)
@@ -183,7 +164,7 @@ module _ (g : Log 𝔾) where
       → (j : ℕ) → j < numLookups c * 2 * R → getD d (compressedAt c + j) 0 ≡ getD (wordsOf R (compressedPolys 𝔾 g)) j 0
   compressed-read e d rs all parts front j l =
       front-get R e d (instancePolys 𝔾 g ++ permutationPolys 𝔾 g) (compressedPolys 𝔾 g) rs all parts front (compressedAt c) compressed-at j
-      (let q : length (compressedPolys 𝔾 g) * R ≡ numLookups c * 2 * R = ap (λ (n : ℕ). n * R) compressed-length in omega arith)
+      (let q : length (compressedPolys 𝔾 g) * R ≡ numLookups c * 2 * R = ap (λ (n : ℕ). n * R) (compressed-length 𝔾 g) in omega arith)
 
   pub compressed-uncounted : (d : List ℕ) (j : ℕ) → j < numLookups c * 2 * R
       → getD (over d 0 (wordsOf R (uncountedPolys 𝔾 g))) (compressedAt c + j) 0 ≡ getD (wordsOf R (compressedPolys 𝔾 g)) j 0
@@ -202,7 +183,7 @@ module _ (g : Log 𝔾) where
     counts-counted j l =
         front-get R d d (uncountedPolys 𝔾 g) (mPolys 𝔾 g) [] (countedPolys 𝔾 g) (sym (append-nil (countedPolys 𝔾 g))) counted-front (countsAt c)
         counts-at j
-        (let q : length (mPolys 𝔾 g) * R ≡ numLookups c * R = ap (λ (n : ℕ). n * R) counts-length in omega arith)
+        (let q : length (mPolys 𝔾 g) * R ≡ numLookups c * R = ap (λ (n : ℕ). n * R) (m-length 𝔾 g) in omega arith)
 
   -- which it has when m is written
   pub counted-taken : (d : List ℕ) → take (hsAt c) (over d 0 (wordsOf R (countedPolys 𝔾 g))) ≡ wordsOf R (countedPolys 𝔾 g)

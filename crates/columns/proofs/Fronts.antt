@@ -1,33 +1,17 @@
 -- Columns at the front of a buffer, one kind behind another. Assumes nothing.
 use mathlib.Core.Path.{_≡_, sym, ap, ap₂, _∙_}
-use mathlib.Core.List.{List, _++_, map, map-append}
-use Prim.Native.Nat.{ℕ, _+_, _-_, _*_, _≤_, _<_}
+use mathlib.Core.List.{List, _++_}
+use Prim.Native.Nat.{ℕ, _+_, _*_, _<_}
 use native.Mathlib.Nat.{zero-add}
 use native.Mathlib.Omega.{arith}
 use lib.ListN.{length, getD, take, drop, replicate, length-append, length-replicate, take-append-drop}
-use lib.Seq.{take-at, drop-drop}
-use Rattle.field.specs.Field.{𝔾, val}
-use Rattle.util.specs.Lists.{column, concat, over, written}
-use Rattle.util.proofs.Lists.{get-left, get-past, concat-append}
-use Rattle.util.proofs.Over.{drop-over, over-front, over-inside, over-over, over-written}
+use lib.Seq.{take-at}
+use Rattle.field.specs.Field.{𝔾}
+use Rattle.util.specs.Lists.{over, written}
+use Rattle.util.proofs.Lists.{get-left, get-past}
+use Rattle.util.proofs.Over.{over-front, over-inside, over-written}
 use Rattle.prover.specs.Words.{wordsOf}
-use Rattle.prover.proofs.Words.{words-length}
-
--- columns behind columns
-pub words-append : (rows : ℕ) (ps qs : List (ℕ → 𝔾 .F)) → wordsOf rows (ps ++ qs) ≡ wordsOf rows ps ++ wordsOf rows qs
-unfolding wordsOf
-words-append rows ps qs =
-    ap concat (map-append (λ (p : ℕ → 𝔾 .F). column (λ b. val (p b)) rows) ps qs)
-    ∙ concat-append (map (λ p. column (λ b. val (p b)) rows) ps) (map (λ p. column (λ b. val (p b)) rows) qs)
-
--- in a buffer
-pub over-columns : (rows : ℕ) (d : List ℕ) (at : ℕ) (ps qs : List (ℕ → 𝔾 .F)) (to : ℕ) → to ≡ at + length ps * rows → to ≤ length d
-    → over (over d at (wordsOf rows ps)) to (wordsOf rows qs) ≡ over d at (wordsOf rows (ps ++ qs))
-over-columns rows d at ps qs to e h =
-    let n : to ≡ at + length (wordsOf rows ps) = omega (arith, words-length rows ps) in
-    ap (λ (m : ℕ). over (over d at (wordsOf rows ps)) m (wordsOf rows qs)) n
-    ∙ over-over d at (wordsOf rows ps) (wordsOf rows qs) (omega arith)
-    ∙ ap (over d at) (sym (words-append rows ps qs))
+use Rattle.prover.proofs.Words.{words-length, words-append}
 
 module _ (rows : ℕ) (d : List ℕ) (ps : List (ℕ → 𝔾 .F)) where
   pub over-take : take (length ps * rows) (over d 0 (wordsOf rows ps)) ≡ wordsOf rows ps
@@ -63,16 +47,6 @@ module _ (rows : ℕ) (e d : List ℕ) (ps qs rs all : List (ℕ → 𝔾 .F)) (
       ∙ get-past wp wq (at + j) j 0 (omega arith)
 
 -- ---- words that become 0
-
--- what stands behind a run of words
-pub drop-more : (m n : ℕ) (x y : List ℕ) → m ≤ n → drop m x ≡ drop m y → drop n x ≡ drop n y
-drop-more m n x y h e =
-    let q : n ≡ m + (n - m) = omega arith in
-    ap (λ (i : ℕ). drop i x) q ∙ sym (drop-drop (n - m) m x) ∙ ap (drop (n - m)) e ∙ drop-drop (n - m) m y
-    ∙ ap (λ (i : ℕ). drop i y) (sym q)
-
-pub drop-past : (d : List ℕ) (at : ℕ) (s : List ℕ) (n : ℕ) → at ≤ length d → at + length s ≤ n → drop n (over d at s) ≡ drop n d
-drop-past d at s n h l = drop-more (at + length s) n (over d at s) d l (drop-over d at s h)
 
 pub cleared : (n : ℕ) (d d' : List ℕ) → drop n d' ≡ drop n d → over d' 0 (replicate n 0) ≡ written (replicate n 0) d
 cleared n d d' e =

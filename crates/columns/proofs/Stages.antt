@@ -12,6 +12,7 @@ use Rattle.field.specs.Prime.{P}
 use Rattle.field.specs.Field.{𝔾, el}
 use Rattle.util.specs.Lists.{over, total, written}
 use Rattle.util.proofs.Tests.{and-left, and-right}
+use Rattle.util.proofs.Over.{drop-more, drop-past}
 use Rattle.backend.specs.Circuit.{Circuit, Section, bodyOf, circuitOf, rowsOf, numInstance, numWitness, numUser, copied, numCopied, numLookups}
 use Rattle.preprocessor.specs.Compose.{numZ}
 use Rattle.preprocessor.specs.Pieces.{numbersOf}
@@ -29,7 +30,7 @@ use Rattle.lookups.specs.Lookups.{coveredFrom, countsFrom, hsFrom, CountsWritte
 use Rattle.lookups.proofs.Log.{lookups-small, all-covered-is, counts-are, hs-are}
 use Rattle.stages.specs.Stages.{instanceWords, permutationWords, compressedWords, zWords}
 use Rattle.columns.specs.Kinds.{uncountedPolys, countedPolys, lastPolys}
-use Rattle.columns.proofs.Fronts.{drop-more, drop-past, cleared}
+use Rattle.columns.proofs.Fronts.{cleared}
 use Rattle.columns.proofs.Columns.{counts-at, counted-more, compressed-uncounted, compressed-counted, counts-counted, counted-taken, written-more, uncounted-written, last-written}
 
 -- ---- each kind begins where the one before ends

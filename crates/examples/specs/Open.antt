@@ -5,7 +5,7 @@ use native.Mathlib.Decide.{ℕ-discrete}
 use Rattle.field.specs.Field.{𝔾, el, val}
 use Rattle.field.specs.ModP.{of, decideB}
 use Rattle.field.specs.Power.{withBit, powerWithin, power}
-use Rattle.field.specs.Algebra.{product}
+use Rattle.field.specs.Algebra.{product, pow}
 use Rattle.bh.specs.Rows.{
   primitives,
   xInvs,
@@ -100,7 +100,6 @@ use Rattle.preprocessor.specs.Compose.{
 use Rattle.preprocessor.specs.Permutation.{lastCell, beforeFrom, before, source, firstLabel, label}
 use Rattle.prover.specs.Lookup.{lastEqual, multiplicity, covered, hAt, Turns}
 use Rattle.prover.specs.Columns.{
-  pow,
   powerSum,
   instanceAt,
   instancePolys,

@@ -5,14 +5,13 @@ use mathlib.Core.List.{List, [], _∷_, map}
 use Prim.Native.Nat.{ℕ, zero, suc, _+_, _*_, _≤_, _<_}
 use native.Mathlib.Nat.{not-suc-le-zero}
 use native.Mathlib.Omega.{arith}
-use lib.ListN.{length, getD, take, drop, length-map}
-use lib.Seq.{getD-take, getD-drop}
+use lib.ListN.{length, getD, length-map}
 use Rattle.field.specs.Prime.{P}
 use Rattle.field.specs.Field.{𝔾, el, val, P-pos, el-val, val-el}
 use Rattle.util.specs.Lists.{column, below, concat, allOf}
 use Rattle.util.proofs.All.{all-getD}
 use Rattle.util.proofs.Columns.{column-cong, column-of, map-column}
-use Rattle.util.proofs.Lists.{get-map, pairs-length}
+use Rattle.util.proofs.Lists.{get-map}
 use Rattle.util.proofs.Walks.{all-map}
 use Rattle.util.proofs.Turns.{grid-lt}
 use Rattle.expression.specs.Value.{polyOf}
@@ -21,8 +20,8 @@ use Rattle.prover.specs.Lookup.{multiplicity, covered, hAt}
 use Rattle.prover.specs.Log.{Log}
 use Rattle.prover.specs.Columns.{inputAt, tableAt, countAt, mAt, lookupHAt, allCovered, compressedPolys, mPolys, hPolys}
 use Rattle.prover.specs.Words.{wordsOf, elementsFrom, Small}
-use Rattle.prover.proofs.Words.{words-small}
-use Rattle.prover.proofs.Lent.{words-get}
+use Rattle.prover.proofs.Words.{words-get, words-small}
+use Rattle.prover.proofs.Lengths.{compressed-length}
 use Rattle.lookups.specs.Lookups.{inputFrom, tableFrom, coveredFrom, countsFrom, hsFrom}
 use Rattle.lookups.proofs.Same.{all-agree, covered-same, multiplicity-same, multiplicity-le, h-agree}
 
@@ -65,11 +64,6 @@ columns-are {A = A} xs d rows f p h =
     maps [] = refl
     maps (y ∷ ys) = ap (λ (l : List (List ℕ)). column (λ b. val (p y b)) rows ∷ l) (maps ys)
 
--- the words of a part of a buffer, one by one
-pub part-words : (d : List ℕ) (at n : ℕ) (ws : List ℕ) → take n (drop at d) ≡ ws → (j : ℕ) → j < n → getD d (at + j) 0 ≡ getD ws j 0
-part-words d at n ws e j l =
-    sym (getD-take n (drop at d) j 0 l ∙ getD-drop at d j 0) ∙ ap (λ (xs : List ℕ). getD xs j 0) e
-
 -- ---- a log
 
 module _ (g : Log 𝔾) (d : List ℕ) (at : ℕ)
@@ -87,17 +81,13 @@ module _ (g : Log 𝔾) (d : List ℕ) (at : ℕ)
   pub lookups-small : Small (n * 2 * rows) (λ b. getD d (at + b) 0)
   lookups-small b l = rw (words b l) (all-getD (λ w. w < P) (wordsOf rows (compressedPolys 𝔾 g)) b 0 P-pos (words-small rows (compressedPolys 𝔾 g)))
 
-  compressed-length : length (compressedPolys 𝔾 g) ≡ n * 2
-  unfolding compressedPolys
-  compressed-length = pairs-length (inputAt 𝔾 g) (tableAt 𝔾 g) (g .circuit .lookups)
-
   -- a column of the buffer is the log's
   column-is : (q b : ℕ) → q < n * 2 → b < rows → elementsFrom d (at + q * rows) b ≡ polyOf 𝔾 (compressedPolys 𝔾 g) q b
   column-is q b l h =
       ap el
       (ap (λ (i : ℕ). getD d i 0) (let e : at + q * rows + b ≡ at + (q * rows + b) = omega arith in e)
       ∙ words (q * rows + b) (grid-lt (n * 2) rows q b l h)
-      ∙ words-get rows (compressedPolys 𝔾 g) q b (let e = compressed-length in omega arith) h)
+      ∙ words-get rows (compressedPolys 𝔾 g) q b (let e = compressed-length 𝔾 g in omega arith) h)
       ∙ el-val (polyOf 𝔾 (compressedPolys 𝔾 g) q b)
 
   input-is : (j : ℕ) → j < n → (b : ℕ) → b < rows → inputFrom d at rows j b ≡ inputAt 𝔾 g (lookup j) b

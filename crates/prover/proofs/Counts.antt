@@ -3,20 +3,19 @@
 use mathlib.Core.Path.{_≡_, refl, sym, ap, ap₂, _∙_}
 use mathlib.Core.Logic.{_≢_}
 use mathlib.Core.Bool.{Bool, true, false, cond, _&&_}
-use mathlib.Core.List.{List, [], _∷_, _++_}
+use mathlib.Core.List.{List, [], _∷_}
 use mathlib.Core.Option.{Option, none, some}
 use Prim.Native.Nat.{ℕ, zero, suc, _+_, _≤_, _<_}
 use native.Mathlib.Nat.{add-zero}
 use native.Mathlib.Numerals.{add-one}
 use native.Mathlib.Omega.{arith}
-use lib.Dec.{eqb}
 use lib.ListN.{length, getD, set, replicate, length-replicate}
 use borrow.Author.Tests.{eq-eqb, ne-eqb}
-use Rattle.field.specs.Field.{𝔾, el}
+use Rattle.field.specs.Field.{𝔾}
 use Rattle.util.specs.Lists.{column, below, those, countOf, allOf, isSome, isAt, over}
 use Rattle.util.proofs.Columns.{column-length, get-column, column-suc, column-cong, column-replicate, below-length, below-get}
 use Rattle.util.proofs.Tests.{false-true, by-test, and-both, all-each, all-append, count-append, count-one}
-use Rattle.util.proofs.Over.{length-over, over-before, over-inside, over-again}
+use Rattle.util.proofs.Over.{over-before, over-inside, over-again}
 use Rattle.util.proofs.Sets.{over-column-set}
 use Rattle.prover.specs.Lookup.{lastEqual, multiplicity, covered}
 use Rattle.prover.specs.Words.{countWords}
@@ -103,10 +102,6 @@ module _ (rows : ℕ) (found : ℕ → Option ℕ) (d : List ℕ) (at : ℕ) (ro
       }
 
   module _ (m : List ℕ) (i : ℕ) (inv : Counted rows found d at m i) where
-    pub counted-length : length m ≡ length d
-    counted-length =
-        ap length (inv .now) ∙ length-over d at (column (tally found i) rows) (let q = column-length (tally found i) rows in omega arith)
-
     -- a word counted, which is small
     counted-word : (a : ℕ) → a < rows → getD m (at + a) 0 ≡ tally found i a
     counted-word a l =

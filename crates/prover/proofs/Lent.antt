@@ -1,52 +1,31 @@
 -- User expressions over the words that are lent: what they read of the column buffer, and when they read a log. Assumes nothing.
-use mathlib.Core.Path.{_≡_, refl, sym, ap, ap₂, _∙_}
+use mathlib.Core.Path.{_≡_, refl, sym, ap, ap₂, _∙_, subst}
 use mathlib.Core.List.{List, [], _∷_, _++_, map, append-nil}
-use Prim.Native.Nat.{ℕ, zero, suc, _+_, _-_, _*_, _^_, _<_}
-use native.Mathlib.Nat.{suc-mul, not-suc-le-zero}
-use native.Mathlib.Decide.{decLt}
+use Prim.Native.Nat.{ℕ, zero, _+_, _*_, _^_, _<_}
 use native.Mathlib.Omega.{arith}
 use lib.ListN.{length, getD, take, drop, length-map}
 use lib.Seq.{getD-take, getD-drop}
 use Rattle.field.specs.Field.{𝔾, el, val, el-zero, el-val}
-use Rattle.bh.specs.Rows.{rotated}
-use Rattle.bh.proofs.Turn.{rotated-lt}
 use Rattle.util.specs.Lists.{column, concat, split}
 use Rattle.util.proofs.All.{all-any, map-same}
 use Rattle.util.proofs.Columns.{column-length, column-cong, get-column}
 use Rattle.util.proofs.Turns.{grid-lt}
-use Rattle.util.proofs.Lists.{get-left, get-past, get-map, split-length}
+use Rattle.util.proofs.Lists.{get-map}
 use Rattle.expression.specs.Expr.{Expr}
 use Rattle.expression.specs.Value.{Environment, polyOf, valueAt}
 use Rattle.expression.specs.Reader.{polysOf}
 use Rattle.expression.specs.Point.{environmentOf}
 use Rattle.expression.specs.declared.poly.Layout.{Layout}
 use Rattle.expression.specs.declared.value.Point.{Point}
-use Rattle.expression.proofs.Within.{anything, within-anything}
-use Rattle.expression.proofs.Agree.{agree-value}
+use Rattle.expression.proofs.SameRows.{Same, same-refl, same-append, same-column, same-at, values-agree}
 use Rattle.backend.specs.Circuit.{Pair, pairAt, Section, circuitOf, wordK, bodyOf, entries, startOf, rowsOf, numInstance, numPreprocess, numWitness}
 use Rattle.backend.specs.Constraints.{inputsOf, tablesOf}
 use Rattle.prover.specs.Log.{Log}
 use Rattle.prover.specs.Columns.{powerSum, instancePolys, preprocessPolys, witnessPolys, givenPolys, userEnvironment, compressedAt, inputAt, tableAt, compressedPolys}
 use Rattle.prover.specs.Words.{wordsOf}
+use Rattle.prover.proofs.Words.{words-get}
+use Rattle.prover.proofs.Lengths.{instances-length}
 use Rattle.prover.specs.Lent.{Given, pairsOf, lentEnvironment, compressedIn, compressedPolysIn}
-
--- polynomials of one kind before others, agreeing at a row
-module _ (xs xs' ys ys' : List (ℕ → 𝔾 .F)) (b : ℕ) (len : length xs ≡ length xs')
-    (front : (q : ℕ) → q < length xs → polyOf 𝔾 xs q b ≡ polyOf 𝔾 xs' q b)
-    (back : (q : ℕ) → polyOf 𝔾 ys q b ≡ polyOf 𝔾 ys' q b) where
-  append-agree : (q : ℕ) → polyOf 𝔾 (xs ++ ys) q b ≡ polyOf 𝔾 (xs' ++ ys') q b
-  append-agree q = go (decLt q (length xs))
-    where
-      at : {p p' : ℕ → 𝔾 .F} → p ≡ p' → p b ≡ p' b
-      at e = ap (λ (p : ℕ → 𝔾 .F). p b) e
-
-      go : Dec (q < length xs) → polyOf 𝔾 (xs ++ ys) q b ≡ polyOf 𝔾 (xs' ++ ys') q b
-      go (yes h) =
-          at (get-left xs ys q (λ r. 𝔾 .zero) h) ∙ front q h ∙ sym (at (get-left xs' ys' q (λ r. 𝔾 .zero) (omega arith)))
-      go (no h) =
-          at (get-past xs ys q (q - length xs) (λ r. 𝔾 .zero) (omega arith))
-          ∙ back (q - length xs)
-          ∙ sym (at (get-past xs' ys' q (q - length xs) (λ r. 𝔾 .zero) (omega arith)))
 
 -- ---- of the column buffer the instance columns alone are read
 
@@ -87,33 +66,19 @@ module _ (l : Layout) (perms : l .permutations ≡ 0) (rest : l .rest ≡ 0) (ci
         → polyOf 𝔾 (polysOf l circuit witness c) q b ≡ polyOf 𝔾 (polysOf l circuit witness c') q b
     polys-same q b h =
         ap (λ (ps : List (ℕ → 𝔾 .F)). polyOf 𝔾 ps q b) (polys-are c)
-        ∙ append-agree (frontOf c) (frontOf c') backOf backOf b (front-length c ∙ sym (front-length c'))
-        (λ i m.
-        front-get c i b m
-        ∙ ap el (same (i * l .rows + b) (grid-lt (l .instances) (l .rows) i b (let e = front-length c in omega arith) h))
-        ∙ sym (front-get c' i b (let e = front-length c in let e' = front-length c' in omega arith)))
-        (λ i. refl)
+        ∙ same-at 𝔾 (l .rows) (frontOf c ++ backOf) (frontOf c' ++ backOf)
+        (same-append 𝔾 (l .rows) (frontOf c) (frontOf c') backOf backOf fronts (same-refl 𝔾 (l .rows) backOf))
         q
+        b
+        h
         ∙ sym (ap (λ (ps : List (ℕ → 𝔾 .F)). polyOf 𝔾 ps q b) (polys-are c'))
-
--- environments that differ in the polynomials alone
-module _ (s t : Environment 𝔾) (sk : s .k ≡ t .k) (se : s .el ≡ t .el) (sq : s .eq ≡ t .eq) (sc : s .challenges ≡ t .challenges)
-    (small : t .k < 21)
-    (polys : (q b : ℕ) → b < 2 ^ t .k → polyOf 𝔾 (s .polys) q b ≡ polyOf 𝔾 (t .polys) q b) where
-  pub values-agree : (e : Expr) (b : ℕ) → b < 2 ^ t .k → valueAt 𝔾 s e b ≡ valueAt 𝔾 t e b
-  values-agree e b l =
-      agree-value 𝔾 anything s t b
-      (record {
-        same-k = sk;
-        same-el = se;
-        same-eq = λ i u. ap (λ (f : ℕ → 𝔾 .F). f b) sq;
-        same-poly = λ q r u.
-            ap (λ (k : ℕ). polyOf 𝔾 (s .polys) q (rotated k b r)) sk
-            ∙ polys q (rotated (t .k) b r) (rotated-lt (t .k) (omega arith) b r l);
-        same-challenge = λ i u. ap (λ (cs : List (𝔾 .F)). getD cs i (𝔾 .zero)) sc;
-      })
-      e
-      (within-anything e)
+      where
+        fronts : Same 𝔾 (l .rows) (frontOf c) (frontOf c')
+        fronts =
+            same-column 𝔾 (l .rows) (λ i b. el (getD c (i * l .rows + b) 0)) (l .instances) (frontOf c') (sym (front-length c'))
+            (λ i m b h.
+            ap el (same (i * l .rows + b) (grid-lt (l .instances) (l .rows) i b m h))
+            ∙ sym (front-get c' i b (let e = front-length c' in omega arith)))
 
 module _ (k : ℕ) (small : k < 21) (l : Layout) (g : Given k l) (circuit witness c c' challenges : List ℕ)
     (same : (j : ℕ) → j < l .instances * 2 ^ k → getD c j 0 ≡ getD c' j 0) where
@@ -122,8 +87,8 @@ module _ (k : ℕ) (small : k < 21) (l : Layout) (g : Given k l) (circuit witnes
       ≡ valueAt 𝔾 (lentEnvironment circuit witness c' challenges l k) e b
   unfolding lentEnvironment
   lent-same =
-      values-agree (lentEnvironment circuit witness c challenges l k) (lentEnvironment circuit witness c' challenges l k)
-      refl refl refl refl small
+      values-agree 𝔾 (lentEnvironment circuit witness c challenges l k) (lentEnvironment circuit witness c' challenges l k)
+      refl refl refl refl (omega arith)
       (λ q b h.
       polys-same l (g .permutations) (g .rest) circuit witness c c' (rw (g .rows) same) q b (rw (g .rows) h))
 
@@ -161,23 +126,6 @@ module _ (s t : Environment 𝔾) (rows : ℕ) (same : (e : Expr) (b : ℕ) → 
       (ap₂ (λ (x : List ℕ) (r : List ℕ). x ++ r) (compressed-column (tablesOf p)) (compressed-words ls))
 
 -- ---- a log's columns
-
--- word b of column q
-pub words-get : (rows : ℕ) (ps : List (ℕ → 𝔾 .F)) (q b : ℕ) → q < length ps → b < rows
-    → getD (wordsOf rows ps) (q * rows + b) 0 ≡ val (polyOf 𝔾 ps q b)
-unfolding wordsOf concat
-words-get rows [] q b l m = absurd (not-suc-le-zero l)
-words-get rows (p ∷ ps) zero b l m =
-    let f : ℕ → ℕ = λ b. val (p b) in
-    let e = column-length f rows in
-    ap (λ (n : ℕ). getD (column f rows ++ wordsOf rows ps) n 0) (let z = native.Mathlib.Nat.zero-mul rows in omega arith)
-    ∙ get-left (column f rows) (wordsOf rows ps) b 0 (omega arith)
-    ∙ get-column f rows b 0 m
-words-get rows (p ∷ ps) (suc q) b l m =
-    let f : ℕ → ℕ = λ b. val (p b) in
-    get-past (column f rows) (wordsOf rows ps) (suc q * rows + b) (q * rows + b) 0
-    (let e = column-length f rows in let w = suc-mul q rows in omega arith)
-    ∙ words-get rows ps q b (omega arith) m
 
 -- a preprocess column's value in the circuit words
 pub preprocess-word : (ws : List ℕ) (i b : ℕ) → i < entries ws Section.preprocess → b < 2 ^ wordK ws
@@ -241,10 +189,13 @@ module _ (g : Log 𝔾) (l : Layout) (circuit witness columns challenges : List 
   polys-agree q b m =
       ap (λ (ps : List (ℕ → 𝔾 .F)). polyOf 𝔾 ps q b)
       (polys-are l (r .given .permutations) (r .given .rest) circuit witness columns)
-      ∙ append-agree fronts (instancePolys 𝔾 g) (pres ++ wits) (preprocessPolys 𝔾 g ++ witnessPolys 𝔾 g) b fronts-length at-front
-      (append-agree pres (preprocessPolys 𝔾 g) wits (witnessPolys 𝔾 g) b pres-length at-pre
-      (λ i. ap (λ (ps : List (ℕ → 𝔾 .F)). polyOf 𝔾 ps i b) wits-are))
+      ∙ same-at 𝔾 rows (fronts ++ (pres ++ wits)) (instancePolys 𝔾 g ++ (preprocessPolys 𝔾 g ++ witnessPolys 𝔾 g))
+      (same-append 𝔾 rows fronts (instancePolys 𝔾 g) (pres ++ wits) (preprocessPolys 𝔾 g ++ witnessPolys 𝔾 g) same-fronts
+      (same-append 𝔾 rows pres (preprocessPolys 𝔾 g) wits (witnessPolys 𝔾 g) same-pres
+      (subst (λ (ps : List (ℕ → 𝔾 .F)). Same 𝔾 rows wits ps) wits-are (same-refl 𝔾 rows wits))))
       q
+      b
+      m
     where
       fronts : List (ℕ → 𝔾 .F)
       fronts = column (λ i b. el (getD columns (i * l .rows + b) 0)) (l .instances)
@@ -255,43 +206,28 @@ module _ (g : Log 𝔾) (l : Layout) (circuit witness columns challenges : List 
       wits : List (ℕ → 𝔾 .F)
       wits = column (λ i b. el (getD witness (i * l .rows + b) 0)) (l .witness)
 
-      instances-length : length (instancePolys 𝔾 g) ≡ l .instances
-      instances-length =
-          length-map (split (g .circuit .instances) (g .instances)) _ ∙ split-length (g .circuit .instances) (g .instances)
-          ∙ sym (r .instances)
-
-      fronts-length : length fronts ≡ length (instancePolys 𝔾 g)
-      fronts-length = column-length (λ i b. el (getD columns (i * l .rows + b) 0)) (l .instances) ∙ sym instances-length
-
-      at-front : (i : ℕ) → i < length fronts → polyOf 𝔾 fronts i b ≡ polyOf 𝔾 (instancePolys 𝔾 g) i b
-      at-front i h =
-          let inside : i < l .instances = let e = fronts-length in let w = instances-length in omega arith in
-          ap (λ (p : ℕ → 𝔾 .F). p b)
-          (get-column (λ i b. el (getD columns (i * l .rows + b) 0)) (l .instances) i (λ r. 𝔾 .zero) inside)
-          ∙ ap el
+      same-fronts : Same 𝔾 rows fronts (instancePolys 𝔾 g)
+      same-fronts =
+          let n = instances-length 𝔾 g in
+          same-column 𝔾 rows (λ i b. el (getD columns (i * l .rows + b) 0)) (l .instances) (instancePolys 𝔾 g) (r .instances ∙ sym n)
+          (λ i h b m.
+          ap el
           (ap (λ (n : ℕ). getD columns (i * n + b) 0) lent-rows
-          ∙ r .columns-are (i * rows + b) (grid-lt (l .instances) rows i b inside m)
-          ∙ words-get rows (instancePolys 𝔾 g) i b (let w = instances-length in omega arith) m)
-          ∙ el-val (polyOf 𝔾 (instancePolys 𝔾 g) i b)
+          ∙ r .columns-are (i * rows + b) (grid-lt (l .instances) rows i b h m)
+          ∙ words-get rows (instancePolys 𝔾 g) i b (let w = r .instances in omega arith) m)
+          ∙ el-val (polyOf 𝔾 (instancePolys 𝔾 g) i b))
 
-      pres-length : length pres ≡ length (preprocessPolys 𝔾 g)
-      pres-length =
-          column-length (λ i b. el (getD circuit (l .start + i * l .rows + b) 0)) (l .preprocess)
-          ∙ preprocess-count
-          ∙ sym (length-map (g .circuit .preprocess) (λ vs b. g .el (getD vs b 0)))
-
-      at-pre : (i : ℕ) → i < length pres → polyOf 𝔾 pres i b ≡ polyOf 𝔾 (preprocessPolys 𝔾 g) i b
-      at-pre i h =
-          let inside : i < l .preprocess =
-          let e = column-length {A = ℕ → 𝔾 .F} (λ i b. el (getD circuit (l .start + i * l .rows + b) 0)) (l .preprocess) in omega arith in
-          ap (λ (p : ℕ → 𝔾 .F). p b)
-          (get-column (λ i b. el (getD circuit (l .start + i * l .rows + b) 0)) (l .preprocess) i (λ r. 𝔾 .zero) inside)
-          ∙ ap el (sym (preprocess-here i b inside m))
+      same-pres : Same 𝔾 rows pres (preprocessPolys 𝔾 g)
+      same-pres =
+          same-column 𝔾 rows (λ i b. el (getD circuit (l .start + i * l .rows + b) 0)) (l .preprocess) (preprocessPolys 𝔾 g)
+          (preprocess-count ∙ sym (length-map (g .circuit .preprocess) (λ vs b. g .el (getD vs b 0))))
+          (λ i h b m.
+          ap el (sym (preprocess-here i b h m))
           ∙ ap (λ (f : ℕ → 𝔾 .F). f (getD (getD (g .circuit .preprocess) i []) b 0)) (sym (r .el-is))
           ∙ sym
           (ap (λ (p : ℕ → 𝔾 .F). p b)
           (get-map {B = ℕ → 𝔾 .F} (λ (vs : List ℕ) (b : ℕ). g .el (getD vs b 0)) (g .circuit .preprocess) i [] (λ r. 𝔾 .zero)
-          (let e = preprocess-count in omega arith)))
+          (let e = preprocess-count in omega arith))))
 
       wits-are : wits ≡ witnessPolys 𝔾 g
       wits-are =
@@ -305,8 +241,8 @@ module _ (g : Log 𝔾) (l : Layout) (circuit witness columns challenges : List 
       → valueAt 𝔾 (lentEnvironment circuit witness columns challenges l (g .circuit .k)) e b ≡ valueAt 𝔾 (userEnvironment 𝔾 g) e b
   unfolding lentEnvironment userEnvironment
   lent-agrees =
-      values-agree (lentEnvironment circuit witness columns challenges l (g .circuit .k)) (userEnvironment 𝔾 g) refl (sym (r .el-is))
-      refl (sym (r .user-is)) (r .small) polys-agree
+      values-agree 𝔾 (lentEnvironment circuit witness columns challenges l (g .circuit .k)) (userEnvironment 𝔾 g) refl (sym (r .el-is))
+      refl (sym (r .user-is)) (let s = r .small in omega arith) polys-agree
 
   -- and so the compressed columns are the log's
   pub compressed-agree : (β : ℕ) → g .β ≡ el β

@@ -1,6 +1,7 @@
 pub mod Search
 pub mod Counts
 pub mod Words
+pub mod Lengths
 pub mod Rows
 pub mod Lent
 pub mod PowerSums

@@ -1,6 +1,6 @@
 -- The compressed columns: one value by a running power and a running sum, and the columns one after another. Assumes nothing.
 use mathlib.Core.Path.{_≡_, refl, sym, ap, ap₂, _∙_}
-use mathlib.Core.List.{List, [], _∷_, _++_, map, append-nil, append-assoc, map-append}
+use mathlib.Core.List.{List, [], _∷_, _++_, map, append-nil, map-append}
 use Prim.Native.Nat.{ℕ, zero, suc, _+_, _*_, _/_, _%_, _^_, _≤_, _<_}
 use native.Mathlib.Nat.{suc-mul, mul-le-mul, mul-assoc}
 use native.Mathlib.Numerals.{add-one}
@@ -10,7 +10,7 @@ use lib.ListN.{length, getD, take, drop, length-drop}
 use lib.Seq.{getD-take, getD-drop, ext-getD, length-take-le}
 use Rattle.field.specs.Prime.{P}
 use Rattle.field.specs.Field.{𝔾, el, val, addP, mulP, val-el, el-zero, el-one, el-add, el-mul}
-use Rattle.field.specs.Algebra.{mul-comm}
+use Rattle.field.specs.Algebra.{pow, mul-comm}
 use Rattle.field.proofs.Elements.{addP-lt}
 use Rattle.bh.specs.Sums.{upTo}
 use Rattle.util.specs.Lists.{column, concat, over, split, total}
@@ -27,11 +27,11 @@ use Rattle.expression.specs.declared.poly.Layout.{Layout}
 use Rattle.expression.proofs.Fuel.{expr-step}
 use Rattle.backend.specs.Circuit.{Pair, pairAt}
 use Rattle.backend.specs.Constraints.{inputsOf, tablesOf}
-use Rattle.prover.specs.Columns.{pow, powerSum}
+use Rattle.prover.specs.Columns.{powerSum}
 use Rattle.prover.specs.Words.{wordsOf}
 use Rattle.prover.specs.Lent.{Given, pairsOf, rootsOf, compressedIn, compressedPolysIn, lentEnvironment}
 use Rattle.prover.specs.declared.Roots.{Roots}
-use Rattle.prover.proofs.Words.{words-none, words-length}
+use Rattle.prover.proofs.Words.{words-none, words-length, words-append}
 use Rattle.prover.proofs.Lent.{lent-point, lent-same, compressed-same, compressed-column}
 
 -- ---- a root past the last node
@@ -154,13 +154,6 @@ pub words-two : (rows : ℕ) (p q : ℕ → 𝔾 .F)
     → wordsOf rows (p ∷ q ∷ []) ≡ column (λ b. val (p b)) rows ++ column (λ b. val (q b)) rows
 unfolding wordsOf concat
 words-two rows p q = ap (λ (xs : List ℕ). column (λ b. val (p b)) rows ++ xs) (append-nil (column (λ b. val (q b)) rows))
-
-pub words-append : (rows : ℕ) (ps qs : List (ℕ → 𝔾 .F)) → wordsOf rows (ps ++ qs) ≡ wordsOf rows ps ++ wordsOf rows qs
-unfolding wordsOf concat
-words-append rows [] qs = refl
-words-append rows (p ∷ ps) qs =
-    ap (λ (xs : List ℕ). column (λ b. val (p b)) rows ++ xs) (words-append rows ps qs)
-    ∙ sym (append-assoc (column (λ b. val (p b)) rows) (wordsOf rows ps) (wordsOf rows qs))
 
 -- ---- what is written at a row is the column's value there
 

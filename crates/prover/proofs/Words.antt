@@ -2,28 +2,35 @@
 use mathlib.Core.Path.{_≡_, refl, sym, ap, ap₂, _∙_}
 use mathlib.Core.List.{List, [], _∷_, _++_, map, map-append, append-nil}
 use Prim.Native.Nat.{ℕ, zero, suc, _+_, _*_, _≤_, _<_}
-use native.Mathlib.Nat.{suc-mul, zero-mul, add-comm}
+use native.Mathlib.Nat.{not-suc-le-zero, suc-mul, zero-mul, add-comm}
 use native.Mathlib.Omega.{arith}
 use lib.ListN.{length, getD, length-append}
 use Rattle.field.specs.Prime.{P}
 use Rattle.field.specs.Field.{𝔾, val, val-lt}
 use Rattle.util.specs.Lists.{column, concat, over, All}
 use Rattle.util.proofs.All.{all-join, all-column}
-use Rattle.util.proofs.Columns.{column-length}
-use Rattle.util.proofs.Lists.{concat-end}
+use Rattle.util.proofs.Columns.{column-length, get-column}
+use Rattle.util.proofs.Lists.{get-left, get-past, concat-append}
 use Rattle.util.proofs.Over.{over-over}
+use Rattle.expression.specs.Value.{polyOf}
 use Rattle.prover.specs.Words.{wordsOf}
 
 pub words-none : (rows : ℕ) → wordsOf rows [] ≡ []
 unfolding wordsOf concat
 words-none rows = refl
 
+-- columns behind columns
+pub words-append : (rows : ℕ) (ps qs : List (ℕ → 𝔾 .F)) → wordsOf rows (ps ++ qs) ≡ wordsOf rows ps ++ wordsOf rows qs
+unfolding wordsOf
+words-append rows ps qs =
+    ap concat (map-append (λ (p : ℕ → 𝔾 .F). column (λ b. val (p b)) rows) ps qs)
+    ∙ concat-append (map (λ p. column (λ b. val (p b)) rows) ps) (map (λ p. column (λ b. val (p b)) rows) qs)
+
 pub words-end : (rows : ℕ) (ps : List (ℕ → 𝔾 .F)) (p : ℕ → 𝔾 .F)
     → wordsOf rows (ps ++ (p ∷ [])) ≡ wordsOf rows ps ++ column (λ b. val (p b)) rows
-unfolding wordsOf
+unfolding wordsOf concat
 words-end rows ps p =
-    ap concat (map-append (λ (p : ℕ → 𝔾 .F). column (λ b. val (p b)) rows) ps (p ∷ []))
-    ∙ concat-end (map (λ p. column (λ b. val (p b)) rows) ps) (column (λ b. val (p b)) rows)
+    words-append rows ps (p ∷ []) ∙ ap (λ (l : List ℕ). wordsOf rows ps ++ l) (append-nil (column (λ b. val (p b)) rows))
 
 pub words-length : (rows : ℕ) (ps : List (ℕ → 𝔾 .F)) → length (wordsOf rows ps) ≡ length ps * rows
 unfolding wordsOf concat
@@ -33,6 +40,23 @@ words-length rows (p ∷ ps) =
     ∙ ap₂ _+_ (column-length (λ b. val (p b)) rows) (words-length rows ps)
     ∙ add-comm rows (length ps * rows)
     ∙ sym (suc-mul (length ps) rows)
+
+-- word b of column q
+pub words-get : (rows : ℕ) (ps : List (ℕ → 𝔾 .F)) (q b : ℕ) → q < length ps → b < rows
+    → getD (wordsOf rows ps) (q * rows + b) 0 ≡ val (polyOf 𝔾 ps q b)
+unfolding wordsOf concat
+words-get rows [] q b l m = absurd (not-suc-le-zero l)
+words-get rows (p ∷ ps) zero b l m =
+    let f : ℕ → ℕ = λ b. val (p b) in
+    let e = column-length f rows in
+    ap (λ (n : ℕ). getD (column f rows ++ wordsOf rows ps) n 0) (let z = zero-mul rows in omega arith)
+    ∙ get-left (column f rows) (wordsOf rows ps) b 0 (omega arith)
+    ∙ get-column f rows b 0 m
+words-get rows (p ∷ ps) (suc q) b l m =
+    let f : ℕ → ℕ = λ b. val (p b) in
+    get-past (column f rows) (wordsOf rows ps) (suc q * rows + b) (q * rows + b) 0
+    (let e = column-length f rows in let w = suc-mul q rows in omega arith)
+    ∙ words-get rows ps q b (omega arith) m
 
 -- each is below p
 pub words-small : (rows : ℕ) (ps : List (ℕ → 𝔾 .F)) → All (λ w. w < P) (wordsOf rows ps)
@@ -51,3 +75,12 @@ words-more rows d ps p at e h =
     ap (λ (m : ℕ). over (over d 0 (wordsOf rows ps)) m (column (λ b. val (p b)) rows)) n
     ∙ over-over d 0 (wordsOf rows ps) (column (λ b. val (p b)) rows) (omega arith)
     ∙ ap (over d 0) (sym (words-end rows ps p))
+
+-- columns behind columns in a buffer
+pub over-columns : (rows : ℕ) (d : List ℕ) (at : ℕ) (ps qs : List (ℕ → 𝔾 .F)) (to : ℕ) → to ≡ at + length ps * rows → to ≤ length d
+    → over (over d at (wordsOf rows ps)) to (wordsOf rows qs) ≡ over d at (wordsOf rows (ps ++ qs))
+over-columns rows d at ps qs to e h =
+    let n : to ≡ at + length (wordsOf rows ps) = omega (arith, words-length rows ps) in
+    ap (λ (m : ℕ). over (over d at (wordsOf rows ps)) m (wordsOf rows qs)) n
+    ∙ over-over d at (wordsOf rows ps) (wordsOf rows qs) (omega arith)
+    ∙ ap (over d at) (sym (words-append rows ps qs))

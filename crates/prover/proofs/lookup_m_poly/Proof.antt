@@ -14,7 +14,6 @@ use Rattle.prover.proofs.Search.{rowOf, lastRow, row-below, row-same, s
 use Rattle.prover.proofs.Counts.{
   Counted,
   counted-start,
-  counted-length,
   counted-le,
   counted-more,
   counted-before,

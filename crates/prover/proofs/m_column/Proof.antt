@@ -15,7 +15,6 @@ use Rattle.prover.proofs.Search.{rowOf, lastRow, row-below, search-none
 use Rattle.prover.proofs.Counts.{
   Counted,
   counted-start,
-  counted-length,
   counted-le,
   counted-more,
   counted-cleared,
