@@ -4,7 +4,6 @@ pub mod Counts
 pub mod CellNumbers
 pub mod CycleNumbers
 pub mod Cuts
-pub mod SameRows
 pub mod ReadColumns
 pub mod ComposedZero
 pub mod PermutationZero

@@ -3,7 +3,7 @@ use mathlib.Core.Path.{_≡_, refl, sym, ap, ap₂, _∙_}
 use mathlib.Core.Logic.{ite, if-neg}
 use mathlib.Core.Bool.{Bool, true, cond}
 use mathlib.Core.List.{List, [], map}
-use Prim.Native.Nat.{ℕ, zero, suc, _+_, _-_, _*_, _/_, _%_, _^_, _≤_, _<_, min}
+use Prim.Native.Nat.{ℕ, zero, suc, _+_, _-_, _*_, _/_, _%_, _^_, _<_, min}
 use native.Mathlib.Nat.{suc-ne-zero}
 use native.Mathlib.Decide.{ℕ-discrete}
 use native.Mathlib.Omega.{arith}
@@ -38,6 +38,7 @@ use Rattle.preprocessor.specs.Compose.{
   partConstraint,
 }
 use Rattle.preprocessor.specs.Permutation.{firstLabel}
+use Rattle.preprocessor.proofs.Copied.{cells-placed}
 use Rattle.prover.specs.Log.{Log}
 use Rattle.prover.specs.Columns.{
   permutationAt,
@@ -56,7 +57,7 @@ use Rattle.calls.specs.Meaning.{Admitted, EachRow, Premises}
 use Rattle.calls.specs.Composed.{column-at, nextIn, over-part, PartHolds}
 use Rattle.calls.proofs.ConstraintZero.{start-zero, part-zero}
 use Rattle.completeness.proofs.CellNumbers.{label-agree}
-use Rattle.completeness.proofs.CycleNumbers.{cycles-placed, cycles-good, copied-good}
+use Rattle.completeness.proofs.CycleNumbers.{cycles-good, copied-good}
 use Rattle.completeness.proofs.Cuts.{z-pos, partSize, covers, z-part, parts-alike}
 use Rattle.completeness.proofs.ReadColumns.{reads}
 use Rattle.completeness.proofs.ComposedZero.{embeds-in}
@@ -85,7 +86,7 @@ module _ (𝓕 : Field) (g : Log 𝓕) where
     pub factor-agree : (i b : ℕ) → i < numCopied (g .circuit) → b < rowsOf (g .circuit)
         → permutationFactorAt 𝓕 g i b ≡ φ (copiedAt 𝓕 g i b) (labels Cs (i * rowsOf (g .circuit) + b))
     unfolding permutationFactorAt permutationAt
-    factor-agree i b l m = ap (φ (copiedAt 𝓕 g i b)) (label-agree (g .circuit) (cycles-placed (g .circuit) y) i b l m)
+    factor-agree i b l m = ap (φ (copiedAt 𝓕 g i b)) (label-agree (g .circuit) (cells-placed (g .circuit) y) i b l m)
 
     -- the part's products, from the definitions' factors
     ids-agree : (j b : ℕ) → upTo mul one (λ r. identityFactorAt 𝓕 g (j * size + r) b) (min size (numCopied (g .circuit) - j * size)) ≡ A j b

@@ -2,21 +2,20 @@
 -- product closes at one: Permutes, Keeps, IsPlonkZ and Closes of Papers. Assumes nothing.
 use mathlib.Core.Path.{_≡_, refl, sym, ap, ap₂, _∙_, subst}
 use mathlib.Core.Bool.{Bool, true, cond}
-use mathlib.Core.List.{List, [], _∷_, map, _++_}
+use mathlib.Core.List.{List, [], _∷_, map}
 use Prim.Native.Nat.{ℕ, _<_, suc, _+_, _*_, _≤_, _-_}
 use native.Mathlib.Decide.{decLt, ℕ-discrete}
-use native.Mathlib.Nat.{mod-eq-of-lt, mul-add-mod-self-right, mul-add-div-right, div-eq-of-lt, add-zero, mul-zero}
+use native.Mathlib.Nat.{add-zero, mul-zero}
 use native.Mathlib.Omega.{arith}
 use lib.ListN.{length, getD, take}
-use lib.Dec.{eqb}
 use lib.Seq.{take-all}
-use borrow.Author.Tests.{eqb-true}
 use Rattle.field.specs.Algebra.{Field}
 use Rattle.field.specs.Algebra as Algebra
 use Rattle.bh.specs.Sums.{upTo}
 use Rattle.bh.specs.Rows.{rowAt}
 use Rattle.util.specs.Lists.{indexOf, All, below, concat}
-use Rattle.util.proofs.Tests.{and-left, and-right, by-test}
+use Rattle.util.proofs.Tests.{by-test}
+use Rattle.util.proofs.Parts.{div-row, mod-row}
 use Rattle.util.proofs.Totals.{concat-cut}
 use Rattle.identities.proofs.Cycles.{good-labels, labels-good}
 use Rattle.identities.specs.Copies.{atCell}
@@ -28,26 +27,20 @@ use Rattle.identities.proofs.Running.{z-scan, closes as running-closes}
 use Rattle.identities.proofs.Products.{parts-product}
 use Rattle.backend.specs.Circuit.{Circuit, Cell, sameCell, rowsOf, copied, numCopied}
 use Rattle.backend.specs.Questions.{q11}
+use Rattle.backend.proofs.Cells.{same-cell}
+use Rattle.preprocessor.proofs.Cycles.{source-all}
+use Rattle.preprocessor.proofs.Copied.{cells-placed}
 use Rattle.preprocessor.specs.Permutation.{lastCell, beforeFrom, before, source, firstLabel}
 use Rattle.preprocessor.specs.Compose.{numZ, zCut}
 use Rattle.prover.specs.Log.{Log}
 use Rattle.prover.specs.Columns.{copiedAt, ratioAt, partAt, stepAt, runningAt, zAtPlace}
 use Rattle.calls.specs.Meaning.{cellValue}
 use Rattle.calls.specs.Papers.{Permutes, Keeps, plonkZ, IsPlonkZ, Closes}
-use Rattle.completeness.proofs.CellNumbers.{Placed, same-polynomial, same-row, source-placed, source-agree}
-use Rattle.completeness.proofs.CycleNumbers.{cycles-placed, cycles-good, copied-good, value-at}
+use Rattle.completeness.proofs.CellNumbers.{Placed, same-true, source-agree}
+use Rattle.completeness.proofs.CycleNumbers.{cycles-good, copied-good, value-at}
 use Rattle.completeness.proofs.DemandThreeOf.{eleven-yes, k-positive, k-below-21}
 use Rattle.completeness.proofs.Cuts.{partSize, size-pos, z-pos, covers, parts-of-z, none-z}
 use Rattle.completeness.proofs.PermutationZero.{φ, Cs, A, B, factor-agree, running-agree}
-
-same-cell : (x y : Cell) → x .polynomial ≡ y .polynomial → x .row ≡ y .row → x ≡ y
-same-cell x y p r = ap₂ (λ (q b : ℕ). record { polynomial = q; row = b }) p r
-
-cell-same : (x y : Cell) → sameCell x y ≡ true → x ≡ y
-cell-same x y e =
-    let s : Bool = eqb (x .polynomial) (y .polynomial) in
-    let t : Bool = eqb (x .row) (y .row) in
-    same-cell x y (eqb-true (x .polynomial) (y .polynomial) (and-left s t e)) (eqb-true (x .row) (y .row) (and-right s t e))
 
 module _ (c : Circuit) where
   placed? : (x : Cell) → Dec (Placed c x)
@@ -62,7 +55,7 @@ module _ (c : Circuit) where
   from-out : (p : Cell) (ys : List Cell) (x : Cell) → All (Placed c) ys → ¬ Placed c x → beforeFrom p ys x ≡ x
   unfolding beforeFrom
   from-out p [] x a n = refl
-  from-out p (y ∷ ys) x a n = by-test (sameCell x y) (λ e. absurd (n (subst (Placed c) (sym (cell-same x y e)) (a .0)))) (λ e. ap (λ (t : Bool). cond t p (beforeFrom y ys x)) e ∙ from-out y ys x (a .1) n)
+  from-out p (y ∷ ys) x a n = by-test (sameCell x y) (λ e. absurd (n (subst (Placed c) (sym (same-cell x y e)) (a .0)))) (λ e. ap (λ (t : Bool). cond t p (beforeFrom y ys x)) e ∙ from-out y ys x (a .1) n)
 
   before-out : (ys : List Cell) (x : Cell) → All (Placed c) ys → ¬ Placed c x → before ys x ≡ x
   unfolding before
@@ -78,7 +71,7 @@ module _ (c : Circuit) where
   source-apart e x y h = go (placed? x) (placed? y)
     where
       a : All (All (Placed c)) (c .cycles)
-      a = cycles-placed c e
+      a = cells-placed c e
 
       Cs : List (List ℕ)
       Cs = map (map (firstLabel c)) (c .cycles)
@@ -88,9 +81,9 @@ module _ (c : Circuit) where
           let n : firstLabel c x ≡ firstLabel c y =
           labels-good (numCopied c) (rowsOf c) Cs (cycles-good c e) .apart (firstLabel c x) (firstLabel c y)
           (sym (source-agree c (c .cycles) x a p) ∙ ap (firstLabel c) h ∙ source-agree c (c .cycles) y a q) in
-          same-cell x y (same-polynomial c x y p q n) (same-row c x y p q n)
-      go (yes p) (no q) = absurd (q (subst (Placed c) (h ∙ source-out (c .cycles) y a q) (source-placed c (c .cycles) x a p)))
-      go (no p) (yes q) = absurd (p (subst (Placed c) (sym h ∙ source-out (c .cycles) x a p) (source-placed c (c .cycles) y a q)))
+          same-cell x y (same-true c x y p q n)
+      go (yes p) (no q) = absurd (q (subst (Placed c) (h ∙ source-out (c .cycles) y a q) (source-all (Placed c) (c .cycles) x a p)))
+      go (no p) (yes q) = absurd (p (subst (Placed c) (sym h ∙ source-out (c .cycles) x a p) (source-all (Placed c) (c .cycles) y a q)))
       go (no p) (no q) = sym (source-out (c .cycles) x a p) ∙ h ∙ source-out (c .cycles) y a q
 
 module _ (𝓕 : Field) (g : Log 𝓕) where
@@ -101,7 +94,7 @@ module _ (𝓕 : Field) (g : Log 𝓕) where
   keeps ad p x = go (placed? (g .circuit) x)
     where
       a : All (All (Placed (g .circuit))) (g .circuit .cycles)
-      a = cycles-placed (g .circuit) (eleven-yes 𝓕 g ad)
+      a = cells-placed (g .circuit) (eleven-yes 𝓕 g ad)
 
       Cs : List (List ℕ)
       Cs = map (map (firstLabel (g .circuit))) (g .circuit .cycles)
@@ -111,7 +104,7 @@ module _ (𝓕 : Field) (g : Log 𝓕) where
 
       go : Dec (Placed (g .circuit) x) → cellValue 𝓕 g (source (g .circuit .cycles) x) ≡ cellValue 𝓕 g x
       go (yes h) =
-          sym (value-at 𝓕 g (source (g .circuit .cycles) x) (source-placed (g .circuit) (g .circuit .cycles) x a h))
+          sym (value-at 𝓕 g (source (g .circuit .cycles) x) (source-all (Placed (g .circuit)) (g .circuit .cycles) x a h))
           ∙ ap v (source-agree (g .circuit) (g .circuit .cycles) x a h)
           ∙ good-labels (numCopied (g .circuit)) (rowsOf (g .circuit)) v Cs (cycles-good (g .circuit) (eleven-yes 𝓕 g ad)) (copied-good 𝓕 g (eleven-yes 𝓕 g ad) p) .same (firstLabel (g .circuit) x)
           ∙ value-at 𝓕 g x h
@@ -133,8 +126,8 @@ module _ (𝓕 : Field) where
     step-at : (s j : ℕ) → j < numZ (g .circuit) → stepAt 𝓕 g (s * numZ (g .circuit) + j) ≡ partAt 𝓕 g (getD (zCut (g .circuit)) j []) (rowAt (g .circuit .k) (suc s))
     unfolding stepAt
     step-at s j l =
-        ap₂ (λ (x y : ℕ). partAt 𝓕 g (getD (zCut (g .circuit)) x []) (rowAt (g .circuit .k) (suc y))) (mul-add-mod-self-right s (numZ (g .circuit)) j ∙ mod-eq-of-lt l)
-        (mul-add-div-right {m = numZ (g .circuit)} (omega arith) s j ∙ ap (λ (x : ℕ). s + x) (div-eq-of-lt l) ∙ add-zero s)
+        ap₂ (λ (x y : ℕ). partAt 𝓕 g (getD (zCut (g .circuit)) x []) (rowAt (g .circuit .k) (suc y))) (mod-row s (numZ (g .circuit)) j l)
+        (div-row s (numZ (g .circuit)) j l)
 
     steps-at : (s i : ℕ) → i ≤ numZ (g .circuit)
         → upTo mul one (λ j. stepAt 𝓕 g (s * numZ (g .circuit) + j)) i

@@ -3,12 +3,12 @@ use mathlib.Core.Path.{_≡_, sym, ap, ap₂, _∙_, subst, refl}
 use mathlib.Core.List.{List, [], _∷_, _++_}
 use Prim.Native.Nat.{ℕ, zero, _+_, _*_, _<_}
 use native.Mathlib.Omega.{arith}
-use lib.ListN.{length, getD, length-append, length-map}
+use lib.ListN.{length, getD}
 use Rattle.field.specs.Algebra.{Field}
 use Rattle.bh.specs.Rows.{rotated, iter}
 use Rattle.util.specs.Lists.{below, All}
-use Rattle.util.proofs.Lists.{get-left, get-past, get-map, split-length}
-use Rattle.util.proofs.Columns.{column-length, below-length, below-get}
+use Rattle.util.proofs.Lists.{get-left, get-past, get-map}
+use Rattle.util.proofs.Columns.{below-length, below-get}
 use Rattle.util.proofs.All.{all-get, all-column, all-those, all-mapped, map-same}
 use Rattle.expression.specs.Expr.{Expr, evaluate, distributePowers}
 use Rattle.expression.specs.Value.{polyOf, valueOps, valueAt}
@@ -31,30 +31,8 @@ use Rattle.backend.specs.Circuit.{
 use Rattle.backend.specs.Constraints.{betaOf, inputsOf, tablesOf}
 use Rattle.preprocessor.specs.Compose.{numZ, identityFactor, permutationFactor}
 use Rattle.prover.specs.Log.{Log}
-use Rattle.prover.specs.Columns.{
-  powerSum,
-  instancePolys,
-  preprocessPolys,
-  witnessPolys,
-  givenPolys,
-  userEnvironment,
-  compressedAt,
-  inputAt,
-  tableAt,
-  mAt,
-  lookupHAt,
-  permutationAt,
-  copiedAt,
-  identityFactorAt,
-  permutationFactorAt,
-  zAt,
-  permutationPolys,
-  mPolys,
-  hPolys,
-  zPolys,
-  allPolys,
-  composedEnvironment,
-}
+use Rattle.prover.specs.Columns.{powerSum, givenPolys, userEnvironment, compressedAt, inputAt, tableAt, mAt, lookupHAt, permutationAt, copiedAt, identityFactorAt, permutationFactorAt, zAt, permutationPolys, mPolys, hPolys, zPolys, allPolys, composedEnvironment}
+use Rattle.prover.proofs.Lengths.{given-length, permutations-length, m-length, h-length}
 use Rattle.calls.proofs.Embeds.{embeds-add}
 use Rattle.calls.specs.Meaning.{Admitted}
 use Rattle.calls.specs.Composed.{inputIn, tableIn, ReadAs}
@@ -74,33 +52,17 @@ module _ (𝓕 : Field) where
     abbrev c : Circuit
     c = g .circuit
 
-    pub given-length : length (givenPolys 𝓕 g) ≡ numPoly (g .circuit)
-    unfolding givenPolys instancePolys preprocessPolys witnessPolys numPoly
-    given-length = simp (length-append, length-map, column-length, split-length) (omega arith)
-
-    pub perm-length : length (permutationPolys 𝓕 g) ≡ numCopied (g .circuit)
-    unfolding permutationPolys
-    perm-length = simp (length-map, column-length)
-
-    pub m-length : length (mPolys 𝓕 g) ≡ numLookups (g .circuit)
-    unfolding mPolys
-    m-length = simp length-map
-
-    pub h-length : length (hPolys 𝓕 g) ≡ numLookups (g .circuit)
-    unfolding hPolys
-    h-length = simp length-map
-
     -- ---- the places of the polynomials
     pub poly-given : (q b : ℕ) → q < numPoly (g .circuit) → polyOf 𝓕 (allPolys 𝓕 g) q b ≡ polyOf 𝓕 (givenPolys 𝓕 g) q b
     unfolding allPolys
-    poly-given q b l = ap (λ (p : ℕ → F). p b) (get-left (givenPolys 𝓕 g) _ q (λ r. nil) (let e = given-length in omega arith))
+    poly-given q b l = ap (λ (p : ℕ → F). p b) (get-left (givenPolys 𝓕 g) _ q (λ r. nil) (let e = given-length 𝓕 g in omega arith))
 
     pub poly-permutation : (i b : ℕ) → i < numCopied (g .circuit) → polyOf 𝓕 (allPolys 𝓕 g) (permNumber (g .circuit) i) b ≡ permutationAt 𝓕 g i b
     unfolding allPolys permutationPolys
     poly-permutation i b l =
         ap (λ (p : ℕ → F). p b)
-        (get-past (givenPolys 𝓕 g) _ (permNumber (g .circuit) i) i (λ r. nil) (let e = given-length in omega arith)
-        ∙ get-left (permutationPolys 𝓕 g) _ i (λ r. nil) (let e = perm-length in omega arith)
+        (get-past (givenPolys 𝓕 g) _ (permNumber (g .circuit) i) i (λ r. nil) (let e = given-length 𝓕 g in omega arith)
+        ∙ get-left (permutationPolys 𝓕 g) _ i (λ r. nil) (let e = permutations-length 𝓕 g in omega arith)
         ∙ get-map (permutationAt 𝓕 g) (below (numCopied (g .circuit))) i 0 (λ r. nil) (let e = below-length (numCopied (g .circuit)) in omega arith)
         ∙ ap (permutationAt 𝓕 g) (below-get (numCopied (g .circuit)) i 0 l))
 
@@ -108,19 +70,19 @@ module _ (𝓕 : Field) where
     unfolding allPolys mPolys
     poly-m j b l =
         ap (λ (p : ℕ → F). p b)
-        (get-past (givenPolys 𝓕 g) _ (mNumber (g .circuit) j) (numCopied (g .circuit) + j) (λ r. nil) (let e = given-length in omega arith)
-        ∙ get-past (permutationPolys 𝓕 g) _ (numCopied (g .circuit) + j) j (λ r. nil) (let e = perm-length in omega arith)
-        ∙ get-left (mPolys 𝓕 g) _ j (λ r. nil) (let e = m-length in omega arith)
+        (get-past (givenPolys 𝓕 g) _ (mNumber (g .circuit) j) (numCopied (g .circuit) + j) (λ r. nil) (let e = given-length 𝓕 g in omega arith)
+        ∙ get-past (permutationPolys 𝓕 g) _ (numCopied (g .circuit) + j) j (λ r. nil) (let e = permutations-length 𝓕 g in omega arith)
+        ∙ get-left (mPolys 𝓕 g) _ j (λ r. nil) (let e = m-length 𝓕 g in omega arith)
         ∙ get-map (mAt 𝓕 g) (g .circuit .lookups) j [] (λ r. nil) l)
 
     pub poly-h : (j b : ℕ) → j < numLookups (g .circuit) → polyOf 𝓕 (allPolys 𝓕 g) (hNumber (g .circuit) j) b ≡ lookupHAt 𝓕 g (getD (g .circuit .lookups) j []) b
     unfolding allPolys hPolys
     poly-h j b l =
         ap (λ (p : ℕ → F). p b)
-        (get-past (givenPolys 𝓕 g) _ (hNumber (g .circuit) j) (numCopied (g .circuit) + (numLookups (g .circuit) + j)) (λ r. nil) (let e = given-length in omega arith)
-        ∙ get-past (permutationPolys 𝓕 g) _ (numCopied (g .circuit) + (numLookups (g .circuit) + j)) (numLookups (g .circuit) + j) (λ r. nil) (let e = perm-length in omega arith)
-        ∙ get-past (mPolys 𝓕 g) _ (numLookups (g .circuit) + j) j (λ r. nil) (let e = m-length in omega arith)
-        ∙ get-left (hPolys 𝓕 g) _ j (λ r. nil) (let e = h-length in omega arith)
+        (get-past (givenPolys 𝓕 g) _ (hNumber (g .circuit) j) (numCopied (g .circuit) + (numLookups (g .circuit) + j)) (λ r. nil) (let e = given-length 𝓕 g in omega arith)
+        ∙ get-past (permutationPolys 𝓕 g) _ (numCopied (g .circuit) + (numLookups (g .circuit) + j)) (numLookups (g .circuit) + j) (λ r. nil) (let e = permutations-length 𝓕 g in omega arith)
+        ∙ get-past (mPolys 𝓕 g) _ (numLookups (g .circuit) + j) j (λ r. nil) (let e = m-length 𝓕 g in omega arith)
+        ∙ get-left (hPolys 𝓕 g) _ j (λ r. nil) (let e = h-length 𝓕 g in omega arith)
         ∙ get-map (lookupHAt 𝓕 g) (g .circuit .lookups) j [] (λ r. nil) l)
 
     pub poly-z : (i b : ℕ) → i < numZ (g .circuit) → polyOf 𝓕 (allPolys 𝓕 g) (zNumber (g .circuit) i) b ≡ zAt 𝓕 g i b
@@ -128,10 +90,10 @@ module _ (𝓕 : Field) where
     poly-z i b l =
         let L : ℕ = numLookups (g .circuit) in
         ap (λ (p : ℕ → F). p b)
-        (get-past (givenPolys 𝓕 g) _ (zNumber (g .circuit) i) (numCopied (g .circuit) + (L + (L + i))) (λ r. nil) (let e = given-length in omega arith)
-        ∙ get-past (permutationPolys 𝓕 g) _ (numCopied (g .circuit) + (L + (L + i))) (L + (L + i)) (λ r. nil) (let e = perm-length in omega arith)
-        ∙ get-past (mPolys 𝓕 g) _ (L + (L + i)) (L + i) (λ r. nil) (let e = m-length in omega arith)
-        ∙ get-past (hPolys 𝓕 g) _ (L + i) i (λ r. nil) (let e = h-length in omega arith)
+        (get-past (givenPolys 𝓕 g) _ (zNumber (g .circuit) i) (numCopied (g .circuit) + (L + (L + i))) (λ r. nil) (let e = given-length 𝓕 g in omega arith)
+        ∙ get-past (permutationPolys 𝓕 g) _ (numCopied (g .circuit) + (L + (L + i))) (L + (L + i)) (λ r. nil) (let e = permutations-length 𝓕 g in omega arith)
+        ∙ get-past (mPolys 𝓕 g) _ (L + (L + i)) (L + i) (λ r. nil) (let e = m-length 𝓕 g in omega arith)
+        ∙ get-past (hPolys 𝓕 g) _ (L + i) i (λ r. nil) (let e = h-length 𝓕 g in omega arith)
         ∙ get-map (zAt 𝓕 g) (below (numZ (g .circuit))) i 0 (λ r. nil) (let e = below-length (numZ (g .circuit)) in omega arith)
         ∙ ap (zAt 𝓕 g) (below-get (numZ (g .circuit)) i 0 l))
 
@@ -149,9 +111,6 @@ module _ (𝓕 : Field) where
 
       pub gamma-value : getD challenges (numUser (g .circuit) + 1) nil ≡ g .γ
       gamma-value = get-past (g .user) _ (numUser (g .circuit) + 1) 1 nil (let e = ad .user-all in omega arith)
-
-      pub alpha-value : getD challenges (numUser (g .circuit) + 2) nil ≡ α
-      alpha-value = get-past (g .user) _ (numUser (g .circuit) + 2) 2 nil (let e = ad .user-all in omega arith)
 
       module _ (y : ℕ → F) where
         -- ---- user expressions

@@ -1,69 +1,27 @@
 -- The row sum reads from the words what building wrote: its environment agrees on every row with that of the log. Assumes nothing.
-use mathlib.Core.Path.{_≡_, sym, ap, ap₂, _∙_, subst}
+use mathlib.Core.Path.{_≡_, refl, sym, ap, ap₂, _∙_, subst}
 use mathlib.Core.List.{List, [], _∷_, _++_, map, append-assoc, map-append}
 use Prim.Native.Nat.{ℕ, zero, suc, _+_, _*_, _^_, _<_}
-use native.Mathlib.Nat.{suc-mul, zero-mul, zero-add, not-suc-le-zero}
 use native.Mathlib.Omega.{arith}
-use lib.ListN.{length, getD, take, length-append, length-map, drop-of-length-le}
+use lib.ListN.{length, getD, take, length-append, drop-of-length-le}
 use lib.Seq.{split-at, drop-cons}
-use Rattle.field.specs.Field.{𝔾, el, val, el-val}
-use Rattle.util.specs.Lists.{column, concat}
-use Rattle.util.proofs.Lists.{get-left, get-past, split-length, pairs-length}
-use Rattle.util.proofs.Columns.{get-column, column-length}
+use Rattle.field.specs.Field.{𝔾, el, el-val}
+use Rattle.util.specs.Lists.{column}
+use Rattle.util.proofs.Lists.{get-left, get-past}
 use Rattle.expression.specs.Expr.{Expr}
 use Rattle.expression.specs.Value.{polyOf, valueAt}
+use Rattle.expression.proofs.SameRows.{Same, same-refl, same-append, same-column, same-at, values-agree}
 use Rattle.backend.specs.Circuit.{circuitOf, rowsOf, numInstance, numUser, numCopied, numLookups}
 use Rattle.multilinear.specs.EqXY.{eqAt}
 use Rattle.preprocessor.specs.Compose.{numZ}
 use Rattle.prover.specs.Log.{Log}
-use Rattle.prover.specs.Columns.{
-  inputAt,
-  tableAt,
-  instancePolys,
-  preprocessPolys,
-  witnessPolys,
-  givenPolys,
-  permutationPolys,
-  compressedPolys,
-  mPolys,
-  hPolys,
-  zPolys,
-  allPolys,
-  writtenPolys,
-  composedEnvironment,
-}
+use Rattle.prover.specs.Columns.{instancePolys, preprocessPolys, witnessPolys, givenPolys, permutationPolys, compressedPolys, mPolys, hPolys, zPolys, allPolys, writtenPolys, composedEnvironment}
+use Rattle.prover.proofs.Words.{words-get}
+use Rattle.prover.proofs.Lengths.{instances-length, permutations-length, compressed-length, m-length, h-length, z-length, written-length}
 use Rattle.calls.specs.Build.{logOf, wordsOf}
 use Rattle.calls.specs.RowSum.{lentColumn, lentPolys, lentEnvironment}
-use Rattle.completeness.proofs.ReadColumns.{perm-length, m-length, h-length}
-use Rattle.completeness.proofs.SameRows.{Same, same-refl, same-append, same-column, row-value}
-
--- ---- columns as words
-pub words-at : (rows : ℕ) (ps : List (ℕ → 𝔾 .F)) (i b : ℕ) → i < length ps → b < rows
-    → getD (wordsOf rows ps) (i * rows + b) 0 ≡ val (polyOf 𝔾 ps i b)
-unfolding wordsOf concat
-words-at rows [] i b l m = absurd (not-suc-le-zero l)
-words-at rows (p ∷ ps) zero b l m =
-    ap (λ (n : ℕ). getD (column (λ b. val (p b)) rows ++ wordsOf rows ps) n 0) (ap (λ (n : ℕ). n + b) (zero-mul rows) ∙ zero-add b)
-    ∙ get-left (column (λ b. val (p b)) rows) (wordsOf rows ps) b 0 (let q = column-length (λ b. val (p b)) rows in omega arith)
-    ∙ get-column (λ b. val (p b)) rows b 0 m
-words-at rows (p ∷ ps) (suc i) b l m =
-    get-past (column (λ b. val (p b)) rows) (wordsOf rows ps) (suc i * rows + b) (i * rows + b) 0
-    (let q = column-length (λ b. val (p b)) rows in let w = suc-mul i rows in omega arith)
-    ∙ words-at rows ps i b (omega arith) m
 
 module _ (g : Log 𝔾) where
-  instance-length : length (instancePolys 𝔾 g) ≡ numInstance (g .circuit)
-  unfolding instancePolys
-  instance-length = simp (length-map, split-length)
-
-  compressed-length : length (compressedPolys 𝔾 g) ≡ numLookups (g .circuit) * 2
-  unfolding compressedPolys
-  compressed-length = pairs-length (inputAt 𝔾 g) (tableAt 𝔾 g) (g .circuit .lookups)
-
-  z-length : length (zPolys 𝔾 g) ≡ numZ (g .circuit)
-  unfolding zPolys
-  z-length = simp (length-map, column-length)
-
   abbrev rest : List (ℕ → 𝔾 .F)
   rest = mPolys 𝔾 g ++ (hPolys 𝔾 g ++ zPolys 𝔾 g)
 
@@ -73,43 +31,34 @@ module _ (g : Log 𝔾) where
       ∙ (let a = length-append (hPolys 𝔾 g) (zPolys 𝔾 g) in
       let b = m-length 𝔾 g in
       let c = h-length 𝔾 g in
-      let d = z-length in
+      let d = z-length 𝔾 g in
       omega arith)
-
-  written-length : length (writtenPolys 𝔾 g)
-      ≡ numInstance (g .circuit) + (numCopied (g .circuit) + (numLookups (g .circuit) * 2 + (numLookups (g .circuit) * 2 + numZ (g .circuit))))
-  unfolding writtenPolys
-  written-length =
-      length-append (instancePolys 𝔾 g) _
-      ∙ ap₂ _+_ instance-length
-      (length-append (permutationPolys 𝔾 g) _
-      ∙ ap₂ _+_ (perm-length 𝔾 g) (length-append (compressedPolys 𝔾 g) _ ∙ ap₂ _+_ compressed-length rest-length))
 
   abbrev columns : List ℕ
   columns = wordsOf (rowsOf (g .circuit)) (writtenPolys 𝔾 g)
 
   -- column i of the words
   lent-at : (i b : ℕ) → i < length (writtenPolys 𝔾 g) → b < rowsOf (g .circuit) → lentColumn (g .circuit) columns i b ≡ polyOf 𝔾 (writtenPolys 𝔾 g) i b
-  lent-at i b l m = ap el (words-at (rowsOf (g .circuit)) (writtenPolys 𝔾 g) i b l m) ∙ el-val (polyOf 𝔾 (writtenPolys 𝔾 g) i b)
+  lent-at i b l m = ap el (words-get (rowsOf (g .circuit)) (writtenPolys 𝔾 g) i b l m) ∙ el-val (polyOf 𝔾 (writtenPolys 𝔾 g) i b)
 
   same-instances : Same 𝔾 (rowsOf (g .circuit)) (column (lentColumn (g .circuit) columns) (numInstance (g .circuit))) (instancePolys 𝔾 g)
   unfolding writtenPolys
   same-instances =
-      same-column 𝔾 (rowsOf (g .circuit)) (lentColumn (g .circuit) columns) (numInstance (g .circuit)) (instancePolys 𝔾 g) (sym instance-length)
+      same-column 𝔾 (rowsOf (g .circuit)) (lentColumn (g .circuit) columns) (numInstance (g .circuit)) (instancePolys 𝔾 g) (sym (instances-length 𝔾 g))
       (λ i l b m.
-      lent-at i b (let w = written-length in omega arith) m
-      ∙ ap (λ (p : ℕ → 𝔾 .F). p b) (get-left (instancePolys 𝔾 g) _ i (λ r. 𝔾 .zero) (let q = instance-length in omega arith)))
+      lent-at i b (let w = written-length 𝔾 g in omega arith) m
+      ∙ ap (λ (p : ℕ → 𝔾 .F). p b) (get-left (instancePolys 𝔾 g) _ i (λ r. 𝔾 .zero) (let q = instances-length 𝔾 g in omega arith)))
 
   same-permutations : Same 𝔾 (rowsOf (g .circuit)) (column (λ i. lentColumn (g .circuit) columns (numInstance (g .circuit) + i)) (numCopied (g .circuit))) (permutationPolys 𝔾 g)
   unfolding writtenPolys
   same-permutations =
       same-column 𝔾 (rowsOf (g .circuit)) (λ i. lentColumn (g .circuit) columns (numInstance (g .circuit) + i)) (numCopied (g .circuit)) (permutationPolys 𝔾 g)
-      (sym (perm-length 𝔾 g))
+      (sym (permutations-length 𝔾 g))
       (λ i l b m.
-      lent-at (numInstance (g .circuit) + i) b (let w = written-length in omega arith) m
+      lent-at (numInstance (g .circuit) + i) b (let w = written-length 𝔾 g in omega arith) m
       ∙ ap (λ (p : ℕ → 𝔾 .F). p b)
-      (get-past (instancePolys 𝔾 g) _ (numInstance (g .circuit) + i) i (λ r. 𝔾 .zero) (let q = instance-length in omega arith)
-      ∙ get-left (permutationPolys 𝔾 g) _ i (λ r. 𝔾 .zero) (let q = perm-length 𝔾 g in omega arith)))
+      (get-past (instancePolys 𝔾 g) _ (numInstance (g .circuit) + i) i (λ r. 𝔾 .zero) (let q = instances-length 𝔾 g in omega arith)
+      ∙ get-left (permutationPolys 𝔾 g) _ i (λ r. 𝔾 .zero) (let q = permutations-length 𝔾 g in omega arith)))
 
   same-rest : Same 𝔾 (rowsOf (g .circuit))
       (column (λ i. lentColumn (g .circuit) columns (numInstance (g .circuit) + numCopied (g .circuit) + numLookups (g .circuit) * 2 + i))
@@ -123,15 +72,15 @@ module _ (g : Log 𝔾) where
       rest
       (sym rest-length)
       (λ i l b m.
-      lent-at (numInstance (g .circuit) + numCopied (g .circuit) + numLookups (g .circuit) * 2 + i) b (let w = written-length in omega arith) m
+      lent-at (numInstance (g .circuit) + numCopied (g .circuit) + numLookups (g .circuit) * 2 + i) b (let w = written-length 𝔾 g in omega arith) m
       ∙ ap (λ (p : ℕ → 𝔾 .F). p b)
       (get-past (instancePolys 𝔾 g) _ (numInstance (g .circuit) + numCopied (g .circuit) + numLookups (g .circuit) * 2 + i)
       (numCopied (g .circuit) + (numLookups (g .circuit) * 2 + i))
       (λ r. 𝔾 .zero)
-      (let q = instance-length in omega arith)
+      (let q = instances-length 𝔾 g in omega arith)
       ∙ get-past (permutationPolys 𝔾 g) _ (numCopied (g .circuit) + (numLookups (g .circuit) * 2 + i)) (numLookups (g .circuit) * 2 + i) (λ r. 𝔾 .zero)
-      (let q = perm-length 𝔾 g in omega arith)
-      ∙ get-past (compressedPolys 𝔾 g) _ (numLookups (g .circuit) * 2 + i) i (λ r. 𝔾 .zero) (let q = compressed-length in omega arith)))
+      (let q = permutations-length 𝔾 g in omega arith)
+      ∙ get-past (compressedPolys 𝔾 g) _ (numLookups (g .circuit) * 2 + i) i (λ r. 𝔾 .zero) (let q = compressed-length 𝔾 g in omega arith)))
 
   all-grouped : allPolys 𝔾 g ≡ instancePolys 𝔾 g ++ (preprocessPolys 𝔾 g ++ (witnessPolys 𝔾 g ++ (permutationPolys 𝔾 g ++ rest)))
   unfolding allPolys givenPolys
@@ -183,8 +132,14 @@ module _ (ws instances witness challenges : List ℕ) where
       ≡ valueAt 𝔾 (composedEnvironment 𝔾 log (el α) (λ i. el (getD y i 0))) e b
   unfolding logOf lentEnvironment composedEnvironment
   lent-value h s α y e b l =
-      row-value 𝔾 (circuitOf ws .k) s el (lentPolys ws witness lent) (allPolys 𝔾 log) (map el (challenges ++ (α ∷ []))) (eqAt 𝔾 (circuitOf ws .k) (λ i. el (getD y i 0)))
-      same-polys
+      values-agree 𝔾 (lentEnvironment ws witness lent (challenges ++ (α ∷ [])) y)
+      (record { k = circuitOf ws .k; el = el; polys = allPolys 𝔾 log; challenges = map el (challenges ++ (α ∷ [])); eq = eqAt 𝔾 (circuitOf ws .k) (λ i. el (getD y i 0)) })
+      refl
+      refl
+      refl
+      refl
+      s
+      (same-at 𝔾 (2 ^ circuitOf ws .k) (lentPolys ws witness lent) (allPolys 𝔾 log) same-polys)
       e
       b
       l

@@ -24,7 +24,7 @@ use Rattle.prover.specs.Columns.{preprocessPolys, witnessPolys}
 use Rattle.prover.proofs.Lent.{preprocess-word}
 use Rattle.calls.specs.Build.{logOf}
 use Rattle.calls.specs.RowSum.{lentPolys, lentEnvironment}
-use Rattle.completeness.proofs.SameRows.{Same, same-refl, same-append, same-column, same-at}
+use Rattle.expression.proofs.SameRows.{Same, same-refl, same-append, same-column, same-at}
 use Rattle.prepare.specs.Prepared.{Accepted}
 use Rattle.prepare.proofs.Accepted.{instances-entries}
 use Rattle.row_sum.specs.Sum.{sumLayout}
