@@ -18,9 +18,10 @@ ghost use Rattle.expression.specs.Nodes.{exprOf};
 ghost use Rattle.expression.specs.Value.{valueAt};
 ghost use Rattle.expression.specs.Reader.{Small};
 ghost use Rattle.expression.specs.Point.{Placed, environmentOf};
+ghost use Rattle.backend.specs.Circuit.{pairsOf};
 ghost use Rattle.backend.specs.Constraints.{inputsOf, tablesOf};
 ghost use Rattle.prover.specs.Words.{wordsOf};
-ghost use Rattle.prover.specs.Lent.{Behind, lentEnvironment, compressedIn, compressedPolysIn, rootsOf, pairsOf};
+ghost use Rattle.prover.specs.Lent.{Behind, lentEnvironment, compressedIn, compressedPolysIn, rootsOf};
 
 // The value of the expression at a root, 0 where there is no such node.
 fn value_of_root(

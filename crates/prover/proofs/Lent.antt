@@ -18,14 +18,14 @@ use Rattle.expression.specs.Point.{environmentOf}
 use Rattle.expression.specs.declared.poly.Layout.{Layout}
 use Rattle.expression.specs.declared.value.Point.{Point}
 use Rattle.expression.proofs.SameRows.{Same, same-refl, same-append, same-column, same-at, values-agree}
-use Rattle.backend.specs.Circuit.{Pair, pairAt, Section, circuitOf, wordK, bodyOf, entries, startOf, rowsOf, numInstance, numPreprocess, numWitness}
+use Rattle.backend.specs.Circuit.{Pair, pairAt, pairsOf, Section, circuitOf, wordK, bodyOf, entries, startOf, rowsOf, numInstance, numPreprocess, numWitness}
 use Rattle.backend.specs.Constraints.{inputsOf, tablesOf}
 use Rattle.prover.specs.Log.{Log}
 use Rattle.prover.specs.Columns.{powerSum, instancePolys, preprocessPolys, witnessPolys, givenPolys, userEnvironment, compressedAt, inputAt, tableAt, compressedPolys}
 use Rattle.prover.specs.Words.{wordsOf}
 use Rattle.prover.proofs.Words.{words-get}
 use Rattle.prover.proofs.Lengths.{instances-length}
-use Rattle.prover.specs.Lent.{Given, pairsOf, lentEnvironment, compressedIn, compressedPolysIn}
+use Rattle.prover.specs.Lent.{Given, lentEnvironment, compressedIn, compressedPolysIn}
 
 -- ---- of the column buffer the instance columns alone are read
 
@@ -257,7 +257,7 @@ module _ (g : Log 𝔾) (l : Layout) (circuit witness columns challenges : List 
 -- the lookups of a circuit, from its sections
 pub lookups-are : (ws : List ℕ) → length (bodyOf ws Section.pairs) ≡ entries ws Section.pairs * 2
     → split (bodyOf ws Section.widths) (pairsOf (bodyOf ws Section.nodes) (bodyOf ws Section.pairs)) ≡ circuitOf ws .lookups
-unfolding circuitOf pairsOf
+unfolding circuitOf
 lookups-are ws e =
     ap (λ (n : ℕ). split (bodyOf ws Section.widths) (column (pairAt (bodyOf ws Section.nodes) (bodyOf ws Section.pairs)) n))
     (omega arith)

@@ -25,11 +25,11 @@ use Rattle.expression.specs.Value.{Environment, valueOps, valueAt}
 use Rattle.expression.specs.Point.{environmentOf}
 use Rattle.expression.specs.declared.poly.Layout.{Layout}
 use Rattle.expression.proofs.Fuel.{expr-step}
-use Rattle.backend.specs.Circuit.{Pair, pairAt}
+use Rattle.backend.specs.Circuit.{Pair, pairAt, pairsOf}
 use Rattle.backend.specs.Constraints.{inputsOf, tablesOf}
 use Rattle.prover.specs.Columns.{powerSum}
 use Rattle.prover.specs.Words.{wordsOf}
-use Rattle.prover.specs.Lent.{Given, pairsOf, rootsOf, compressedIn, compressedPolysIn, lentEnvironment}
+use Rattle.prover.specs.Lent.{Given, rootsOf, compressedIn, compressedPolysIn, lentEnvironment}
 use Rattle.prover.specs.declared.Roots.{Roots}
 use Rattle.prover.proofs.Words.{words-none, words-length, words-append}
 use Rattle.prover.proofs.Lent.{lent-point, lent-same, compressed-same, compressed-column}
@@ -115,7 +115,6 @@ module _ (nodes pairs : List ℕ) (start width : ℕ) (fit : (start + width) * 2
   one = take width (drop start (pairsOf nodes pairs))
 
   pairs-there : one ≡ column (λ i. pairAt nodes pairs (start + i)) width
-  unfolding pairsOf
   pairs-there =
       let n : ℕ = length pairs / 2 in
       let all : List Pair = column (pairAt nodes pairs) n in

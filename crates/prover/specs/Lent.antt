@@ -1,7 +1,7 @@
 -- User expressions and lookups over the words that are lent. Assumes nothing.
 use mathlib.Core.Path.{_≡_}
 use mathlib.Core.List.{List, [], _∷_, map}
-use Prim.Native.Nat.{ℕ, _+_, _*_, _/_, _%_, _^_, _≤_, _<_}
+use Prim.Native.Nat.{ℕ, _+_, _*_, _%_, _^_, _≤_, _<_}
 use lib.ListN.{length, getD}
 use Rattle.field.specs.Algebra.{Field}
 use Rattle.field.specs.Field.{𝔾, el}
@@ -11,7 +11,7 @@ use Rattle.expression.specs.Nodes.{exprOf}
 use Rattle.expression.specs.Value.{Environment, polyOf, valueAt}
 use Rattle.expression.specs.Reader.{polysOf, Small}
 use Rattle.expression.specs.declared.poly.Layout.{Layout}
-use Rattle.backend.specs.Circuit.{Pair, pairAt}
+use Rattle.backend.specs.Circuit.{Pair}
 use Rattle.backend.specs.Constraints.{inputsOf, tablesOf}
 use Rattle.prover.specs.Running.{factorOf}
 use Rattle.prover.specs.Columns.{powerSum}
@@ -44,11 +44,7 @@ lentEnvironment circuit witness columns challenges l k =
       eq = λ b. 𝔾 .zero;
     }
 
--- "lookup pairs (input root, table root)"
-unfoldable pub pairsOf : List ℕ → List ℕ → List Pair
-pairsOf nodes pairs = column (pairAt nodes pairs) (length pairs / 2)
-
--- the expressions of some of their roots
+-- the expressions of some roots of lookup pairs
 unfoldable pub rootsOf : List ℕ → List ℕ → Roots → List Expr
 rootsOf nodes pairs r =
     column (λ i. exprOf nodes (getD pairs ((r .start + i) * 2 + r .side) 0)) (r .width)

@@ -11,6 +11,7 @@ use Rattle.util.specs.Lists.{below, column, concat, over, split, total}
 use Rattle.util.proofs.Columns.{column-cong, map-column}
 use Rattle.expression.specs.declared.poly.Layout.{Layout}
 use Rattle.backend.specs.Circuit.{
+  pairsOf,
   Section,
   wordK,
   bodyOf,
@@ -31,7 +32,7 @@ use Rattle.preprocessor.proofs.Copied.{label-lt, label-columns}
 use Rattle.prover.specs.Columns.{instanceAt}
 use Rattle.prover.specs.Running.{zOf}
 use Rattle.prover.specs.Words.{wordsOf}
-use Rattle.prover.specs.Lent.{Given, Behind, pairsOf, lentEnvironment, compressedPolysIn, lentRatio}
+use Rattle.prover.specs.Lent.{Given, Behind, lentEnvironment, compressedPolysIn, lentRatio}
 use Rattle.prover.proofs.Lent.{lookups-are}
 use Rattle.prepare.specs.Prepared.{Accepted, layoutOf, permutationsAt, compressedAt, zsAt}
 use Rattle.prepare.proofs.Accepted as accepted

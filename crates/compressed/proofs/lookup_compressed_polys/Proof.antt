@@ -10,8 +10,9 @@ use lib.Seq.{take-all}
 use Rattle.field.specs.Field.{𝔾, el}
 use Rattle.util.specs.Lists.{over, split, total}
 use Rattle.util.proofs.Parts.{total-more, part-there}
+use Rattle.backend.specs.Circuit.{pairsOf}
 use Rattle.prover.specs.Words.{wordsOf}
-use Rattle.prover.specs.Lent.{lentEnvironment, compressedPolysIn, pairsOf}
+use Rattle.prover.specs.Lent.{lentEnvironment, compressedPolysIn}
 use Rattle.prover.proofs.PowerSums.{all-start, all-more, lookup-there, lookup-next}
 use Rattle.compressed.proofs.lookup_compressed_polys.Statement.{statement}
 use Rattle.compressed.proofs.lookup_compressed_polys.Tie as tie
@@ -42,7 +43,7 @@ loop-holds c =
       none (a .widths .now),
       sym (ap (λ (x : ℕ). a .to + x) (zero-mul (2 ^ a .k + 2 ^ a .k)) ∙ add-zero (a .to)),
       refl,
-      all-start (a .k) (pre .0 .small) _ (pre .0 .given) _ _ _ _ _ _ _ _,
+      all-start (a .k) (pre .0 .small) _ (pre .0 .given) _ _ _ _ (a .nodes .now) (a .pairs .now) _ _,
     )
 
 mul-index : tie.Need-mul-index Inv-loop μ-loop
@@ -100,7 +101,7 @@ loop-again c =
       ap₂ _+_ (l .inv .1) (index .ensures) ∙ total-more (a .widths .now) (l .i) (test .taken),
       lookup-next (l .i) (2 ^ a .k) (a .to) (l .at) _ (l .inv .2) (c .before .before .before .before .before .before .before .before .rows-of .ensures),
       compressed-pair .kept .1 .1 .1 .0 ∙ l .inv .3,
-      all-more (a .k) (pre .0 .small) _ (pre .0 .given) _ _ _ _ _ _ (a .widths .now) (l .i) (test .taken) (a .columns .now) (l .columns) _ (a .to) (l .at) (l .start) _
+      all-more (a .k) (pre .0 .small) _ (pre .0 .given) _ _ _ _ (a .nodes .now) (a .pairs .now) (a .widths .now) (l .i) (test .taken) (a .columns .now) (l .columns) _ (a .to) (l .at) (l .start) _
           (pre .0 .before) (omega (arith, lookup-there _ _ _ _ _ _ (test .taken) (l .inv .2) (pre .0 .room))) (l .inv .1) (index .ensures) (l .inv .2) (l .inv .4) (compressed-pair .ensures),
     )
 
