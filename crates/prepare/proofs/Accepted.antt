@@ -2,7 +2,7 @@
 use mathlib.Core.Path.{_≡_, refl, sym, ap, _∙_, subst}
 use mathlib.Core.Bool.{Bool, true}
 use mathlib.Core.List.{List, _++_, map}
-use Prim.Native.Nat.{ℕ, _+_, _-_, _*_, _/_, _%_, _^_, _≤_, _<_, max}
+use Prim.Native.Nat.{ℕ, _-_, _*_, _/_, _%_, _^_, _≤_, _<_, max}
 use native.Mathlib.Omega.{arith}
 use native.Mathlib.Decide.{decLt}
 use native.Mathlib.Nat.{mul-one, mul-le-mul}
@@ -10,8 +10,7 @@ use lib.ListN.{length, getD}
 use lib.Dec.{leb}
 use lib.Pow.{pow-pos, pow-mono}
 use borrow.Author.Tests.{leb-true}
-use Rattle.util.specs.Lists.{below, allOf, largest, total, concat, split, ceilDiv, All}
-use Rattle.util.proofs.First.{first-both}
+use Rattle.util.specs.Lists.{below, allOf, largest, total, concat, split, ceilDiv}
 use Rattle.util.proofs.Tests.{and-left, and-right, all-each}
 use Rattle.util.proofs.All.{all-from}
 use Rattle.util.proofs.Columns.{below-length}
@@ -19,14 +18,13 @@ use Rattle.util.proofs.Lists.{split-length}
 use Rattle.util.proofs.Totals.{ceil-le}
 use Rattle.util.proofs.Searches.{count-le}
 use Rattle.expression.specs.Expr.{Expr, degree}
-use Rattle.backend.specs.Circuit.{Section, entry, entries, wordK, bodyOf, Cell, cellsOf, cellsName, statedOf, Circuit, circuitOf, rowsOf, numInstance, numWitness, numUser, numPoly, numLookups, copiedIn, copied, numCopied}
+use Rattle.backend.specs.Circuit.{Section, entry, entries, wordK, bodyOf, Cell, cellsOf, cellsName, statedOf, circuitOf, rowsOf, numInstance, numWitness, numUser, numPoly, numLookups, copiedIn, copied, numCopied}
 use Rattle.backend.specs.Constraints.{lookupConstraints, leastD, maxDegree}
 use Rattle.backend.specs.Layout.{laidOut}
-use Rattle.backend.specs.Questions.{roundsGood, atMost, q5, q7, q10, layoutQuestions, bodyQuestions, circuitQuestions}
+use Rattle.backend.specs.Questions.{roundsGood, atMost, q5, q7, q10}
 use Rattle.backend.specs.Laid.{Laid, Counted}
 use Rattle.backend.proofs.Sections.{body-length}
 use Rattle.backend.proofs.Numbers.{polys}
-use Rattle.backend.proofs.Answers.{all-laid}
 use Rattle.backend.proofs.Degree.{all-most, root-in, left-roots, right-roots, least-high, least-low}
 use Rattle.preprocessor.specs.Compose.{numZ}
 use Rattle.preprocessor.specs.Permutation.{Walkable}
@@ -34,7 +32,6 @@ use Rattle.preprocessor.specs.Pieces.{numbersOf, IsNode, Limits, Words, Handed,
 use Rattle.preprocessor.proofs.Copied.{walkable, cells-of}
 use Rattle.preprocessor.proofs.Composed.{circuit-pieces}
 use Rattle.prover.specs.Lent.{Given}
-use Rattle.calls.specs.Build.{columnWords}
 use Rattle.completeness.proofs.Passed.{Yes, yes-all}
 use Rattle.prepare.specs.Prepared.{Accepted, layoutOf}
 
@@ -42,12 +39,7 @@ pub answers : (ws : List ℕ) → Accepted ws → Yes ws
 answers ws a = yes-all ws a
 
 pub laid-counted : (ws : List ℕ) → Accepted ws → Laid ws × Counted ws
-unfolding circuitQuestions
-laid-counted ws a =
-    all-laid ws
-    (first-both layoutQuestions bodyQuestions ws a
-    (omega arith, (omega arith, (omega arith, (omega arith, (omega arith, (omega arith, tt))))))
-    .0)
+laid-counted ws a = (answers ws a .laid, answers ws a .counted)
 
 -- ---- over plain numbers and lists
 
@@ -69,10 +61,10 @@ least-in w h = go (decLt 3 w)
 
 module _ (ws : List ℕ) (a : Accepted ws) where
   pub laid-of : Laid ws
-  laid-of = laid-counted ws a .0
+  laid-of = answers ws a .laid
 
   pub counted-of : Counted ws
-  counted-of = laid-counted ws a .1
+  counted-of = answers ws a .counted
 
   -- ---- k and the rows
   pub k-pos : 0 < wordK ws
@@ -115,9 +107,6 @@ module _ (ws : List ℕ) (a : Accepted ws) where
   pub nodes-whole : length (bodyOf ws Section.nodes) % 4 ≡ 0
   nodes-whole = let e = nodes-length in omega arith
 
-  pub constraints-length : length (bodyOf ws Section.constraints) ≡ entries ws Section.constraints
-  constraints-length = single Section.constraints refl
-
   pub widths-length : length (bodyOf ws Section.widths) ≡ entries ws Section.widths
   widths-length = single Section.widths refl
 
@@ -136,12 +125,6 @@ module _ (ws : List ℕ) (a : Accepted ws) where
 
   pub pairs-total : total (bodyOf ws Section.widths) ≡ entries ws Section.pairs
   pairs-total = sym (counted-of .pairs-are)
-
-  pub widths-narrow : All (λ w. w ≤ 8) (bodyOf ws Section.widths)
-  widths-narrow = counted-of .narrow
-
-  pub lengths-length : length (bodyOf ws Section.lengths) ≡ entries ws Section.lengths
-  lengths-length = single Section.lengths refl
 
   pub cells-length : length (bodyOf ws Section.cells) ≡ entries ws Section.cells * 2
   cells-length = body-length ws laid-of Section.cells
@@ -293,18 +276,3 @@ module _ (ws : List ℕ) (a : Accepted ws) where
         permutations = refl;
         rest = refl;
       }
-
-  -- ---- the words of the columns: 8 + 72 + 8 × 4 + 72 columns at most
-  pub columns-few : columnWords (circuitOf ws) ≤ 188416
-  unfolding columnWords
-  columns-few =
-      let c : Circuit = circuitOf ws in
-      let i = few-instances in
-      let n = few-copied in
-      let l = few-lookups in
-      let z = few-z in
-      let e = rows-is in
-      let r = rows-few in
-      let columns : numInstance c + numCopied c + numLookups c * 4 + numZ c ≤ 184 = omega arith in
-      let rows : rowsOf c ≤ 1024 = omega arith in
-      mul-le-mul columns rows
