@@ -9,8 +9,8 @@ use lib.Dec.{eqb, leb}
 use lib.ListN.{length, getD, replicate}
 use borrow.Author.Tests.{leb-true, eqb-true, ltb-true, le-leb, lt-leb, ne-eqb}
 use Rattle.field.specs.Field.{𝔾}
-use Rattle.util.specs.Lists.{column, allOf, written, over, firstNo}
-use Rattle.util.proofs.First.{first-next, first-number}
+use Rattle.util.specs.Lists.{column, allOf, written, over}
+use Rattle.util.proofs.First.{first-none, first-next, first-number}
 use Rattle.util.proofs.Over.{over-written}
 use Rattle.util.proofs.Tests.{and-left, and-right, all-append, all-each}
 use Rattle.backend.specs.Questions.{goodK, small}
@@ -19,10 +19,6 @@ use Rattle.prover.specs.Words.{elements, Small, countWords}
 use Rattle.calls.specs.Stages.{Answer, checkStage, fits}
 
 -- ---- the questions in order, and the answer by their number
-none-asked : (k : ℕ) → firstNo [] k ≡ 0
-unfolding firstNo
-none-asked k = refl
-
 module _ (k : ℕ) (exact : ℕ → Bool) (values out : List ℕ) (answer : Answer) where
   abbrev no : ℕ
   no = checkStage k exact values out
@@ -60,7 +56,7 @@ module _ (k : ℕ) (exact : ℕ → Bool) (values out : List ℕ) (answer : Answ
         unfolding checkStage
         none d =
             first-next _ _ k a ∙ first-next _ _ k b ∙ first-next _ _ k c ∙ first-next _ _ k (le-leb (2 ^ k) (length out) d)
-            ∙ none-asked k
+            ∙ first-none k
 
         pub all-yes : 2 ^ k ≤ length out → answer ≡ result
         all-yes d = ap (λ (n : ℕ). cond (eqb n 0) answer (record { number = n; out = out })) (sym (none d))
@@ -141,43 +137,31 @@ module _ (input table out : List ℕ) where
       cond (covered 𝔾 rows (elements input) (elements table)) yes no
 
   module _ (k rows : ℕ) (n : rows ≡ 2 ^ k) (m : List ℕ) (e : m ≡ over out 0 (countWords rows (elements input) (elements table))) where
-    pub counted : covered 𝔾 rows (elements input) (elements table) ≡ true → record { number = 0; out = m } ≡ counts (2 ^ k)
+    answered : (t : Bool) → covered 𝔾 rows (elements input) (elements table) ≡ t → record { number = cond t 0 15; out = m } ≡ counts (2 ^ k)
     unfolding countWords
-    counted c =
-        ap (λ (o : List ℕ). record { number = 0; out = o })
-        (e
-        ∙ ap
-        (λ (t : Bool).
-        over out 0
-        (cond t (column (multiplicity 𝔾 rows (elements input) (elements table)) rows) (replicate rows 0)))
-        c
-        ∙ sym (over-written (column (multiplicity 𝔾 rows (elements input) (elements table)) rows) out))
-        ∙ ap
-        (λ (t : Bool).
-        cond t
-        (record { number = 0; out = written (column (multiplicity 𝔾 rows (elements input) (elements table)) rows) out })
-        (record { number = 15; out = written (replicate rows 0) out }))
-        (sym c)
+    answered t c =
+        ap (λ (o : List ℕ). record { number = cond t 0 15; out = o }) (e ∙ ap (λ (t : Bool). over out 0 (cond t words zeros)) c)
+        ∙ by t
+        ∙ ap (λ (t : Bool). cond t (record { number = 0; out = written words out }) (record { number = 15; out = written zeros out })) (sym c)
         ∙ ap counts n
+      where
+        words : List ℕ
+        words = column (multiplicity 𝔾 rows (elements input) (elements table)) rows
+
+        zeros : List ℕ
+        zeros = replicate rows 0
+
+        by : (t : Bool)
+            → _≡_ {A = Answer} (record { number = cond t 0 15; out = over out 0 (cond t words zeros) })
+            (cond t (record { number = 0; out = written words out }) (record { number = 15; out = written zeros out }))
+        by true = ap (λ (o : List ℕ). record { number = 0; out = o }) (sym (over-written words out))
+        by false = ap (λ (o : List ℕ). record { number = 15; out = o }) (sym (over-written zeros out))
+
+    pub counted : covered 𝔾 rows (elements input) (elements table) ≡ true → record { number = 0; out = m } ≡ counts (2 ^ k)
+    counted = answered true
 
     pub uncovered : covered 𝔾 rows (elements input) (elements table) ≡ false → record { number = 15; out = m } ≡ counts (2 ^ k)
-    unfolding countWords
-    uncovered c =
-        ap (λ (o : List ℕ). record { number = 15; out = o })
-        (e
-        ∙ ap
-        (λ (t : Bool).
-        over out 0
-        (cond t (column (multiplicity 𝔾 rows (elements input) (elements table)) rows) (replicate rows 0)))
-        c
-        ∙ sym (over-written (replicate rows 0) out))
-        ∙ ap
-        (λ (t : Bool).
-        cond t
-        (record { number = 0; out = written (column (multiplicity 𝔾 rows (elements input) (elements table)) rows) out })
-        (record { number = 15; out = written (replicate rows 0) out }))
-        (sym c)
-        ∙ ap counts n
+    uncovered = answered false
 
 -- ---- a column written
 pub column-done : (f : ℕ → ℕ) (k rows : ℕ) (out d : List ℕ) → rows ≡ 2 ^ k → d ≡ over out 0 (column f rows)

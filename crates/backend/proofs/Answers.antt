@@ -1,14 +1,14 @@
 -- The first no, question by question. Assumes nothing.
 use mathlib.Core.Path.{_≡_, refl, sym, ap, ap₂, _∙_}
 use mathlib.Core.Bool.{Bool, true, false, not}
-use mathlib.Core.List.{List, [], _∷_, _++_, map}
+use mathlib.Core.List.{List, _++_, map}
 use Prim.Native.Nat.{ℕ, suc, _-_, _/_, _^_}
 use native.Mathlib.Nat.{mul-div-cancel}
 use native.Mathlib.Omega.{arith}
 use lib.ListN.{length, getD, take, drop}
 use borrow.Author.Tests.{not-true, not-false}
 use Rattle.util.specs.Lists.{column, total, split, firstNo}
-use Rattle.util.proofs.First.{first-next, first-number, first-yes, first-append, first-refused}
+use Rattle.util.proofs.First.{first-none, first-next, first-number, first-yes, first-append, first-refused}
 use Rattle.expression.specs.Nodes.{exprOf}
 use Rattle.backend.specs.Circuit.{Section, wordK, entries, bodyOf, pairsOf, cellAt, cellsOf, statedOf, circuitOf, numPoly, numUser}
 use Rattle.backend.specs.Layout.{laidOut, nodesInRange}
@@ -26,10 +26,6 @@ says-no r q e h = sym e ∙ not-true r h
 
 pub says-yes : (r q : Bool) → r ≡ q → not r ≡ false → q ≡ true
 says-yes r q e h = sym e ∙ not-false r h
-
-none-asked : (ws : List ℕ) → firstNo [] ws ≡ 0
-unfolding firstNo
-none-asked ws = refl
 
 module _ (ws : List ℕ) where
   pub no-1 : q1 ws ≡ false → 1 ≡ firstNo layoutQuestions ws
@@ -64,7 +60,7 @@ module _ (ws : List ℕ) where
                 sym
                 (first-next _ _ ws a ∙ first-next _ _ ws b ∙ first-next _ _ ws c ∙ first-next _ _ ws d ∙ first-next _ _ ws e
                 ∙ first-next _ _ ws h
-                ∙ none-asked ws)
+                ∙ first-none ws)
 
 -- what none tells
 pub all-laid : (ws : List ℕ) → firstNo layoutQuestions ws ≡ 0 → Laid ws × Counted ws
@@ -172,7 +168,7 @@ module _ (ws : List ℕ) where
 
               pub no-more : q11 (circuitOf ws) ≡ true → 0 ≡ firstNo bodyQuestions ws
               no-more h =
-                  sym (to-8 ∙ first-next _ _ ws d ∙ first-next _ _ ws e ∙ first-next _ _ ws f ∙ first-next _ _ ws h ∙ none-asked ws)
+                  sym (to-8 ∙ first-next _ _ ws d ∙ first-next _ _ ws e ∙ first-next _ _ ws f ∙ first-next _ _ ws h ∙ first-none ws)
 
 -- ---- all
 

@@ -1,46 +1,26 @@
 -- Laws of the bodies: sums of the rounds, the widths and the cycle lengths; 3 and 4 at the bodies; 5, 6 and 9. Assumes nothing.
 use mathlib.Core.Path.{_≡_, refl, sym, ap, ap₂, _∙_}
-use mathlib.Core.Bool.{Bool, true, false, not, _&&_, _||_, and-assoc}
-use mathlib.Core.List.{List, [], _∷_, _++_, map}
-use Prim.Native.Nat.{ℕ, zero, suc, _+_, _-_, _*_, _/_, _%_, _^_, _≤_, _<_, min}
+use mathlib.Core.Bool.{Bool, true, false, not, _&&_, _||_}
+use mathlib.Core.List.{List, [], _∷_, map}
+use Prim.Native.Nat.{ℕ, suc, _+_, _-_, _*_, _%_, _^_, _≤_, _<_, min}
 use native.Mathlib.Omega.{arith, min-cases}
-use native.Mathlib.Nat.{one-mul, mul-one, add-zero, mul-le-mul-right, min-eq-left, min-eq-right}
+use native.Mathlib.Nat.{one-mul, mul-one, add-zero, mul-le-mul-right, min-eq-left}
 use lib.ListN.{length, getD, take, drop, length-map, length-drop}
-use lib.Seq.{take-all, take-at, length-take-le}
+use lib.Seq.{take-all, length-take-le}
 use lib.Dec.{eqb, leb, ltb, leb·suc-suc}
 use lib.Pow.{pow-pos, shl-exact}
-use borrow.Author.Tests.{lt-ltb, le-ltb, le-leb, lt-leb, leb-true, leb-false, ltb-true, ltb-false, eqb-true, eqb-false, eq-eqb, ne-eqb}
+use borrow.Author.Tests.{lt-ltb, le-ltb, lt-leb, leb-true, leb-false, eqb-true, ne-eqb}
 use Rattle.field.specs.Prime.{P}
-use Rattle.util.specs.Lists.{column, below, allOf, total, split, All}
+use Rattle.util.specs.Lists.{column, allOf, total, split}
 use Rattle.util.proofs.Tests.{false-true, and-left, and-right, all-true}
 use Rattle.util.proofs.All.{all-weaken}
 use Rattle.util.proofs.Lists.{split-length}
-use Rattle.util.proofs.Columns.{column-length, column-cong, column-of, column-append, map-column}
-use Rattle.util.proofs.Totals.{total-append}
-use Rattle.util.proofs.Walks.{all-map, all-same, all-parts, is-nought, not-nought}
+use Rattle.util.proofs.Columns.{column-length, column-cong, column-of, map-column}
+use Rattle.util.proofs.Runs.{take-column}
+use Rattle.util.proofs.Walks.{all-map, all-same, all-parts}
 use Rattle.expression.specs.Nodes.{wordOf, exprOf}
-use Rattle.backend.specs.Circuit.{
-  Section,
-  sectionAt,
-  entry,
-  entries,
-  wordK,
-  wordsIn,
-  bodyOf,
-  word,
-  wordEach,
-  Round,
-  roundAt,
-  Pair,
-  pairAt,
-  Circuit,
-  circuitOf,
-  rowsOf,
-  numWitness,
-  numUser,
-  numPoly,
-}
-use Rattle.backend.specs.Layout.{nodeCount, nodesHold, kindIs}
+use Rattle.backend.specs.Circuit.{Section, sectionAt, entry, entries, wordK, bodyOf, word, wordEach, Round, roundAt, Pair, pairAt, circuitOf, numWitness, numUser, numPoly}
+use Rattle.backend.specs.Layout.{kindIs}
 use Rattle.backend.specs.Questions.{q3-bodies, q4-bodies, roundsGood, small, smallValue, valuesSmall, q5, q6, q9}
 use Rattle.backend.specs.Laid.{Laid, Counted, partOf, infoOf}
 use Rattle.backend.specs.declared.Part.{Part}
@@ -179,11 +159,6 @@ counted ws three four =
     }
 
 -- ---- 5
-
-take-column : {A : Type 0} (f : ℕ → A) (m n : ℕ) → m ≤ n → take m (column f n) ≡ column f m
-take-column f m n h =
-    let e : n ≡ m + (n - m) = omega arith in
-    ap (λ (n : ℕ). take m (column f n)) e ∙ ap (take m) (column-append f m (n - m)) ∙ take-at (column f m) _ m (column-length f m)
 
 pub rounds-tested : (ws : List ℕ) (p : Part) → Placed ws 2 p → (w u : Bool)
     → w ≡ allOf (ltb 0) (wordEach (take (p .end - p .start) (drop (p .start) ws)) 2 0 (p .count))

@@ -1,6 +1,6 @@
 -- The copied columns, gathered: which polynomials the first cells name, and those among the first polynomials. Assumes nothing.
 use mathlib.Core.Path.{_≡_, refl, sym, ap, _∙_}
-use mathlib.Core.Bool.{Bool, true, false, cond, _||_}
+use mathlib.Core.Bool.{Bool, true, false, cond, _||_, or-false}
 use mathlib.Core.List.{List, [], _∷_, _++_, append-nil}
 use Prim.Native.Nat.{ℕ, zero, suc, _+_, _≤_, _<_, _/_, _*_}
 use native.Mathlib.Omega.{arith}
@@ -32,10 +32,6 @@ pub record Gathered (cells : List ℕ) (polys : ℕ) (of : List ℕ) (count q : 
 or-true : (t : Bool) → (t || true) ≡ true
 or-true true = refl
 or-true false = refl
-
-or-false : (t : Bool) → (t || false) ≡ t
-or-false true = refl
-or-false false = refl
 
 those-one : (p : ℕ → Bool) (q : ℕ) → those p (q ∷ []) ≡ cond (p q) (q ∷ []) []
 unfolding those

@@ -1,18 +1,18 @@
 -- The tree at a node, by the node's kind, as the copy takes it. Proved.
 use mathlib.Core.Path.{_≡_, refl, sym, ap, _∙_, subst}
-use mathlib.Core.Bool.{Bool, true, false, cond}
+use mathlib.Core.Bool.{Bool, true, false}
 use mathlib.Core.List.{List}
-use Prim.Native.Nat.{ℕ, suc, _+_, _-_, _*_, _≤_, _<_}
+use Prim.Native.Nat.{ℕ, _+_, _-_, _≤_, _<_}
 use native.Mathlib.Omega.{arith}
-use lib.Dec.{eqb, ltb}
-use lib.IntN.{ℤ, pos, negsuc}
-use borrow.Author.Tests.{ltb-true, ltb-false, eqb-true, eqb-false}
+use lib.Dec.{eqb}
+use borrow.Author.Tests.{eqb-true, eqb-false}
 use Rattle.expression.specs.declared.node.Node.{Node}
 use Rattle.expression.specs.Expr.{Expr, Exprs}
-use Rattle.expression.specs.Nodes.{signed, kept, kindOf, nodeOf, under, noExpr, noExprs, exprOf, itemsOf}
+use Rattle.expression.specs.Nodes.{kindOf, nodeOf, noExpr, noExprs, exprOf, itemsOf}
 use Rattle.expression.specs.Read.{nodeAt}
 use Rattle.expression.specs.Flat.{body, sizes, extra, size}
 use Rattle.expression.specs.Written.{Pushed, Written, WrittenOne, WrittenPair, WrittenBase, WrittenList}
+use Rattle.expression.proofs.Signed.{kept-signed}
 use Rattle.expression.proofs.Step.{under-yes, under-no, by-kind, low, lowItems, node-read, of-kind, items-last, items-more}
 use Rattle.expression.proofs.Written.{
   written-as,
@@ -29,14 +29,6 @@ use Rattle.expression.proofs.Written.{
   list-last,
   list-more,
 }
-
--- the number that any word keeps is kept as that word
-pub kept-signed : (w : ℕ) → kept (signed w) ≡ w
-kept-signed w = by (ltb w 2147483648) refl
-  where
-    by : (t : Bool) → ltb w 2147483648 ≡ t → kept (cond t (negsuc (2147483648 - suc w)) (pos (w - 2147483648))) ≡ w
-    by true h = omega (arith, ltb-true w 2147483648 h)
-    by false h = omega (arith, ltb-false w 2147483648 h)
 
 module _ (ws : List ℕ) (n : ℕ) (d : Node) (read : d ≡ nodeAt ws n) {from at next : ℕ} {b a : List ℕ} where
   -- ---- leaves

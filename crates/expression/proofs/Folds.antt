@@ -1,8 +1,7 @@
 -- The folds that the walks compute are the degree, capped, and whether a query is used. Assumes nothing.
-use mathlib.Core.Path.{_≡_, refl, sym, ap, ap₂, _∙_}
-use mathlib.Core.Bool.{Bool, true, false, _&&_, _||_}
-use mathlib.Core.List.{List, [], _∷_, _++_}
-use Prim.Native.Nat.{ℕ, _+_, min, max}
+use mathlib.Core.Path.{_≡_, refl, sym}
+use mathlib.Core.Bool.{or-false}
+use Prim.Native.Nat.{min}
 use native.Mathlib.Omega.{arith}
 use Rattle.util.specs.Lists.{anyOf}
 use Rattle.util.proofs.Tests.{any-append}
@@ -29,10 +28,6 @@ cap =
 pub capped : (e : Expr) → evaluate capOps e ≡ min 1025 (degree e)
 unfolding degree
 capped e = evaluate-hom degreeOps capOps (min 1025) cap e
-
-or-false : (a : Bool) → (a || false) ≡ a
-or-false true = refl
-or-false false = refl
 
 pub uses : (q : Query) → Hom queryOps (usedOps q) (anyOf (sameQuery q))
 unfolding queryOps usedOps anyOf

@@ -2,23 +2,22 @@
 use mathlib.Core.Path.{_≡_, refl, sym, ap, ap₂, _∙_, subst⁻¹}
 use mathlib.Core.Bool.{Bool, true, false, cond}
 use mathlib.Core.List.{List, [], _∷_, _++_, map, map-append, append-assoc, append-nil}
-use Prim.Native.Nat.{ℕ, zero, suc, _+_, _-_, _*_, _/_, _%_, _≤_, _<_}
+use Prim.Native.Nat.{ℕ, _+_, _-_, _*_, _/_, _%_, _≤_, _<_}
 use native.Mathlib.Nat.{mul-le-mul, div-add-mod', mod-lt, zero-add}
 use native.Mathlib.Numerals.{add-one}
-use native.Mathlib.Decide.{decLt}
 use native.Mathlib.Omega.{arith}
-use lib.Dec.{leb, lit<}
+use lib.Dec.{lit<}
 use lib.ListN.{length, set, length-append, length-set}
 use borrow.Author.Tests.{le-leb, lt-leb}
 use Rattle.util.specs.Lists.{column, those, countOf, concat, written, over}
 use Rattle.util.proofs.Lists.{concat-append, pairs-length}
 use Rattle.util.proofs.Columns.{column-suc, column-append}
-use Rattle.util.proofs.Tests.{those-append, count-append, count-one}
+use Rattle.util.proofs.Tests.{those-append, count-append}
 use Rattle.util.proofs.Over.{over-none, over-snoc, over-written, length-over}
 use Rattle.expression.specs.Expr.{Query}
-use Rattle.expression.specs.Nodes.{signed, kept}
+use Rattle.expression.specs.Nodes.{kept}
 use Rattle.expression.specs.Queries.{queryOf, queryWords, queriesInto}
-use Rattle.expression.proofs.Signed.{signed-on, signed-back}
+use Rattle.expression.proofs.Signed.{kept-signed}
 
 -- polys × (2k + 1) is small
 pub end-small : (polys k : ℕ) → polys ≤ 1048576 → k ≤ 1048576 → polys * (k + k + 1) ≤ 2199024304128
@@ -27,21 +26,6 @@ end-small polys k h l = mul-le-mul h (let e : k + k + 1 ≤ 2097153 = omega arit
 -- candidate i
 abbrev pub candidate : ℕ → ℕ → Query
 candidate k i = queryOf (i / (k + k + 1)) (2147483648 - k + i % (k + k + 1))
-
--- a word is kept as it is
-pub kept-signed : (w : ℕ) → kept (signed w) ≡ w
-kept-signed w = go (decLt w 2147483648)
-  where
-    negative : (n : ℕ) → suc n ≤ 2147483648 → kept (lib.IntN.negℤ (lib.IntN.pos (suc n))) ≡ 2147483648 - suc n
-    negative n h = refl
-
-    go : Dec (w < 2147483648) → kept (signed w) ≡ w
-    go (yes h) =
-        let e : 2147483648 - w ≡ suc (2147483648 - suc w) = omega arith in
-        ap kept (signed-back w h ∙ ap (λ (n : ℕ). lib.IntN.negℤ (lib.IntN.pos n)) e)
-        ∙ (let f : 2147483648 - suc (2147483648 - suc w) ≡ w = omega arith in f)
-    go (no h) =
-        ap kept (signed-on w (omega arith)) ∙ (let f : w - 2147483648 + 2147483648 ≡ w = omega arith in f)
 
 pair-words : (q w : ℕ) (x : Query) → x ≡ queryOf q w → queryWords (x ∷ []) ≡ q ∷ w ∷ []
 unfolding queryWords concat

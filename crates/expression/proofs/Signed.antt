@@ -6,20 +6,20 @@ use native.Mathlib.Nat.{mod-add-div', mod-lt, mod-eq-of-lt, zero-mul, suc-mul, a
 use native.Mathlib.Decide.{decLt}
 use native.Mathlib.Omega.{arith}
 use lib.Dec.{T, eqb, ltb, lit<}
-use lib.IntN.{ℤ, pos, negsuc, negℤ, subℕ, natAbs, _+ℤ_, _-ℤ_}
+use lib.IntN.{ℤ, pos, negsuc, negℤ, natAbs, _+ℤ_, _-ℤ_}
 use lib.Pow.{pow-pos, pow-lt, pow-add}
 use lib.Signed.{nonNeg}
 use mir.Syntax.{w32, w64}
 use mir.Val.{Fits, SFits, toZ, ofZ}
-use mir.Facts.{sfits-widen, fits-natAbs, toZ-ofZ, toZ-pos}
-use borrow.Author.Tests.{lt-ltb, le-ltb, eq-eqb, ne-eqb, eqb-true, eqb-false}
+use mir.Facts.{sfits-widen, toZ-ofZ, toZ-pos}
+use borrow.Author.Tests.{lt-ltb, le-ltb, eq-eqb, ne-eqb, eqb-true, eqb-false, ltb-true, ltb-false}
 use mathlib.Core.Logic.{_≢_}
 use Rattle.util.proofs.Tests.{by-test}
 use Rattle.bh.specs.Rows.{iter, nextRow, prevRow, rowAt, placeOf, rotated, modZ, lagrangeRow}
 use Rattle.bh.proofs.Iter.{iter-add, iter-zero, iter-comm}
-use Rattle.bh.proofs.Order.{walk-undo, back-walk-lt, row-nought, row-suc, row-lt, row-once, next-nought, next-returns}
+use Rattle.bh.proofs.Order.{walk-undo, back-walk-lt, row-nought, row-suc, next-nought, next-returns}
 use Rattle.bh.proofs.Words.{shifted}
-use Rattle.bh.proofs.Place.{row-place, place-lt, place-row}
+use Rattle.bh.proofs.Place.{row-place, place-row}
 use Rattle.expression.specs.Expr.{sameℤ}
 use Rattle.expression.specs.Nodes.{signed, kept}
 
@@ -61,6 +61,14 @@ signed-back w h =
 pub signed-on : (w : ℕ) → 2147483648 ≤ w → signed w ≡ pos (w - 2147483648)
 signed-on w h =
     ap (λ (t : Bool). cond t (negsuc (2147483648 - suc w)) (pos (w - 2147483648))) (le-ltb w 2147483648 h)
+
+-- a word read as a signed number is kept as that word
+pub kept-signed : (w : ℕ) → kept (signed w) ≡ w
+kept-signed w = by (ltb w 2147483648) refl
+  where
+    by : (t : Bool) → ltb w 2147483648 ≡ t → kept (cond t (negsuc (2147483648 - suc w)) (pos (w - 2147483648))) ≡ w
+    by true h = omega (arith, ltb-true w 2147483648 h)
+    by false h = omega (arith, ltb-false w 2147483648 h)
 
 -- ---- a rotation as the word that keeps it
 

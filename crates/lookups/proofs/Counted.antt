@@ -9,14 +9,14 @@ use lib.ListN.{length, getD, take, drop, replicate, length-append, length-replic
 use Rattle.field.specs.Field.{𝔾, el}
 use Rattle.util.specs.Lists.{column, concat, over}
 use Rattle.util.proofs.Columns.{column-length, column-cong, columns-length}
-use Rattle.util.proofs.Over.{length-over, take-over, over-before, over-none}
+use Rattle.util.proofs.Over.{length-over, take-over, over-before, over-none, drop-past}
 use Rattle.util.proofs.Tests.{false-true}
 use Rattle.util.proofs.Walks.{Walked, walk-none, walk-more, walk-done, walk-fails}
 use Rattle.prover.specs.Lookup.{multiplicity, covered}
 use Rattle.prover.specs.Words.{elementsFrom, Small, countWords}
 use Rattle.lookups.specs.Lookups.{inputFrom, tableFrom, countsFrom, CountsWritten}
 use Rattle.lookups.proofs.Same.{covered-same, multiplicity-same}
-use Rattle.lookups.proofs.Places.{next-place, table-place, next-input, place-there, pair-there, past-over, run-next, column-next}
+use Rattle.lookups.proofs.Places.{next-place, table-place, next-input, place-there, pair-there, run-next, column-next}
 
 count-length : (rows : ℕ) (input table : ℕ → 𝔾 .F) → length (countWords rows input table) ≡ rows
 unfolding countWords
@@ -69,7 +69,7 @@ module _ (d : List ℕ) (n at m rows : ℕ) where
           is = walk-done test (λ i. i) n j (inv .walked) h;
           counts = λ _. now;
           front = ap (take m) now ∙ take-over d m (countsFrom d at rows n) (omega arith);
-          back = ap (drop (m + n * rows)) now ∙ past-over d m (countsFrom d at rows n) (m + n * rows) (omega arith) (omega arith);
+          back = ap (drop (m + n * rows)) now ∙ drop-past d m (countsFrom d at rows n) (m + n * rows) (omega arith) (omega arith);
         }
 
     module _ (l : j < n) where
@@ -164,5 +164,5 @@ module _ (d : List ℕ) (n at m rows : ℕ) where
               front = ap (take m) now ∙ take-over d m run (omega arith);
               back =
                   ap (drop (m + n * rows)) now
-                  ∙ past-over d m run (m + n * rows) (omega arith) (omega (arith, place-there n j rows l));
+                  ∙ drop-past d m run (m + n * rows) (omega arith) (omega (arith, place-there n j rows l));
             }

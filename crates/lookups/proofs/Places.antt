@@ -1,15 +1,14 @@
 -- Where the columns of a lookup stand, and columns written one after another. Assumes nothing.
 use mathlib.Core.Path.{_≡_, sym, ap, ap₂, _∙_}
 use mathlib.Core.List.{List, _++_}
-use Prim.Native.Nat.{ℕ, suc, _+_, _-_, _*_, _≤_, _<_}
+use Prim.Native.Nat.{ℕ, suc, _+_, _*_, _≤_, _<_}
 use native.Mathlib.Nat.{suc-mul, mul-le-mul-right}
 use native.Mathlib.Numerals.{add-one}
 use native.Mathlib.Omega.{arith}
-use lib.ListN.{length, drop}
-use lib.Seq.{drop-drop}
+use lib.ListN.{length}
 use Rattle.util.specs.Lists.{column, concat, over}
 use Rattle.util.proofs.Columns.{columns-suc, columns-length}
-use Rattle.util.proofs.Over.{over-over, drop-over}
+use Rattle.util.proofs.Over.{over-over}
 
 -- ---- numbers
 
@@ -36,16 +35,6 @@ pair-there n j rows l =
     omega (arith, suc-mul (suc (j * 2)) rows, suc-mul (j * 2) rows)
 
 -- ---- buffers
-
--- the words behind a run, from any place on
-pub past-over : {A : Type 0} (d : List A) (at : ℕ) (s : List A) (p : ℕ) → at ≤ length d → at + length s ≤ p → drop p (over d at s) ≡ drop p d
-past-over d at s p h l =
-    let e : p ≡ at + length s + (p - (at + length s)) = omega arith in
-    ap (λ (q : ℕ). drop q (over d at s)) e
-    ∙ sym (drop-drop (p - (at + length s)) (at + length s) (over d at s))
-    ∙ ap (drop (p - (at + length s))) (drop-over d at s h)
-    ∙ drop-drop (p - (at + length s)) (at + length s) d
-    ∙ ap (λ (q : ℕ). drop q d) (sym e)
 
 -- a run behind the columns that stand from word `to` on
 module _ (d : List ℕ) (to rows : ℕ) (f : ℕ → ℕ → ℕ) (j p : ℕ) (at : p ≡ to + j * rows) (room : to + j * rows ≤ length d)

@@ -4,27 +4,13 @@ use mathlib.Core.Bool.{true, false}
 use mathlib.Core.List.{List, [], _∷_, _++_, map}
 use Prim.Native.Nat.{ℕ, suc, _-_}
 use native.Mathlib.Omega.{arith}
-use Rattle.util.specs.Lists.{Asked, asked, askedOf, firstNo, All}
-use Rattle.util.proofs.First.{Numbered, first-next, first-number, first-append, first-refused, first-of, numbered-of}
-use Rattle.util.proofs.All.{all-join}
+use Rattle.util.specs.Lists.{Asked, asked, askedOf, firstNo}
+use Rattle.util.proofs.First.{first-none, first-next, first-number, first-append, first-refused, first-of, numbered-of}
 use Rattle.backend.specs.Circuit.{circuitOf}
-use Rattle.backend.specs.Questions.{layoutQuestions, bodyQuestions, circuitQuestions}
+use Rattle.backend.specs.Questions.{circuitQuestions}
 use Rattle.calls.specs.Build.{Lent, q12, q13, q14, buildQuestions, checkBuild}
+use Rattle.completeness.proofs.Asked.{numbered}
 use Rattle.prepare.specs.Prepared.{Accepted}
-
-layout-numbered : All Numbered layoutQuestions
-layout-numbered = (omega arith, (omega arith, (omega arith, (omega arith, (omega arith, (omega arith, tt))))))
-
-body-numbered : All Numbered bodyQuestions
-body-numbered = (omega arith, (omega arith, (omega arith, (omega arith, (omega arith, (omega arith, (omega arith, tt)))))))
-
-circuit-numbered : All Numbered circuitQuestions
-unfolding circuitQuestions
-circuit-numbered = all-join Numbered layoutQuestions bodyQuestions layout-numbered body-numbered
-
-none-asked : {A : Type 0} (x : A) → firstNo [] x ≡ 0
-unfolding firstNo
-none-asked x = refl
 
 module _ (ws instances witness challenges columns nodes : List ℕ) where
   abbrev lent : Lent
@@ -67,7 +53,7 @@ module _ (ws instances witness challenges columns nodes : List ℕ) where
     then-12 : checkBuild ws instances witness challenges columns nodes ≡ firstNo last lent
     then-12 =
         check-is
-        ∙ first-append first last lent (first-is ∙ a) (numbered-of (λ (l : Lent). l .circuit) circuitQuestions circuit-numbered)
+        ∙ first-append first last lent (first-is ∙ a) (numbered-of (λ (l : Lent). l .circuit) circuitQuestions numbered)
 
     pub no-12 : q12 (circuitOf ws) instances witness challenges ≡ false → checkBuild ws instances witness challenges columns nodes ≡ 12
     no-12 h = then-12 ∙ first-number _ _ lent h
@@ -82,4 +68,4 @@ module _ (ws instances witness challenges columns nodes : List ℕ) where
 
         pub no-none : q14 (circuitOf ws) columns nodes ≡ true → checkBuild ws instances witness challenges columns nodes ≡ 0
         no-none h =
-            then-12 ∙ first-next _ _ lent twelve ∙ first-next _ _ lent thirteen ∙ first-next _ _ lent h ∙ none-asked lent
+            then-12 ∙ first-next _ _ lent twelve ∙ first-next _ _ lent thirteen ∙ first-next _ _ lent h ∙ first-none lent

@@ -11,6 +11,10 @@ use Rattle.util.specs.Lists.{Asked, askedOf, firstNo, All}
 abbrev pub Numbered : {A : Type 0} → Asked A → Type 0
 Numbered q = 0 < q .number
 
+pub first-none : {A : Type 0} (x : A) → firstNo [] x ≡ 0
+unfolding firstNo
+first-none x = refl
+
 module _ {A : Type 0} (q : Asked A) (qs : List (Asked A)) (x : A) where
   -- a yes: the questions after it
   pub first-next : q .test x ≡ true → firstNo (q ∷ qs) x ≡ firstNo qs x

@@ -1,8 +1,8 @@
 -- Counts and searches by index: one entry more, and the end. (For one that fails: Walks.) Assumes nothing.
 use mathlib.Core.Path.{_≡_, refl, sym, ap, ap₂, _∙_}
-use mathlib.Core.Bool.{Bool, true, false, cond, _||_}
-use mathlib.Core.List.{List, [], _∷_, _++_, map}
-use Prim.Native.Nat.{ℕ, zero, suc, _+_, _-_, _≤_, _<_}
+use mathlib.Core.Bool.{Bool, true, false, cond, _||_, or-false}
+use mathlib.Core.List.{List, [], _∷_, map}
+use Prim.Native.Nat.{ℕ, suc, _+_, _-_, _≤_, _<_}
 use native.Mathlib.Numerals.{add-one}
 use native.Mathlib.Omega.{arith}
 use lib.ListN.{length, getD, take, drop, drop-of-length-le}
@@ -25,10 +25,6 @@ module _ {A : Type 0} (p : A → Bool) where
   any-next f n =
       ap (λ (m : ℕ). anyOf p (column f m)) (add-one n) ∙ ap (anyOf p) (column-suc f n) ∙ any-append p (column f n) (f n ∷ [])
       ∙ ap (λ (t : Bool). anyOf p (column f n) || t) (or-false (p (f n)))
-    where
-      or-false : (t : Bool) → (t || false) ≡ t
-      or-false true = refl
-      or-false false = refl
 
   -- a search for one that passes
   pub any-on : (f : ℕ → A) (n : ℕ) → p (f n) ≡ false → anyOf p (column f n) ≡ false → anyOf p (column f (n + 1)) ≡ false
