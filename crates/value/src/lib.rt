@@ -1,5 +1,4 @@
 // The value of an expression at a row (Rust `evaluate`), from its node words.
-use bh::rotate;
 use expression::poly::Layout;
 use expression::value::Point;
 use field::add_u64;
@@ -10,6 +9,7 @@ use node::read_node;
 use node::rotation_of;
 use node::word_at;
 use poly::poly_at;
+use rotation::rotate;
 ghost use mathlib.Core.Path.{_≡_};
 ghost use mathlib.Core.Bool.{cond};
 ghost use Prim.Native.Nat.{_+_, _*_, _^_, _≤_, _<_};
