@@ -1,13 +1,13 @@
 // The values of all nodes at a point, in rising order, each from those of the nodes below it. Where all nodes are wanted, as for the
 // row sum, no call is made for a node, and the lent words stay where they are.
+use leaves::add;
+use leaves::lagrange;
+use leaves::mul;
+use leaves::neg;
+use leaves::query;
 use node::index;
 use node::read_node;
 use node::word_at;
-use value::add;
-use value::lagrange;
-use value::mul;
-use value::neg;
-use value::query;
 ghost use mathlib.Core.Path.{_≡_};
 ghost use mathlib.Core.List.{List};
 ghost use Prim.Native.Nat.{ℕ, _+_, _*_, _≤_};
@@ -107,7 +107,7 @@ fn node_from(
     }
 }
 
-// The values of the first `count` nodes, at the point and with the layout of the context (`value::context`).
+// The values of the first `count` nodes, at the point and with the layout of the context (`leaves::context`).
 pub fn node_values(
     nodes: &[u64],
     circuit: &[u64],

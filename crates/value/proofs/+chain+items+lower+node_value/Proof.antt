@@ -24,12 +24,12 @@ use Rattle.value.proofs.+chain+items+lower+node_value.Lts-node_value as
 use Rattle.node.proofs.index.Reads as index-reads
 use Rattle.node.proofs.read_node.Reads as read-node-reads
 use Rattle.node.proofs.word_at.Reads as word-at-reads
-use Rattle.value.proofs.lagrange.Reads as lagrange-reads
-use Rattle.value.proofs.query.Reads as query-reads
-use Rattle.value.proofs.word.Reads as word-reads
-use Rattle.value.proofs.add.Reads as add-reads
-use Rattle.value.proofs.mul.Reads as mul-reads
-use Rattle.value.proofs.neg.Reads as neg-reads
+use Rattle.leaves.proofs.lagrange.Reads as lagrange-reads
+use Rattle.leaves.proofs.query.Reads as query-reads
+use Rattle.leaves.proofs.word.Reads as word-reads
+use Rattle.leaves.proofs.add.Reads as add-reads
+use Rattle.leaves.proofs.mul.Reads as mul-reads
+use Rattle.leaves.proofs.neg.Reads as neg-reads
 use Rattle.value.proofs.+chain+items+lower+node_value.{statement}
 use Rattle.value.proofs.+chain+items+lower+node_value.Tie.{close}
 

@@ -2,8 +2,8 @@
 use mathlib.Core.Path.{ap, _∙_}
 use borrow.Author.Needs.{needs}
 use Rattle.field.specs.Field.{el, el-neg}
-use Rattle.value.proofs.neg.Statement.{statement}
-use Rattle.value.proofs.neg.Tie as tie
+use Rattle.leaves.proofs.neg.Statement.{statement}
+use Rattle.leaves.proofs.neg.Tie as tie
 
 neg-u64-requires : tie.Need-neg-u64-requires
 neg-u64-requires c κs = search needs

@@ -2,8 +2,8 @@
 use mathlib.Core.Path.{ap, _∙_}
 use borrow.Author.Needs.{needs}
 use Rattle.field.specs.Field.{el, el-add}
-use Rattle.value.proofs.add.Statement.{statement}
-use Rattle.value.proofs.add.Tie as tie
+use Rattle.leaves.proofs.add.Statement.{statement}
+use Rattle.leaves.proofs.add.Tie as tie
 
 add-u64-requires : tie.Need-add-u64-requires
 add-u64-requires c κs = search needs

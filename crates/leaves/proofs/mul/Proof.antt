@@ -2,8 +2,8 @@
 use mathlib.Core.Path.{ap, _∙_}
 use borrow.Author.Needs.{needs}
 use Rattle.field.specs.Field.{el, el-mul}
-use Rattle.value.proofs.mul.Statement.{statement}
-use Rattle.value.proofs.mul.Tie as tie
+use Rattle.leaves.proofs.mul.Statement.{statement}
+use Rattle.leaves.proofs.mul.Tie as tie
 
 mul-u64-requires : tie.Need-mul-u64-requires
 mul-u64-requires c κs = search needs

@@ -6,8 +6,8 @@ use Rattle.expression.specs.Reader.{polysOf, Small}
 use Rattle.expression.specs.Point.{polyValue}
 use Rattle.expression.specs.declared.poly.Layout.{Layout}
 use borrow.Author.Needs.{needs}
-use Rattle.value.proofs.query.Statement.{statement}
-use Rattle.value.proofs.query.Tie as tie
+use Rattle.leaves.proofs.query.Statement.{statement}
+use Rattle.leaves.proofs.query.Tie as tie
 
 layout-of-requires : tie.Need-layout-of-requires
 layout-of-requires c κs = search needs
