@@ -2,28 +2,19 @@
 // the wearer's sheet to the knee.
 use crate::bounds::after;
 use crate::say;
-use crate::text::start;
-use crate::text::take_bytes;
-use crate::text::take_end;
 use contents::word;
-
-// Puts the words of a text into an array, as those of a file are.
-fn fill(text: &[u8], words: &mut [u64]) {
-    let scan = take_bytes(start(), text, words);
-    take_end(scan, words);
-}
 
 // Polynomials: 0 the approved table, 1 the readings, 2 the sheet's settings, 3 the knee's. The lookup is polynomial 1 in 0; the
 // cycles are (2, row 1), (3, row 3) and (2, row 2), (3, row 5).
 fn fill_circuit(words: &mut [u64]) {
-    fill(
+    decimal::read(
         b"3 0 20 0 20 1 28 1 30 2 38 0 38 1 39 1 41 2 43 4 57 58 59 60 60 61 62 63 3 0 5 1 0 2147483648 5 0 0 2147483648 1 0 1 2 2 2 1 3 3 2 2 3 5",
         words,
     );
 }
 
 fn fill_witness(words: &mut [u64]) {
-    fill(
+    decimal::read(
         b"60 59 60 61 60 58 60 62 0 37 12 0 0 0 0 0 0 0 0 37 0 12 0 0",
         words,
     );

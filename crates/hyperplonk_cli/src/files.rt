@@ -1,18 +1,20 @@
 // Files of words, read and written.
 use crate::say;
-use crate::text::NO_NUMBER;
-use crate::text::NOTHING;
-use crate::text::Scan;
-use crate::text::TOO_LARGE;
-use crate::text::TOO_MANY;
-use crate::text::UNREADABLE;
-use crate::text::start;
-use crate::text::stop;
-use crate::text::take_bytes;
-use crate::text::take_end;
+use decimal::NO_NUMBER;
+use decimal::NOTHING;
+use decimal::Scan;
+use decimal::TOO_LARGE;
+use decimal::TOO_MANY;
+use decimal::start;
+use decimal::stop;
+use decimal::take_bytes;
+use decimal::take_end;
 ghost use mathlib.Core.Path.{_≡_};
 ghost use Prim.Native.Nat.{_≤_};
 ghost use lib.ListN.{length};
+
+// What is wrong with a file besides what may be wrong with its text.
+const UNREADABLE: u64 = 4;
 
 // How many words were read, and whether the file is one of words.
 pub struct Got {

@@ -12,7 +12,6 @@ mod nodes;
 mod question;
 mod say;
 mod shape;
-mod text;
 mod usage;
 mod values;
 mod write_out;
