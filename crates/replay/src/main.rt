@@ -5,7 +5,10 @@
 // number or buffer is another.
 use libc::STDOUT_FILENO;
 use slices::kept;
+use slices::number_at;
 use slices::number_then_zeros;
+use slices::slice_at;
+use slices::word;
 use slices::zeroed;
 use text::after_line;
 use text::is_line;
@@ -18,46 +21,32 @@ mod text;
 // The calls: build 0, row_sum 1, lookup_m_poly 2, lookup_h_poly 3, eq_xy 4.
 const CALLS: usize = 5;
 
-// How many slices are lent, from which on they are buffers, how many words come back, and the lines of a block.
-struct Shape {
-    lent: usize,
-    buffers: usize,
-    returned: u64,
-    lines: usize,
+// The lines of a block: the lent slices, what comes back, the buffers after.
+fn lines_of(call: usize) -> usize {
+    match call {
+        0 => 9,
+        1 => 7,
+        2 => 6,
+        3 => 8,
+        _ => 5,
+    }
 }
 
-fn shape_of(call: usize) -> Shape {
+// Where the line of what comes back stands.
+fn returned_at(call: usize, starts: &[usize; 9]) -> usize {
     match call {
-        0 => Shape {
-            lent: 6,
-            buffers: 4,
-            returned: 4,
-            lines: 9,
-        },
-        1 => Shape {
-            lent: 6,
-            buffers: 6,
-            returned: 2,
-            lines: 7,
-        },
-        2 => Shape {
-            lent: 4,
-            buffers: 3,
-            returned: 1,
-            lines: 6,
-        },
-        3 => Shape {
-            lent: 6,
-            buffers: 5,
-            returned: 1,
-            lines: 8,
-        },
-        _ => Shape {
-            lent: 3,
-            buffers: 2,
-            returned: 1,
-            lines: 5,
-        },
+        2 => starts[4],
+        4 => starts[3],
+        _ => starts[6],
+    }
+}
+
+// How many words come back.
+fn returned_words(call: usize) -> usize {
+    match call {
+        0 => 4,
+        1 => 2,
+        _ => 1,
     }
 }
 
@@ -81,41 +70,46 @@ fn call_at(text: &[u8], at: usize) -> usize {
     CALLS
 }
 
-// How many words of a buffer a success writes: the building call says so, a stage writes 2^k.
-fn written(call: usize, is_nodes: bool, words: &[u64], returned: usize, k: u64) -> u64 {
-    if call == 0 {
-        if returned >= words.len() {
-            return 0;
-        }
-        if words.len() - returned < 4 {
-            return 0;
-        }
-        if is_nodes {
-            let nodes = words[returned + 3];
-            if nodes > 100000 {
-                return 0;
-            }
-            return 4 * nodes;
-        }
-        return words[returned + 2];
+// Is the buffer at b what the one at a may become under this number, which is 0 where so many words were written?
+fn is_after(words: &[u64], a: usize, b: usize, number: u64, is_nodes: bool, written: u64) -> bool {
+    let before = slice_at(words, a);
+    let after = slice_at(words, b);
+    if number == 0 {
+        return kept(before, after, written);
     }
-    if k > 10 {
-        return 0;
+    if (number == 15) & !is_nodes {
+        return zeroed(before, after);
     }
-    1 << k
+    kept(before, after, 0)
 }
 
-// Is the buffer at b what the one at a may become under this number?
-fn is_after(words: &[u64], a: usize, b: usize, number: u64, is_nodes: bool, written: u64) -> bool {
-    if number == 0 {
-        return kept(words, a, b, written);
+// A stage writes 2^k words.
+fn is_stage_after(words: &[u64], a: usize, b: usize, number: u64, k: u64) -> bool {
+    if k > 10 {
+        return is_after(words, a, b, number, false, 0);
     }
-    if number == 15 {
-        if !is_nodes {
-            return zeroed(words, a, b);
-        }
+    is_after(words, a, b, number, false, 1 << k)
+}
+
+// The building call says how many column words and nodes it writes.
+fn are_built_after(words: &[u64], starts: &[usize; 9], number: u64) -> bool {
+    let returned = slice_at(words, starts[6]);
+    let columns = word(returned, 1);
+    let nodes = word(returned, 2);
+    let right = is_after(words, starts[4], starts[7], number, false, columns);
+    right & is_after(words, starts[5], starts[8], number, true, nodes << 2)
+}
+
+// Are the buffers what they may become under this number?
+fn buffers_right(call: usize, words: &[u64], starts: &[usize; 9], number: u64) -> bool {
+    let k = number_at(words, starts[0]);
+    match call {
+        0 => are_built_after(words, starts, number),
+        1 => true,
+        2 => is_stage_after(words, starts[3], starts[5], number, k),
+        3 => is_stage_after(words, starts[5], starts[7], number, k),
+        _ => is_stage_after(words, starts[2], starts[4], number, k),
     }
-    kept(words, a, b, 0)
 }
 
 // What a block shows.
@@ -125,61 +119,22 @@ const DONE: u64 = 1;
 
 const REFUSED: u64 = 2;
 
-fn judge(call: usize, words: &[u64], starts: &[usize]) -> u64 {
-    let shape = shape_of(call);
-    let lent = shape.lent;
-    let buffers = shape.buffers;
-    if starts.len() < 9 {
+fn judge(call: usize, words: &[u64], starts: &[usize; 9]) -> u64 {
+    let returned = slice_at(words, returned_at(call, starts));
+    let number = word(returned, 0);
+    if returned.len() != returned_words(call) {
         return WRONG;
     }
-    if lent > 6 {
+    if !buffers_right(call, words, starts, number) {
         return WRONG;
-    }
-    let returned = starts[lent];
-    if returned >= words.len() {
-        return WRONG;
-    }
-    if words.len() - returned < 2 {
-        return WRONG;
-    }
-    if words[returned] != shape.returned {
-        return WRONG;
-    }
-    let number = words[returned + 1];
-    let k = words[1];
-    if buffers < lent {
-        let most = written(call, false, words, returned, k);
-        if !is_after(
-            words,
-            starts[buffers],
-            starts[lent + 1],
-            number,
-            false,
-            most,
-        ) {
-            return WRONG;
-        }
-        if buffers + 1 < lent {
-            let most = written(call, true, words, returned, k);
-            if !is_after(
-                words,
-                starts[buffers + 1],
-                starts[lent + 2],
-                number,
-                true,
-                most,
-            ) {
-                return WRONG;
-            }
-        }
     }
     if number == 0 {
         return DONE;
     }
-    if !number_then_zeros(words, returned, shape.returned) {
-        return WRONG;
+    if number_then_zeros(returned) {
+        return REFUSED;
     }
-    REFUSED
+    WRONG
 }
 
 // How a call made again answers.
@@ -193,23 +148,15 @@ fn held(same: bool) -> u64 {
     if same { SAME } else { DIFFERS }
 }
 
-fn made_again(call: usize, words: &[u64], starts: &[usize], room: &mut [u64]) -> u64 {
-    if call == 0 {
-        return held(again::build(words, starts, room));
+fn made_again(call: usize, words: &[u64], starts: &[usize; 9], room: &mut [u64]) -> u64 {
+    match call {
+        0 => held(again::build(words, starts, room)),
+        1 => held(again::row_sum(words, starts)),
+        2 => held(again::lookup_m_poly(words, starts, room)),
+        3 => held(again::lookup_h_poly(words, starts, room)),
+        4 => held(again::eq_xy(words, starts, room)),
+        _ => NOT_MADE,
     }
-    if call == 1 {
-        return held(again::row_sum(words, starts));
-    }
-    if call == 2 {
-        return held(again::lookup_m_poly(words, starts, room));
-    }
-    if call == 3 {
-        return held(again::lookup_h_poly(words, starts, room));
-    }
-    if call == 4 {
-        return held(again::eq_xy(words, starts, room));
-    }
-    NOT_MADE
 }
 
 // Counts one more at a place, if that is so: blocks by call, refusals by call from 5 on, calls made again from 10 on, at 15
@@ -257,50 +204,65 @@ fn count_block(counts: &mut [u64], call: usize, shown: u64, made: u64) {
     }
 }
 
-// Takes a line of the head, an empty line or a block; answers the place after it, or the text's end where no block is.
-fn turn(
-    text: &[u8],
-    at: usize,
-    words: &mut [u64],
-    starts: &mut [usize],
+// Counts a block that is not right; answers the text's end.
+fn not_right(text: &[u8], counts: &mut [u64]) -> usize {
+    count(counts, true, 17);
+    text.len()
+}
+
+// Looks at a block that was read, and makes its call again.
+fn look(
+    call: usize,
+    words: &[u64],
+    starts: &[usize; 9],
     room: &mut [u64],
     counts: &mut [u64],
-) -> usize {
-    if at >= text.len() {
-        return at;
-    }
-    if text[at] == b'#' {
-        return after_line(text, at);
-    }
-    if text[at] == b'\n' {
-        return at + 1;
-    }
-    let call = call_at(text, at);
-    let shape = shape_of(call);
-    let read = read_block(text, after_line(text, at), shape.lines, words, starts);
-    let mut shown = WRONG;
-    if call < CALLS && read.good {
-        shown = judge(call, words, starts);
-    }
+) -> bool {
+    let shown = judge(call, words, starts);
     if shown == WRONG {
-        count(counts, true, 17);
-        return text.len();
+        return false;
     }
     let made = made_again(call, words, starts, room);
     count_block(counts, call, shown, made);
-    read.next
+    true
 }
 
-fn all_turns(
-    text: &[u8],
-    words: &mut [u64],
-    starts: &mut [usize],
-    room: &mut [u64],
-    counts: &mut [u64],
-) {
+// Takes a block; answers the place after it, or the text's end where none is.
+fn block(text: &[u8], at: usize, words: &mut [u64], room: &mut [u64], counts: &mut [u64]) -> usize {
+    let mut starts = [0usize; 9];
+    let call = call_at(text, at);
+    let read = read_block(
+        text,
+        after_line(text, at),
+        lines_of(call),
+        words,
+        &mut starts,
+    );
+    if (call >= CALLS) | !read.good {
+        return not_right(text, counts);
+    }
+    if look(call, words, &starts, room, counts) {
+        return read.next;
+    }
+    not_right(text, counts)
+}
+
+// Takes a line of the head, an empty line or a block; answers the place after it.
+fn turn(text: &[u8], at: usize, words: &mut [u64], room: &mut [u64], counts: &mut [u64]) -> usize {
+    if at >= text.len() {
+        return at;
+    }
+    match text[at] {
+        b'#' => after_line(text, at),
+        b'\n' => at + 1,
+        _ => block(text, at, words, room, counts),
+    }
+}
+
+fn all_turns(text: &[u8], words: &mut [u64], room: &mut [u64], counts: &mut [u64]) {
     let mut at: usize = 0;
     while at < text.len() {
-        let next = turn(text, at, words, starts, room, counts);
+        let next = turn(text, at, words, room, counts);
         if next <= at {
             return;
         }
@@ -308,26 +270,49 @@ fn all_turns(
     }
 }
 
+// The blocks of a call, the refusals among them, and the calls made again.
+fn print_call(name: &[u8], counts: &[u64], call: usize) {
+    if call < CALLS {
+        print_count(name, counts, call);
+        print_count(b", refused ", counts, 5 + call);
+        print_count(b", replayed ", counts, 10 + call);
+    }
+}
+
 fn print_counts(counts: &[u64]) {
-    print_count(b"build ", counts, 0);
-    print_count(b", refused ", counts, 5);
-    print_count(b", replayed ", counts, 10);
-    print_count(b"\nrow_sum ", counts, 1);
-    print_count(b", refused ", counts, 6);
-    print_count(b", replayed ", counts, 11);
-    print_count(b"\nlookup_m_poly ", counts, 2);
-    print_count(b", refused ", counts, 7);
-    print_count(b", replayed ", counts, 12);
-    print_count(b"\nlookup_h_poly ", counts, 3);
-    print_count(b", refused ", counts, 8);
-    print_count(b", replayed ", counts, 13);
-    print_count(b"\neq_xy ", counts, 4);
-    print_count(b", refused ", counts, 9);
-    print_count(b", replayed ", counts, 14);
+    print_call(b"build ", counts, 0);
+    print_call(b"\nrow_sum ", counts, 1);
+    print_call(b"\nlookup_m_poly ", counts, 2);
+    print_call(b"\nlookup_h_poly ", counts, 3);
+    print_call(b"\neq_xy ", counts, 4);
+}
+
+fn print_rest(counts: &[u64]) {
     print_count(b"\nnot replayed ", counts, 15);
     print_count(b"\ndiffer ", counts, 16);
     print_count(b"\nnot right ", counts, 17);
     io::write_all(STDOUT_FILENO, b"\n");
+}
+
+fn replay(text: &[u8]) {
+    let mut words = [0u64; 8192];
+    let mut room = [0u64; 8192];
+    let mut counts = [0u64; 18];
+    all_turns(text, &mut words, &mut room, &mut counts);
+    print_counts(&counts);
+    print_rest(&counts);
+}
+
+// Room for the text.
+fn room() -> [u8; 400000] {
+    [0; 400000]
+}
+
+fn replay_file(fd: i32) {
+    let mut text = room();
+    let n = io::read_full(fd, &mut text);
+    libc::close(fd);
+    replay(&text[..n]);
 }
 
 fn main() {
@@ -338,13 +323,5 @@ fn main() {
         os::fail(&path[..length]);
         return;
     }
-    let mut text = [0u8; 400000];
-    let n = io::read_full(fd, &mut text);
-    libc::close(fd);
-    let mut words = [0u64; 8192];
-    let mut starts = [0usize; 9];
-    let mut room = [0u64; 8192];
-    let mut counts = [0u64; 18];
-    all_turns(&text[..n], &mut words, &mut starts, &mut room, &mut counts);
-    print_counts(&counts);
+    replay_file(fd);
 }

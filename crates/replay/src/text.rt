@@ -44,7 +44,7 @@ pub fn read_block(
     at: usize,
     lines: usize,
     words: &mut [u64],
-    starts: &mut [usize],
+    starts: &mut [usize; 9],
 ) -> Line {
     let mut i = at;
     let mut from: usize = 0;
@@ -64,7 +64,7 @@ pub fn read_block(
         if words[from] != (end - from - 1) as u64 {
             return bad_line();
         }
-        if j >= starts.len() {
+        if j >= 9 {
             return bad_line();
         }
         starts[j] = from;

@@ -1,16 +1,16 @@
--- `replay::all_turns` is safe and ends. The lent slices keep their lengths; the measure is what is left. Assumes nothing.
-use Prim.Native.Nat.{_-_}
+-- `all_turns` is safe and ends. The lent slices keep their lengths; the measure is what is left. Assumes nothing.
 use mathlib.Core.Path.{_≡_}
-use borrow.Author.Needs.{needs}
+use Prim.Native.Nat.{_-_}
 use lib.ListN.{length}
+use borrow.Author.Needs.{needs}
 use Rattle.replay.proofs.all_turns.Statement.{statement}
 use Rattle.replay.proofs.all_turns.Tie as tie
 
 abbrev Inv-loop : tie.InvT-loop
-Inv-loop text words₀ starts₀ room₀ counts₀ at₀ words starts room counts at = (length words ≡ length words₀) × (length starts ≡ length starts₀) × (length room ≡ length room₀) × (length counts ≡ length counts₀)
+Inv-loop text words₀ room₀ counts₀ at₀ words room counts at = (length words ≡ length words₀) × (length room ≡ length room₀) × (length counts ≡ length counts₀)
 
 abbrev μ-loop : tie.MeasureT-loop
-μ-loop text words₀ starts₀ room₀ counts₀ at₀ words starts room counts at = length text - at
+μ-loop text words₀ room₀ counts₀ at₀ words room counts at = length text - at
 
 loop-holds : tie.Need-loop-holds Inv-loop μ-loop
 loop-holds c = search needs
@@ -27,9 +27,6 @@ same-length-2 c = search needs
 same-length-3 : tie.Need-same-length-3 Inv-loop μ-loop
 same-length-3 c = search needs
 
-same-length-4 : tie.Need-same-length-4 Inv-loop μ-loop
-same-length-4 c = search needs
-
 returns : tie.Need-returns Inv-loop μ-loop
 returns c = search needs
 
@@ -39,17 +36,14 @@ loop-less c = search needs
 loop-again : tie.Need-loop-again Inv-loop μ-loop
 loop-again c = search needs
 
+same-length-4 : tie.Need-same-length-4 Inv-loop μ-loop
+same-length-4 c = search needs
+
 same-length-5 : tie.Need-same-length-5 Inv-loop μ-loop
 same-length-5 c = search needs
 
 same-length-6 : tie.Need-same-length-6 Inv-loop μ-loop
 same-length-6 c = search needs
-
-same-length-7 : tie.Need-same-length-7 Inv-loop μ-loop
-same-length-7 c = search needs
-
-same-length-8 : tie.Need-same-length-8 Inv-loop μ-loop
-same-length-8 c = search needs
 
 returns-2 : tie.Need-returns-2 Inv-loop μ-loop
 returns-2 c = search needs
@@ -65,12 +59,10 @@ all-turns-spec =
     same-length
     same-length-2
     same-length-3
-    same-length-4
     returns
     loop-less
     loop-again
+    same-length-4
     same-length-5
     same-length-6
-    same-length-7
-    same-length-8
     returns-2)

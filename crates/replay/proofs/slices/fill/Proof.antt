@@ -1,4 +1,4 @@
--- `replay::fill` is safe and ends. The count stays within the slice's length. Assumes nothing.
+-- `fill` is safe and ends. The count stays within the slice's length. Assumes nothing.
 use mathlib.Core.Path.{_≡_}
 use Prim.Native.Nat.{_≤_, _-_}
 use lib.ListN.{length}
@@ -7,25 +7,16 @@ use Rattle.replay.proofs.slices.fill.Statement.{statement}
 use Rattle.replay.proofs.slices.fill.Tie as tie
 
 abbrev Inv-loop : tie.InvT-loop
-Inv-loop words at room₀ start end n i₀ room i = (i ≤ n) × (length room ≡ length room₀)
+Inv-loop slice room₀ n i₀ room i = (i ≤ n) × (length room ≡ length room₀)
 
 abbrev μ-loop : tie.MeasureT-loop
-μ-loop words at room₀ start end n i₀ room i = n - i
-
-part-at-requires : tie.Need-part-at-requires Inv-loop μ-loop
-part-at-requires c κs = search needs
-
-sub-n : tie.Need-sub-n Inv-loop μ-loop
-sub-n c = search needs
+μ-loop slice room₀ n i₀ room i = n - i
 
 returns : tie.Need-returns Inv-loop μ-loop
 returns c = search needs
 
 loop-holds : tie.Need-loop-holds Inv-loop μ-loop
 loop-holds c = search needs
-
-add-room : tie.Need-add-room Inv-loop μ-loop
-add-room c = search needs
 
 mul-room : tie.Need-mul-room Inv-loop μ-loop
 mul-room c = search needs
@@ -60,11 +51,8 @@ fill-spec =
     (tie.spec
     Inv-loop
     μ-loop
-    part-at-requires
-    sub-n
     returns
     loop-holds
-    add-room
     mul-room
     shared-slice-read-room
     mul-room-2

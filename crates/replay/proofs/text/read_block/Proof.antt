@@ -1,14 +1,13 @@
--- `replay::read_block` is safe and ends. The lent slices keep their lengths; the measure is what is left. Assumes nothing.
-use Prim.Native.Nat.{_-_}
+-- `read_block` is safe and ends. The words keep their length; the measure is what is left. Assumes nothing.
 use mathlib.Core.Path.{_≡_}
+use Prim.Native.Nat.{_-_}
+use lib.ListN.{length}
 use borrow.Author.Needs.{needs}
-use native.Mathlib.Omega.{arith}
-use lib.ListN.{length, length-set}
 use Rattle.replay.proofs.text.read_block.Statement.{statement}
 use Rattle.replay.proofs.text.read_block.Tie as tie
 
 abbrev Inv-loop : tie.InvT-loop
-Inv-loop text at lines words₀ starts₀ i₀ from₀ j₀ words starts i from j = (length words ≡ length words₀) × (length starts ≡ length starts₀)
+Inv-loop text at lines words₀ starts₀ i₀ from₀ j₀ words starts i from j = length words ≡ length words₀
 
 abbrev μ-loop : tie.MeasureT-loop
 μ-loop text at lines words₀ starts₀ i₀ from₀ j₀ words starts i from j = lines - j
@@ -25,20 +24,14 @@ bad-line-requires c κs = search needs
 same-length : tie.Need-same-length Inv-loop μ-loop
 same-length c = search needs
 
-same-length-2 : tie.Need-same-length-2 Inv-loop μ-loop
-same-length-2 c = search needs
-
 returns : tie.Need-returns Inv-loop μ-loop
 returns c = search needs
 
 bad-line-requires-2 : tie.Need-bad-line-requires-2 Inv-loop μ-loop
 bad-line-requires-2 c κs = search needs
 
-same-length-3 : tie.Need-same-length-3 Inv-loop μ-loop
-same-length-3 c = search needs
-
-same-length-4 : tie.Need-same-length-4 Inv-loop μ-loop
-same-length-4 c = search needs
+same-length-2 : tie.Need-same-length-2 Inv-loop μ-loop
+same-length-2 c = search needs
 
 returns-2 : tie.Need-returns-2 Inv-loop μ-loop
 returns-2 c = search needs
@@ -46,11 +39,8 @@ returns-2 c = search needs
 bad-line-requires-3 : tie.Need-bad-line-requires-3 Inv-loop μ-loop
 bad-line-requires-3 c κs = search needs
 
-same-length-5 : tie.Need-same-length-5 Inv-loop μ-loop
-same-length-5 c = search needs
-
-same-length-6 : tie.Need-same-length-6 Inv-loop μ-loop
-same-length-6 c = search needs
+same-length-3 : tie.Need-same-length-3 Inv-loop μ-loop
+same-length-3 c = search needs
 
 returns-3 : tie.Need-returns-3 Inv-loop μ-loop
 returns-3 c = search needs
@@ -70,11 +60,8 @@ sub-if4-2 c = search needs
 bad-line-requires-4 : tie.Need-bad-line-requires-4 Inv-loop μ-loop
 bad-line-requires-4 c κs = search needs
 
-same-length-7 : tie.Need-same-length-7 Inv-loop μ-loop
-same-length-7 c = search needs
-
-same-length-8 : tie.Need-same-length-8 Inv-loop μ-loop
-same-length-8 c = search needs
+same-length-4 : tie.Need-same-length-4 Inv-loop μ-loop
+same-length-4 c = search needs
 
 returns-4 : tie.Need-returns-4 Inv-loop μ-loop
 returns-4 c = search needs
@@ -82,11 +69,8 @@ returns-4 c = search needs
 bad-line-requires-5 : tie.Need-bad-line-requires-5 Inv-loop μ-loop
 bad-line-requires-5 c κs = search needs
 
-same-length-9 : tie.Need-same-length-9 Inv-loop μ-loop
-same-length-9 c = search needs
-
-same-length-10 : tie.Need-same-length-10 Inv-loop μ-loop
-same-length-10 c = search needs
+same-length-5 : tie.Need-same-length-5 Inv-loop μ-loop
+same-length-5 c = search needs
 
 returns-5 : tie.Need-returns-5 Inv-loop μ-loop
 returns-5 c = search needs
@@ -94,8 +78,8 @@ returns-5 c = search needs
 mul-starts : tie.Need-mul-starts Inv-loop μ-loop
 mul-starts c = search needs
 
-slice-write-starts : tie.Need-slice-write-starts Inv-loop μ-loop
-slice-write-starts c = search needs
+element-write-starts : tie.Need-element-write-starts Inv-loop μ-loop
+element-write-starts c = search needs
 
 add-j : tie.Need-add-j Inv-loop μ-loop
 add-j c = search needs
@@ -104,13 +88,10 @@ loop-less : tie.Need-loop-less Inv-loop μ-loop
 loop-less c = search needs
 
 loop-again : tie.Need-loop-again Inv-loop μ-loop
-loop-again c = simp length-set (omega arith)
+loop-again c = search needs
 
-same-length-11 : tie.Need-same-length-11 Inv-loop μ-loop
-same-length-11 c = search needs
-
-same-length-12 : tie.Need-same-length-12 Inv-loop μ-loop
-same-length-12 c = search needs
+same-length-6 : tie.Need-same-length-6 Inv-loop μ-loop
+same-length-6 c = search needs
 
 returns-6 : tie.Need-returns-6 Inv-loop μ-loop
 returns-6 c = search needs
@@ -125,33 +106,27 @@ read-block-spec =
     read-line-requires
     bad-line-requires
     same-length
-    same-length-2
     returns
     bad-line-requires-2
-    same-length-3
-    same-length-4
+    same-length-2
     returns-2
     bad-line-requires-3
-    same-length-5
-    same-length-6
+    same-length-3
     returns-3
     mul-if4
     slice-read-if4
     sub-if4
     sub-if4-2
     bad-line-requires-4
-    same-length-7
-    same-length-8
+    same-length-4
     returns-4
     bad-line-requires-5
-    same-length-9
-    same-length-10
+    same-length-5
     returns-5
     mul-starts
-    slice-write-starts
+    element-write-starts
     add-j
     loop-less
     loop-again
-    same-length-11
-    same-length-12
+    same-length-6
     returns-6)
