@@ -1,15 +1,15 @@
 // build and check, over files. Each function reads one file and hands its words on.
-use crate::explain::refusal;
 use crate::files::open_out;
 use crate::files::read;
-use crate::question;
-use crate::say;
 use crate::shape::Shape;
 use crate::shape::shape_of;
-use crate::values::build_values;
-use crate::values::sum_values;
 use crate::write_out::write_out;
-use libc::STDERR_FILENO;
+use messages::question;
+use messages::refusal::refusal;
+use messages::say;
+use messages::values::Needed;
+use messages::values::build_values;
+use messages::values::sum_values;
 ghost use Prim.Native.Nat.{_≤_};
 ghost use lib.ListN.{length};
 
@@ -49,7 +49,7 @@ fn build_words(
     say::out(b"building\n");
     let built = hyperplonk::build(circuit, instance, witness, challenges, columns, nodes);
     if built.number != 0 {
-        question::say(STDERR_FILENO, built.number);
+        question::answered_no(built.number);
         build_values(
             circuit,
             instance,
@@ -160,8 +160,13 @@ fn check_words(
         refusal(circuit, sum.number);
         return;
     }
-    question::say(STDERR_FILENO, sum.number);
-    sum_values(circuit, witness, columns, nodes, challenges, y, s);
+    question::answered_no(sum.number);
+    let needed = Needed {
+        columns: s.column_words,
+        nodes: s.nodes,
+        user: s.user,
+    };
+    sum_values(circuit, witness, columns, nodes, challenges, y, needed);
 }
 
 fn check_parts(circuit: &[u64], witness: &[u64], built: &[u64], challenges: &[u64], y: &[u64]) {

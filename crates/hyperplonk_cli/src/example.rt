@@ -1,8 +1,7 @@
 // A small log of its own, k = 3: readings looked up in an approved table that lists a row twice, and two settings copied from
 // the wearer's sheet to the knee.
-use crate::bounds::after;
-use crate::say;
 use contents::word;
+use messages::say;
 
 // Polynomials: 0 the approved table, 1 the readings, 2 the sheet's settings, 3 the knee's. The lookup is polynomial 1 in 0; the
 // cycles are (2, row 1), (3, row 3) and (2, row 2), (3, row 5).
@@ -18,6 +17,11 @@ fn fill_witness(words: &mut [u64]) {
         b"60 59 60 61 60 58 60 62 0 37 12 0 0 0 0 0 0 0 0 37 0 12 0 0",
         words,
     );
+}
+
+// A place some words on.
+fn after(at: usize, words: usize) -> usize {
+    std::num::wrapping_add_usize(at, words)
 }
 
 // Where m, h and z begin in the columns: after two permutation and two compressed columns.

@@ -1,5 +1,4 @@
 // Files of words, read and written.
-use crate::say;
 use decimal::NO_NUMBER;
 use decimal::NOTHING;
 use decimal::Scan;
@@ -9,6 +8,7 @@ use decimal::start;
 use decimal::stop;
 use decimal::take_bytes;
 use decimal::take_end;
+use messages::say;
 ghost use mathlib.Core.Path.{_≡_};
 ghost use Prim.Native.Nat.{_≤_};
 ghost use lib.ListN.{length};

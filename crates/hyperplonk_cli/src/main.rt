@@ -1,19 +1,12 @@
 // The command-line program, for the bench: it builds the columns and nodes of a log over files, runs the row sum on what was
 // built, and says in words what a circuit has, or why it is refused. With no argument it runs on a small log of its own.
 // A message goes to standard error; run, beside src/, makes an exit status of it.
-mod bounds;
-mod cells;
 mod commands;
 mod example;
 mod explain;
-mod fault;
 mod files;
-mod nodes;
-mod question;
-mod say;
 mod shape;
 mod usage;
-mod values;
 mod write_out;
 
 use check::same;
@@ -45,12 +38,32 @@ fn command(arguments: usize) -> u64 {
 
 // The sizes are those of document 01's limits: 8 instance columns of 1023 values and 32 witness columns of 1024; 184 columns
 // of 1024 words and 11,295 nodes; a file of what was built has both.
+fn circuit_room() -> [u64; 60000] {
+    [0; 60000]
+}
+
+fn instance_room() -> [u64; 8184] {
+    [0; 8184]
+}
+
+fn witness_room() -> [u64; 32768] {
+    [0; 32768]
+}
+
+fn column_room() -> [u64; 233596] {
+    [0; 233596]
+}
+
+fn node_room() -> [u64; 45180] {
+    [0; 45180]
+}
+
 fn over_files(command: u64) {
-    let mut circuit = [0u64; 60000];
-    let mut instance = [0u64; 8184];
-    let mut witness = [0u64; 32768];
-    let mut columns = [0u64; 233596];
-    let mut nodes = [0u64; 45180];
+    let mut circuit = circuit_room();
+    let mut instance = instance_room();
+    let mut witness = witness_room();
+    let mut columns = column_room();
+    let mut nodes = node_room();
     if command == EXPLAIN {
         commands::explain(&mut circuit);
         return;

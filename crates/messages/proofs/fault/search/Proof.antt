@@ -1,14 +1,14 @@
--- `sum_of` is safe and ends. The measure is the words left. Assumes nothing.
+-- `search` is safe and ends. The measure is the entries left. Assumes nothing.
 use Prim.Native.Nat.{_-_}
 use borrow.Author.Needs.{needs}
-use Rattle.hyperplonk_cli.proofs.bounds.sum_of.Statement.{statement}
-use Rattle.hyperplonk_cli.proofs.bounds.sum_of.Tie as tie
+use Rattle.messages.proofs.fault.search.Statement.{statement}
+use Rattle.messages.proofs.fault.search.Tie as tie
 
 abbrev Inv-loop : tie.InvT-loop
-Inv-loop circuit start step count turns sum₀ at₀ j₀ sum at j = Unit {0}
+Inv-loop circuit what b start size count turns at₀ j₀ at j = Unit {0}
 
 abbrev μ-loop : tie.MeasureT-loop
-μ-loop circuit start step count turns sum₀ at₀ j₀ sum at j = turns - j
+μ-loop circuit what b start size count turns at₀ j₀ at j = turns - j
 
 at-most-all-requires : tie.Need-at-most-all-requires Inv-loop μ-loop
 at-most-all-requires c κs = search needs
@@ -16,11 +16,11 @@ at-most-all-requires c κs = search needs
 loop-holds : tie.Need-loop-holds Inv-loop μ-loop
 loop-holds c = search needs
 
-word-requires : tie.Need-word-requires Inv-loop μ-loop
-word-requires c κs = search needs
+entry-fault-requires : tie.Need-entry-fault-requires Inv-loop μ-loop
+entry-fault-requires c κs = search needs
 
-wrapping-add-u64-requires : tie.Need-wrapping-add-u64-requires Inv-loop μ-loop
-wrapping-add-u64-requires c κs = search needs
+returns : tie.Need-returns Inv-loop μ-loop
+returns c = search needs
 
 after-requires : tie.Need-after-requires Inv-loop μ-loop
 after-requires c κs = search needs
@@ -34,21 +34,21 @@ loop-less c = search needs
 loop-again : tie.Need-loop-again Inv-loop μ-loop
 loop-again c = search needs
 
-returns : tie.Need-returns Inv-loop μ-loop
-returns c = search needs
+returns-2 : tie.Need-returns-2 Inv-loop μ-loop
+returns-2 c = search needs
 
-pub sum-of-spec : {M : Type 1} → statement M
-sum-of-spec =
+pub search-spec : {M : Type 1} → statement M
+search-spec =
     tie.close
     (tie.spec
     Inv-loop
     μ-loop
     at-most-all-requires
     loop-holds
-    word-requires
-    wrapping-add-u64-requires
+    entry-fault-requires
+    returns
     after-requires
     add-j
     loop-less
     loop-again
-    returns)
+    returns-2)

@@ -1,8 +1,8 @@
 -- `start_fault` is safe and ends. The measure is the sections left. Assumes nothing.
 use Prim.Native.Nat.{_≤_, _-_}
 use borrow.Author.Needs.{needs}
-use Rattle.hyperplonk_cli.proofs.fault.start_fault.Statement.{statement}
-use Rattle.hyperplonk_cli.proofs.fault.start_fault.Tie as tie
+use Rattle.messages.proofs.fault.start_fault.Statement.{statement}
+use Rattle.messages.proofs.fault.start_fault.Tie as tie
 
 abbrev Inv-loop : tie.InvT-loop
 Inv-loop circuit k right₀ at₀ s₀ right at s = s ≤ 9

@@ -1,20 +1,23 @@
--- `times_named` is safe and ends. The measure is the nodes left. Assumes nothing.
+-- `sum_of` is safe and ends. The measure is the words left. Assumes nothing.
 use Prim.Native.Nat.{_-_}
 use borrow.Author.Needs.{needs}
-use Rattle.hyperplonk_cli.proofs.nodes.times_named.Statement.{statement}
-use Rattle.hyperplonk_cli.proofs.nodes.times_named.Tie as tie
+use Rattle.messages.proofs.bounds.sum_of.Statement.{statement}
+use Rattle.messages.proofs.bounds.sum_of.Tie as tie
 
 abbrev Inv-loop : tie.InvT-loop
-Inv-loop circuit start count n times₀ at₀ j₀ times at j = Unit {0}
+Inv-loop circuit start step count turns sum₀ at₀ j₀ sum at j = Unit {0}
 
 abbrev μ-loop : tie.MeasureT-loop
-μ-loop circuit start count n times₀ at₀ j₀ times at j = count - j
+μ-loop circuit start step count turns sum₀ at₀ j₀ sum at j = turns - j
+
+at-most-all-requires : tie.Need-at-most-all-requires Inv-loop μ-loop
+at-most-all-requires c κs = search needs
 
 loop-holds : tie.Need-loop-holds Inv-loop μ-loop
 loop-holds c = search needs
 
-names-requires : tie.Need-names-requires Inv-loop μ-loop
-names-requires c κs = search needs
+word-requires : tie.Need-word-requires Inv-loop μ-loop
+word-requires c κs = search needs
 
 wrapping-add-u64-requires : tie.Need-wrapping-add-u64-requires Inv-loop μ-loop
 wrapping-add-u64-requires c κs = search needs
@@ -34,14 +37,15 @@ loop-again c = search needs
 returns : tie.Need-returns Inv-loop μ-loop
 returns c = search needs
 
-pub times-named-spec : {M : Type 1} → statement M
-times-named-spec =
+pub sum-of-spec : {M : Type 1} → statement M
+sum-of-spec =
     tie.close
     (tie.spec
     Inv-loop
     μ-loop
+    at-most-all-requires
     loop-holds
-    names-requires
+    word-requires
     wrapping-add-u64-requires
     after-requires
     add-j

@@ -2,8 +2,8 @@
 use Prim.Native.Nat.{_-_}
 use borrow.Author.Needs.{needs}
 use lib.ListN.{length}
-use Rattle.hyperplonk_cli.proofs.values.first_large.Statement.{statement}
-use Rattle.hyperplonk_cli.proofs.values.first_large.Tie as tie
+use Rattle.messages.proofs.values.first_large.Statement.{statement}
+use Rattle.messages.proofs.values.first_large.Tie as tie
 
 abbrev Inv-loop : tie.InvT-loop
 Inv-loop words i₀ i = Unit {0}

@@ -38,3 +38,9 @@ pub fn error(text: &[u8]) {
 pub fn error_number(n: u64) {
     io::print_decimal(STDERR_FILENO, n);
 }
+
+// A name and a number.
+pub fn error_count(name: &[u8], n: u64) {
+    error(name);
+    error_number(n);
+}

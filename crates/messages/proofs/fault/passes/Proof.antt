@@ -1,14 +1,14 @@
--- `search` is safe and ends. The measure is the entries left. Assumes nothing.
+-- `passes` is safe and ends. The measure is the words left. Assumes nothing.
 use Prim.Native.Nat.{_-_}
 use borrow.Author.Needs.{needs}
-use Rattle.hyperplonk_cli.proofs.fault.search.Statement.{statement}
-use Rattle.hyperplonk_cli.proofs.fault.search.Tie as tie
+use Rattle.messages.proofs.fault.passes.Statement.{statement}
+use Rattle.messages.proofs.fault.passes.Tie as tie
 
 abbrev Inv-loop : tie.InvT-loop
-Inv-loop circuit what b start size count turns at₀ j₀ at j = Unit {0}
+Inv-loop circuit start step count limit turns left₀ at₀ j₀ left at j = Unit {0}
 
 abbrev μ-loop : tie.MeasureT-loop
-μ-loop circuit what b start size count turns at₀ j₀ at j = turns - j
+μ-loop circuit start step count limit turns left₀ at₀ j₀ left at j = turns - j
 
 at-most-all-requires : tie.Need-at-most-all-requires Inv-loop μ-loop
 at-most-all-requires c κs = search needs
@@ -16,8 +16,8 @@ at-most-all-requires c κs = search needs
 loop-holds : tie.Need-loop-holds Inv-loop μ-loop
 loop-holds c = search needs
 
-entry-fault-requires : tie.Need-entry-fault-requires Inv-loop μ-loop
-entry-fault-requires c κs = search needs
+word-requires : tie.Need-word-requires Inv-loop μ-loop
+word-requires c κs = search needs
 
 returns : tie.Need-returns Inv-loop μ-loop
 returns c = search needs
@@ -37,15 +37,15 @@ loop-again c = search needs
 returns-2 : tie.Need-returns-2 Inv-loop μ-loop
 returns-2 c = search needs
 
-pub search-spec : {M : Type 1} → statement M
-search-spec =
+pub passes-spec : {M : Type 1} → statement M
+passes-spec =
     tie.close
     (tie.spec
     Inv-loop
     μ-loop
     at-most-all-requires
     loop-holds
-    entry-fault-requires
+    word-requires
     returns
     after-requires
     add-j

@@ -1,8 +1,8 @@
 -- `is_seen` is safe and ends. The measure is the cells left. Assumes nothing.
 use Prim.Native.Nat.{_-_}
 use borrow.Author.Needs.{needs}
-use Rattle.hyperplonk_cli.proofs.cells.is_seen.Statement.{statement}
-use Rattle.hyperplonk_cli.proofs.cells.is_seen.Tie as tie
+use Rattle.messages.proofs.cells.is_seen.Statement.{statement}
+use Rattle.messages.proofs.cells.is_seen.Tie as tie
 
 abbrev Inv-loop : tie.InvT-loop
 Inv-loop circuit start first j cell polynomial row at₀ i₀ at i = Unit {0}

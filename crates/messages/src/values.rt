@@ -3,7 +3,6 @@ use crate::bounds::NONE;
 use crate::bounds::bounds_of;
 use crate::bounds::sum_of;
 use crate::say;
-use crate::shape::Shape;
 use contents::word;
 
 // p
@@ -15,10 +14,8 @@ fn lengths(name: &[u8], given: usize, needed: u64) -> bool {
         return false;
     }
     say::error(name);
-    say::error(b" words given: ");
-    say::error_number(given as u64);
-    say::error(b", needed: ");
-    say::error_number(needed);
+    say::error_count(b" words given: ", given as u64);
+    say::error_count(b", needed: ", needed);
     say::error(b"\n");
     true
 }
@@ -42,10 +39,8 @@ fn large(name: &[u8], words: &[u64]) -> bool {
         return false;
     }
     say::error(name);
-    say::error(b" word ");
-    say::error_number(at as u64);
-    say::error(b" is ");
-    say::error_number(word(words, at));
+    say::error_count(b" word ", at as u64);
+    say::error_count(b" is ", word(words, at));
     say::error(b"\n");
     true
 }
@@ -89,6 +84,22 @@ pub fn build_values(
     }
 }
 
+// Are all of these below p? Says so where one is not.
+fn all_small(witness: &[u64], columns: &[u64], challenges: &[u64], y: &[u64]) -> bool {
+    let first = large(b"witness", witness);
+    let second = large(b"column", columns);
+    let third = large(b"challenge", challenges);
+    let fourth = large(b"y", y);
+    !(first | second | third | fourth)
+}
+
+// The lengths that a circuit asks for: column words, nodes, user challenges.
+pub struct Needed {
+    pub columns: usize,
+    pub nodes: u64,
+    pub user: usize,
+}
+
 // Of a row sum that was refused by 16.
 pub fn sum_values(
     circuit: &[u64],
@@ -97,22 +108,18 @@ pub fn sum_values(
     nodes: &[u64],
     challenges: &[u64],
     y: &[u64],
-    s: Shape,
+    s: Needed,
 ) {
     let user = std::num::wrapping_add_u64(s.user as u64, 3);
     let first = lengths(b"witness", witness.len(), witness_words(circuit));
-    let second = lengths(b"column", columns.len(), s.column_words as u64);
+    let second = lengths(b"column", columns.len(), s.columns as u64);
     let third = lengths(b"node", nodes.len(), s.nodes << 2);
     let fourth = lengths(b"challenge", challenges.len(), user);
     let fifth = lengths(b"y", y.len(), word(circuit, 0));
     if first | second | third | fourth | fifth {
         return;
     }
-    let sixth = large(b"witness", witness);
-    let seventh = large(b"column", columns);
-    let eighth = large(b"challenge", challenges);
-    let ninth = large(b"y", y);
-    if !(sixth | seventh | eighth | ninth) {
+    if all_small(witness, columns, challenges, y) {
         say::error(b"the node words are not those that building writes\n");
     }
 }

@@ -1,0 +1,50 @@
+-- `times_named` is safe and ends. The measure is the nodes left. Assumes nothing.
+use Prim.Native.Nat.{_-_}
+use borrow.Author.Needs.{needs}
+use Rattle.messages.proofs.nodes.times_named.Statement.{statement}
+use Rattle.messages.proofs.nodes.times_named.Tie as tie
+
+abbrev Inv-loop : tie.InvT-loop
+Inv-loop circuit start count n times₀ at₀ j₀ times at j = Unit {0}
+
+abbrev μ-loop : tie.MeasureT-loop
+μ-loop circuit start count n times₀ at₀ j₀ times at j = count - j
+
+loop-holds : tie.Need-loop-holds Inv-loop μ-loop
+loop-holds c = search needs
+
+names-requires : tie.Need-names-requires Inv-loop μ-loop
+names-requires c κs = search needs
+
+wrapping-add-u64-requires : tie.Need-wrapping-add-u64-requires Inv-loop μ-loop
+wrapping-add-u64-requires c κs = search needs
+
+after-requires : tie.Need-after-requires Inv-loop μ-loop
+after-requires c κs = search needs
+
+add-j : tie.Need-add-j Inv-loop μ-loop
+add-j c = search needs
+
+loop-less : tie.Need-loop-less Inv-loop μ-loop
+loop-less c = search needs
+
+loop-again : tie.Need-loop-again Inv-loop μ-loop
+loop-again c = search needs
+
+returns : tie.Need-returns Inv-loop μ-loop
+returns c = search needs
+
+pub times-named-spec : {M : Type 1} → statement M
+times-named-spec =
+    tie.close
+    (tie.spec
+    Inv-loop
+    μ-loop
+    loop-holds
+    names-requires
+    wrapping-add-u64-requires
+    after-requires
+    add-j
+    loop-less
+    loop-again
+    returns)
