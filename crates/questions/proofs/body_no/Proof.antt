@@ -7,7 +7,7 @@ use Rattle.questions.proofs.body_no.Lts as lts
 use Rattle.sections.proofs.question_5.Reads as question-5-reads
 use Rattle.sections.proofs.question_6.Reads as question-6-reads
 use Rattle.sections.proofs.question_9.Reads as question-9-reads
-use Rattle.trees.proofs.question_10.Reads as question-10-reads
+use Rattle.degree_limits.proofs.question_10.Reads as question-10-reads
 use Rattle.trees.proofs.question_11.Reads as question-11-reads
 use Rattle.trees.proofs.question_7.Reads as question-7-reads
 use Rattle.trees.proofs.question_8.Reads as question-8-reads

@@ -1,10 +1,10 @@
 use mathlib.Core.Path.{refl, _∙_}
 use Rattle.backend.proofs.Answers.{seven, pairs-enough, ten}
 use borrow.Author.Needs.{needs}
-use Rattle.trees.proofs.question_10.Statement.{statement}
-use Rattle.trees.proofs.question_10.Tie as tie
-use Rattle.trees.proofs.question_10.Reads as reads
-use Rattle.trees.proofs.question_10.Lts as lts
+use Rattle.degree_limits.proofs.question_10.Statement.{statement}
+use Rattle.degree_limits.proofs.question_10.Tie as tie
+use Rattle.degree_limits.proofs.question_10.Reads as reads
+use Rattle.degree_limits.proofs.question_10.Lts as lts
 use Rattle.contents.proofs.section.Reads as section-reads
 use Rattle.degrees.proofs.degrees_fit.Reads as degrees-fit-reads
 
