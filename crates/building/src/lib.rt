@@ -2,12 +2,12 @@
 use calls::Built;
 use columns::write_columns;
 use composed::compose_nodes;
-use prepare::column_words;
+use inputs::question_12;
+use inputs::question_13;
+use needed::column_words;
+use needed::question_14;
 use prepare::copied_of;
 use prepare::numbers;
-use prepare::question_12;
-use prepare::question_13;
-use prepare::question_14;
 use preprocessor::Numbers;
 use questions::first_no;
 ghost use mathlib.Core.Path.{_≡_};

@@ -1,7 +1,7 @@
 // The columns of a build: the stages one after another on the one column buffer.
 use lookups::lookup_h_polys;
 use lookups::lookup_m_polys;
-use prepare::column_words;
+use needed::column_words;
 use preprocessor::Numbers;
 use prover::clear;
 use stages::compressed_columns;

@@ -1,6 +1,6 @@
 // What circuit words ask for, once questions 1 to 11 have been put to them.
-use prepare::column_words;
-use prepare::composed_nodes;
+use needed::column_words;
+use needed::composed_nodes;
 use prepare::copied_of;
 use prepare::numbers;
 use questions::first_no;

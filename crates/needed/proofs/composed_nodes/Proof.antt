@@ -1,11 +1,11 @@
 use native.Mathlib.Omega.{arith}
 use Rattle.prepare.proofs.Accepted.{laid-of}
 use Rattle.prepare.proofs.Computed.{words-from, pieces-from}
 use borrow.Author.Needs.{needs}
-use Rattle.prepare.proofs.composed_nodes.Statement.{statement}
-use Rattle.prepare.proofs.composed_nodes.Tie as tie
-use Rattle.prepare.proofs.composed_nodes.Reads as reads
-use Rattle.prepare.proofs.composed_nodes.Lts as lts
+use Rattle.needed.proofs.composed_nodes.Statement.{statement}
+use Rattle.needed.proofs.composed_nodes.Tie as tie
+use Rattle.needed.proofs.composed_nodes.Reads as reads
+use Rattle.needed.proofs.composed_nodes.Lts as lts
 use Rattle.contents.proofs.section.Reads as section-reads
 use Rattle.count.proofs.composed_nodes.Reads as composed-nodes-reads
 

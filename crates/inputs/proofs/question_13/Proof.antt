@@ -1,9 +1,9 @@
 use Rattle.prepare.proofs.Computed.{thirteen}
 use borrow.Author.Needs.{needs}
-use Rattle.prepare.proofs.question_13.Statement.{statement}
-use Rattle.prepare.proofs.question_13.Tie as tie
-use Rattle.prepare.proofs.question_13.Reads as reads
-use Rattle.prepare.proofs.question_13.Lts as lts
+use Rattle.inputs.proofs.question_13.Statement.{statement}
+use Rattle.inputs.proofs.question_13.Tie as tie
+use Rattle.inputs.proofs.question_13.Reads as reads
+use Rattle.inputs.proofs.question_13.Lts as lts
 use Rattle.words.proofs.all_below.Reads as all-below-reads
 
 -- src/lib.rt:163:9

@@ -1,11 +1,11 @@
 use Rattle.prepare.proofs.Computed.{fourteen}
 use borrow.Author.Needs.{needs}
-use Rattle.prepare.proofs.question_14.Statement.{statement}
-use Rattle.prepare.proofs.question_14.Tie as tie
-use Rattle.prepare.proofs.question_14.Reads as reads
-use Rattle.prepare.proofs.question_14.Lts as lts
-use Rattle.prepare.proofs.column_words.Reads as column-words-reads
-use Rattle.prepare.proofs.composed_nodes.Reads as composed-nodes-reads
+use Rattle.needed.proofs.question_14.Statement.{statement}
+use Rattle.needed.proofs.question_14.Tie as tie
+use Rattle.needed.proofs.question_14.Reads as reads
+use Rattle.needed.proofs.question_14.Lts as lts
+use Rattle.needed.proofs.column_words.Reads as column-words-reads
+use Rattle.needed.proofs.composed_nodes.Reads as composed-nodes-reads
 
 -- src/lib.rt:174:9
 column-words-requires : tie.Need-column-words-requires

@@ -1,15 +1,15 @@
 use native.Mathlib.Omega.{arith}
 use Rattle.prepare.proofs.Accepted.{laid-counted, laid-of, few-user}
 use Rattle.prepare.proofs.Computed.{witness-fit, twelve}
 use borrow.Author.Needs.{needs}
-use Rattle.prepare.proofs.question_12.Statement.{statement}
-use Rattle.prepare.proofs.question_12.Tie as tie
-use Rattle.prepare.proofs.question_12.Reads as reads
-use Rattle.prepare.proofs.question_12.Lts as lts
+use Rattle.inputs.proofs.question_12.Statement.{statement}
+use Rattle.inputs.proofs.question_12.Tie as tie
+use Rattle.inputs.proofs.question_12.Reads as reads
+use Rattle.inputs.proofs.question_12.Lts as lts
 use Rattle.bodies.proofs.num_user.Reads as num-user-reads
 use Rattle.bodies.proofs.num_witness.Reads as num-witness-reads
 use Rattle.bodies.proofs.rows.Reads as rows-reads
-use Rattle.prepare.proofs.instance_words.Reads as instance-words-reads
+use Rattle.inputs.proofs.instance_words.Reads as instance-words-reads
 
 -- src/lib.rt:149:9
 instance-words-requires : tie.Need-instance-words-requires

@@ -1,10 +1,10 @@
 use native.Mathlib.Omega.{arith}
 use Rattle.prepare.proofs.Accepted.{laid-of}
 use Rattle.prepare.proofs.Computed.{columns-low, columns-fit, columns-from}
-use Rattle.prepare.proofs.column_words.Statement.{statement}
-use Rattle.prepare.proofs.column_words.Tie as tie
-use Rattle.prepare.proofs.column_words.Reads as reads
-use Rattle.prepare.proofs.column_words.Lts as lts
+use Rattle.needed.proofs.column_words.Statement.{statement}
+use Rattle.needed.proofs.column_words.Tie as tie
+use Rattle.needed.proofs.column_words.Reads as reads
+use Rattle.needed.proofs.column_words.Lts as lts
 
 -- src/lib.rt:103:21
 shared-slice-read-instances : tie.Need-shared-slice-read-instances

@@ -1,13 +1,13 @@
 use mathlib.Core.Path.{refl}
 use native.Mathlib.Omega.{arith}
 use Rattle.backend.proofs.Numbers.{entries-fit}
 use Rattle.prepare.proofs.Accepted.{laid-of}
 use Rattle.prepare.proofs.Computed.{instances-from}
 use borrow.Author.Needs.{needs}
-use Rattle.prepare.proofs.instance_words.Statement.{statement}
-use Rattle.prepare.proofs.instance_words.Tie as tie
-use Rattle.prepare.proofs.instance_words.Reads as reads
-use Rattle.prepare.proofs.instance_words.Lts as lts
+use Rattle.inputs.proofs.instance_words.Statement.{statement}
+use Rattle.inputs.proofs.instance_words.Tie as tie
+use Rattle.inputs.proofs.instance_words.Reads as reads
+use Rattle.inputs.proofs.instance_words.Lts as lts
 use Rattle.contents.proofs.section.Reads as section-reads
 use Rattle.words.proofs.total_to.Reads as total-to-reads
 

@@ -1,0 +1,52 @@
+// Questions 12 and 13, of the instance, witness and challenge words that stand beside accepted circuit words.
+use bodies::num_user;
+use bodies::num_witness;
+use bodies::rows;
+use contents::INSTANCES;
+use contents::section;
+use words::all_below;
+use words::total_to;
+ghost use mathlib.Core.Path.{_≡_};
+ghost use Rattle.util.specs.Lists.{total};
+ghost use Rattle.backend.specs.Circuit.{circuitOf};
+ghost use Rattle.calls.specs.Build.{q12, q13};
+ghost use Rattle.prepare.specs.Prepared.{Accepted};
+
+// p
+const MODULUS: u64 = 18446744069414584321;
+
+// Instance values in all.
+fn instance_words(circuit: &[u64]) -> u64
+    requires { ⌜ Accepted (now circuit) ⌝ }
+    ensures { λ r. ⌜ r ≡ total (circuitOf (now (circuit .entry)) .instances) ⌝ }
+{
+    let instances = section(circuit, INSTANCES);
+    let start = instances.start;
+    let end = instances.end;
+    total_to(&circuit[start..end], 1, 0, instances.count, 8192)
+}
+
+// Question 12.
+pub fn question_12(circuit: &[u64], instance: &[u64], witness: &[u64], challenges: &[u64]) -> bool
+    requires { ⌜ Accepted (now circuit) ⌝ }
+    ensures { λ r. ⌜ r ≡ q12 (circuitOf (now (circuit .entry))) (now (instance .entry)) (now (witness .entry)) (now (challenges .entry)) ⌝ }
+{
+    let values = instance_words(circuit);
+    let columns = num_witness(circuit);
+    let rows = rows(circuit);
+    let user = num_user(circuit);
+    let words = columns * rows;
+    (instance.len() as u64 == values)
+        & (witness.len() as u64 == words)
+        & (challenges.len() as u64 == user + 2)
+}
+
+// Question 13.
+pub fn question_13(instance: &[u64], witness: &[u64], challenges: &[u64]) -> bool
+    ensures { λ r. ⌜ r ≡ q13 (now (instance .entry)) (now (witness .entry)) (now (challenges .entry)) ⌝ }
+{
+    let first = all_below(instance, MODULUS);
+    let second = all_below(witness, MODULUS);
+    let third = all_below(challenges, MODULUS);
+    first & second & third
+}
