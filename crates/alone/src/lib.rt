@@ -1,7 +1,7 @@
 // The stages called alone: "they meet 2, 12, 13, 14 and, for counts, 15".
+use blank_column::rows_of;
 use lookup_h::h_column;
-use prover::m_column;
-use prover::rows_of;
+use lookup_m::m_column;
 use words::all_below;
 ghost use mathlib.Core.Path.{_≡_};
 ghost use Rattle.backend.specs.Questions.{goodK};

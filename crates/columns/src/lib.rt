@@ -1,9 +1,9 @@
 // The columns of a build: the stages one after another on the one column buffer.
+use blank_column::clear;
 use lookups::lookup_h_polys;
 use lookups::lookup_m_polys;
 use needed::column_words;
 use preprocessor::Numbers;
-use prover::clear;
 use stages::compressed_columns;
 use stages::instance_columns;
 use stages::permutation_columns;

@@ -1,11 +1,11 @@
 // The compressed columns: the sum of beta^i times expression i, at each row.
 use bh::next;
+use blank_column::rows_of;
 use expression::poly::Layout;
 use expression::value::Point;
 use node::index;
 use node::word_at;
 use prover::Roots;
-use prover::rows_of;
 use value::value;
 ghost use mathlib.Core.Path.{_≡_};
 ghost use mathlib.Core.List.{[], _∷_};

@@ -1,4 +1,5 @@
 // Expressions and the questions from C, for the oracle: any words may be lent. A slice crosses as a pointer and a length.
+use blank_column::rows_of;
 use compressed::row_after;
 use degree::degree_of;
 use expression::poly::Layout;
@@ -6,7 +7,6 @@ use expression::value::Point;
 use field::reduce_u64;
 use node::index;
 use node::word_at;
-use prover::rows_of;
 use query::used_queries;
 use questions::first_no;
 use value::value;

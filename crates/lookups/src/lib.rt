@@ -1,7 +1,7 @@
 // The count and h columns of all lookups, in the one column buffer: lookup j's input starts at word compressed + j * 2 * rows, its
 // table at compressed + (j * 2 + 1) * rows, its counts at m + j * rows, its h at h + j * rows.
 use lookup_h::lookup_h_poly;
-use prover::lookup_m_poly;
+use lookup_m::lookup_m_poly;
 ghost use mathlib.Core.Path.{_≡_};
 ghost use Prim.Native.Nat.{_+_, _*_, _≤_};
 ghost use lib.ListN.{length, getD};

@@ -1,4 +1,5 @@
 // The row sum: question 16, and the sum of the composed expression over the rows.
+use blank_column::rows_of;
 use calls::RowSum;
 use composed::same_nodes;
 use compressed::row_after;
@@ -12,7 +13,6 @@ use node_values::node_values;
 use prepare::copied_of;
 use prepare::numbers;
 use preprocessor::Numbers;
-use prover::rows_of;
 use questions::first_no;
 use value::value;
 use words::all_below;

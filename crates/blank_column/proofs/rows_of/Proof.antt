@@ -2,10 +2,10 @@
 use borrow.Author.Needs.{needs}
 use native.Mathlib.Omega.{arith}
 use Rattle.bh.proofs.Words.{shifted}
-use Rattle.prover.proofs.rows_of.Statement.{statement}
-use Rattle.prover.proofs.rows_of.Tie as tie
-use Rattle.prover.proofs.rows_of.Reads as reads
-use Rattle.prover.proofs.rows_of.Lts as lts
+use Rattle.blank_column.proofs.rows_of.Statement.{statement}
+use Rattle.blank_column.proofs.rows_of.Tie as tie
+use Rattle.blank_column.proofs.rows_of.Reads as reads
+use Rattle.blank_column.proofs.rows_of.Lts as lts
 
 -- src/lib.rt:35:5
 shl-result : tie.Need-shl-result

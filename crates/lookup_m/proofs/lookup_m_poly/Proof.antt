@@ -23,11 +23,11 @@ use Rattle.prover.proofs.Counts.{
   answer-true,
   answer-false,
 }
-use Rattle.prover.proofs.lookup_m_poly.Statement.{statement}
-use Rattle.prover.proofs.lookup_m_poly.Tie as tie
-use Rattle.prover.proofs.lookup_m_poly.Reads as reads
-use Rattle.prover.proofs.lookup_m_poly.Lts as lts
-use Rattle.prover.proofs.clear.Reads as clear-reads
+use Rattle.lookup_m.proofs.lookup_m_poly.Statement.{statement}
+use Rattle.lookup_m.proofs.lookup_m_poly.Tie as tie
+use Rattle.lookup_m.proofs.lookup_m_poly.Reads as reads
+use Rattle.lookup_m.proofs.lookup_m_poly.Lts as lts
+use Rattle.blank_column.proofs.clear.Reads as clear-reads
 
 abbrev Inv-search : tie.InvT-search
 Inv-search columns input table m rows i v j₀ j =

@@ -13,15 +13,15 @@ use Rattle.bh.specs.Rows.{rowAt, nextRow}
 use Rattle.bh.proofs.Order.{row-suc, row-next}
 use Rattle.bh.proofs.Iter.{iter-zero}
 use Rattle.util.specs.Lists.{column, over}
 use Rattle.prover.proofs.Instance.{placed, place-start, place-more, place-end, part-length, part-get}
-use Rattle.prover.proofs.instance_column.Statement.{statement}
-use Rattle.prover.proofs.instance_column.Tie as tie
-use Rattle.prover.proofs.instance_column.Reads as reads
-use Rattle.prover.proofs.instance_column.Lts as lts
+use Rattle.instance.proofs.instance_column.Statement.{statement}
+use Rattle.instance.proofs.instance_column.Tie as tie
+use Rattle.instance.proofs.instance_column.Reads as reads
+use Rattle.instance.proofs.instance_column.Lts as lts
 use Rattle.bh.proofs.next.Reads as next-reads
 use Rattle.field.proofs.reduce_u64.Reads as reduce-u64-reads
-use Rattle.prover.proofs.clear.Reads as clear-reads
-use Rattle.prover.proofs.rows_of.Reads as rows-of-reads
+use Rattle.blank_column.proofs.clear.Reads as clear-reads
+use Rattle.blank_column.proofs.rows_of.Reads as rows-of-reads
 
 abbrev Inv-loop : tie.InvT-loop
 Inv-loop k instance from count columns₀ at row₀ t₀ columns row t =

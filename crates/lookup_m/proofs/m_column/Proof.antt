@@ -22,11 +22,11 @@ use Rattle.prover.proofs.Counts.{
   answer-true,
   answer-false,
 }
-use Rattle.prover.proofs.m_column.Statement.{statement}
-use Rattle.prover.proofs.m_column.Tie as tie
-use Rattle.prover.proofs.m_column.Reads as reads
-use Rattle.prover.proofs.m_column.Lts as lts
-use Rattle.prover.proofs.clear.Reads as clear-reads
+use Rattle.lookup_m.proofs.m_column.Statement.{statement}
+use Rattle.lookup_m.proofs.m_column.Tie as tie
+use Rattle.lookup_m.proofs.m_column.Reads as reads
+use Rattle.lookup_m.proofs.m_column.Lts as lts
+use Rattle.blank_column.proofs.clear.Reads as clear-reads
 
 abbrev Inv-search : tie.InvT-search
 Inv-search rows input table m i v j₀ j =

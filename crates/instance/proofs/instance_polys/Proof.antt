@@ -9,15 +9,15 @@ use native.Mathlib.Omega.{arith}
 use lib.ListN.{length, getD, take}
 use lib.Seq.{take-all}
 use Rattle.util.specs.Lists.{over, total}
 use Rattle.prover.specs.Words.{wordsOf}
 use Rattle.prover.proofs.Instance.{polys, instance-start, instance-more, words-there}
 use Rattle.util.proofs.Parts.{total-more, part-there}
-use Rattle.prover.proofs.instance_polys.Statement.{statement}
-use Rattle.prover.proofs.instance_polys.Tie as tie
-use Rattle.prover.proofs.instance_polys.Reads as reads
-use Rattle.prover.proofs.instance_polys.Lts as lts
-use Rattle.prover.proofs.instance_column.Reads as instance-column-reads
-use Rattle.prover.proofs.rows_of.Reads as rows-of-reads
+use Rattle.instance.proofs.instance_polys.Statement.{statement}
+use Rattle.instance.proofs.instance_polys.Tie as tie
+use Rattle.instance.proofs.instance_polys.Reads as reads
+use Rattle.instance.proofs.instance_polys.Lts as lts
+use Rattle.instance.proofs.instance_column.Reads as instance-column-reads
+use Rattle.blank_column.proofs.rows_of.Reads as rows-of-reads
 
 abbrev Inv-loop : tie.InvT-loop
 Inv-loop k lengths instance columns₀ rows from₀ at₀ i₀ columns from at i =

@@ -5,10 +5,10 @@ use Prim.Native.Nat.{_-_}
 use native.Mathlib.Omega.{arith}
 use lib.ListN.{length, length-set}
 use Rattle.util.proofs.Fill.{Filled, fill-start, fill-more, fill-end, fill-zero}
-use Rattle.prover.proofs.clear.Statement.{statement}
-use Rattle.prover.proofs.clear.Tie as tie
-use Rattle.prover.proofs.clear.Reads as reads
-use Rattle.prover.proofs.clear.Lts as lts
+use Rattle.blank_column.proofs.clear.Statement.{statement}
+use Rattle.blank_column.proofs.clear.Tie as tie
+use Rattle.blank_column.proofs.clear.Reads as reads
+use Rattle.blank_column.proofs.clear.Lts as lts
 
 abbrev Inv-loop : tie.InvT-loop
 Inv-loop columns₀ at rows i₀ columns i = Filled rows (λ _. 0) columns₀ at columns i

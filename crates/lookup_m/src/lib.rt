@@ -1,0 +1,76 @@
+// prover.rs `lookup_m_poly`: the counts of one lookup, in a column of its own and in the column buffer.
+use blank_column::clear;
+use prover::Found;
+ghost use mathlib.Core.Path.{_≡_};
+ghost use Prim.Native.Nat.{_+_, _≤_};
+ghost use lib.ListN.{length, getD};
+ghost use Rattle.field.specs.Field.{𝔾};
+ghost use Rattle.util.specs.Lists.{over};
+ghost use Rattle.prover.specs.Lookup.{covered};
+ghost use Rattle.prover.specs.Words.{elements, elementsFrom, Small, countWords};
+
+// Counts each input at the last equal table row, in a column of its own. False, and a column of zeros, where an input has none.
+pub fn m_column(rows: usize, input: &[u64], table: &[u64], m: &mut [u64]) -> bool
+    requires { ⌜ (rows ≤ length (now input)) × (rows ≤ length (now table)) × (rows ≤ length (now m)) × Small rows (λ b. getD (now input) b 0) × Small rows (λ b. getD (now table) b 0) ⌝ }
+    ensures { λ r. ⌜ (r ≡ covered 𝔾 rows (elements (now (input .entry))) (elements (now (table .entry)))) × (now (m .exit) ≡ over (now (m .entry)) 0 (countWords rows (elements (now (input .entry))) (elements (now (table .entry))))) ⌝ }
+{
+    clear(m, 0, rows);
+    let mut i: usize = 0;
+    while i < rows {
+        let v = input[i];
+        let mut j = rows;
+        let found = 'search: loop {
+            if j == 0 {
+                break 'search Found::Nothing;
+            }
+            j -= 1;
+            if table[j] == v {
+                break 'search Found::At(j);
+            }
+        };
+        match found {
+            Found::At(row) => {
+                m[row] += 1;
+            }
+            Found::Nothing => {
+                clear(m, 0, rows);
+                return false;
+            }
+        }
+        i += 1;
+    }
+    true
+}
+
+// The same in the column buffer: the input, the table and, behind both, the counts start at these words.
+pub fn lookup_m_poly(columns: &mut [u64], input: usize, table: usize, m: usize, rows: usize) -> bool
+    requires { ⌜ (input + rows ≤ m) × (table + rows ≤ m) × (m + rows ≤ length (now columns)) × Small rows (λ b. getD (now columns) (input + b) 0) × Small rows (λ b. getD (now columns) (table + b) 0) ⌝ }
+    ensures { λ r. ⌜ (r ≡ covered 𝔾 rows (elementsFrom (now (columns .entry)) input) (elementsFrom (now (columns .entry)) table)) × (now (columns .exit) ≡ over (now (columns .entry)) m (countWords rows (elementsFrom (now (columns .entry)) input) (elementsFrom (now (columns .entry)) table))) ⌝ }
+{
+    clear(columns, m, rows);
+    let mut i: usize = 0;
+    while i < rows {
+        let v = columns[input + i];
+        let mut j = rows;
+        let found = 'search: loop {
+            if j == 0 {
+                break 'search Found::Nothing;
+            }
+            j -= 1;
+            if columns[table + j] == v {
+                break 'search Found::At(j);
+            }
+        };
+        match found {
+            Found::At(row) => {
+                columns[m + row] += 1;
+            }
+            Found::Nothing => {
+                clear(columns, m, rows);
+                return false;
+            }
+        }
+        i += 1;
+    }
+    true
+}
