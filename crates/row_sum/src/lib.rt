@@ -232,6 +232,7 @@ fn sum_prepared(
     }
     let layout = sum_layout(circuit, v);
     let k = circuit[0] as usize;
+    // A word for each node that the limits allow.
     let mut known = [0u64; 11295];
     let all = &mut known[..];
     let sum = sum_rows(
