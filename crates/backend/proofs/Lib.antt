@@ -3,3 +3,4 @@ pub mod Numbers
 pub mod Answers
 pub mod Cells
 pub mod Degree
+pub mod Forest

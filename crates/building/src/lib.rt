@@ -32,11 +32,11 @@ fn refused(number: u64) -> Built
 }
 
 // Question 15 and after, once 1 to 14 are answered yes.
-fn build_checked(
-    circuit: &[u64],
+fn build_checked<'a>(
+    circuit: &'a [u64],
     instance: &[u64],
-    witness: &[u64],
-    challenges: &[u64],
+    witness: &'a [u64],
+    challenges: &'a [u64],
     columns: &mut [u64],
     nodes: &mut [u64],
     copied: &[u64],
@@ -60,11 +60,11 @@ fn build_checked(
 }
 
 // Question 14 and after, once 1 to 13 are answered yes; the copied columns are the first `count` of the names.
-fn build_named(
-    circuit: &[u64],
+fn build_named<'a>(
+    circuit: &'a [u64],
     instance: &[u64],
-    witness: &[u64],
-    challenges: &[u64],
+    witness: &'a [u64],
+    challenges: &'a [u64],
     columns: &mut [u64],
     nodes: &mut [u64],
     names: &[u64; 72],
@@ -91,11 +91,11 @@ fn build_named(
 }
 
 // The building call. What it returns and leaves is document 01's, for any words and buffers; and so demand 3 holds of it.
-pub fn build(
-    circuit: &[u64],
+pub fn build<'a>(
+    circuit: &'a [u64],
     instance: &[u64],
-    witness: &[u64],
-    challenges: &[u64],
+    witness: &'a [u64],
+    challenges: &'a [u64],
     columns: &mut [u64],
     nodes: &mut [u64],
 ) -> Built

@@ -3,21 +3,20 @@
 use mathlib.Core.Path.{_≡_}
 use mathlib.Core.Logic.{_≢_, _↔_}
 use mathlib.Core.Bool.{Bool, true, false, cond}
-use mathlib.Core.List.{List, [], _∷_, _++_, map}
-use Prim.Native.Nat.{ℕ, zero, suc, _+_, _-_, _*_, _<_}
+use mathlib.Core.List.{map}
+use Prim.Native.Nat.{ℕ, zero, suc, _<_}
 use lib.ListN.{length, take}
 use Rattle.field.specs.Algebra.{Field}
 use Rattle.field.specs.Algebra as Algebra
 use Rattle.bh.specs.Sums.{upTo}
 use Rattle.bh.specs.Rows.{rowAt}
 use Rattle.util.specs.Lists.{below, concat, countOf}
-use Rattle.backend.specs.Circuit.{Circuit, Cell, rowsOf, numCopied}
+use Rattle.backend.specs.Circuit.{Circuit, rowsOf, numCopied}
 use Rattle.preprocessor.specs.Compose.{numZ, zCut}
-use Rattle.preprocessor.specs.Permutation.{source}
 use Rattle.prover.specs.Lookup.{same, covered, multiplicity, hAt, Turns, sumRows}
 use Rattle.prover.specs.Log.{Log}
-use Rattle.prover.specs.Columns.{ratioAt, runningAt, zAtPlace}
-use Rattle.calls.specs.Meaning.{Embeds, Admitted, Premises, cellValue}
+use Rattle.prover.specs.Columns.{ratioAt, zAtPlace}
+use Rattle.calls.specs.Meaning.{Embeds}
 
 -- reading 18: the parts of z are as many as the z columns
 abbrev pub PartsOfZ : Circuit → Type 0
@@ -72,16 +71,6 @@ module _ (𝓕 : Field) where
   module _ (g : Log 𝓕) where
     -- ---- Gabizon, Williamson, Ciobotaru, "PLONK"
 
-    -- the paper's σ, here `source`, is a permutation of the cells
-    abbrev pub Permutes : Type 0
-    Permutes =
-        Admitted 𝓕 g → (x y : Cell) → source (g .circuit .cycles) x ≡ source (g .circuit .cycles) y → x ≡ y
-
-    -- and keeps the values, where "a cycle's cells are equal"
-    abbrev pub Keeps : Type 0
-    Keeps =
-        Admitted 𝓕 g → Premises 𝓕 g → (x : Cell) → cellValue 𝓕 g (source (g .circuit .cycles) x) ≡ cellValue 𝓕 g x
-
     -- the grand product in closed form: the product over all copied columns at the first t places after row 0, times that over the first i parts at the next place
     unfoldable pub plonkZ : ℕ → ℕ → F
     plonkZ i t =
@@ -92,7 +81,3 @@ module _ (𝓕 : Field) where
     abbrev pub IsPlonkZ : Type 0
     IsPlonkZ =
         (i t : ℕ) → i < numZ (g .circuit) → suc t < rowsOf (g .circuit) → zAtPlace 𝓕 g i (suc t) ≡ plonkZ i t
-
-    -- "Why must the running product close at one?"
-    abbrev pub Closes : Type 0
-    Closes = Admitted 𝓕 g → Premises 𝓕 g → runningAt 𝓕 g ((rowsOf (g .circuit) - 1) * numZ (g .circuit)) ≡ one

@@ -44,11 +44,11 @@ fn places_of(circuit: &[u64], v: Numbers) -> Places
 }
 
 // The columns before the counts: instance, permutation and compressed columns.
-fn uncounted_columns(
-    circuit: &[u64],
+fn uncounted_columns<'a>(
+    circuit: &'a [u64],
     instance: &[u64],
-    witness: &[u64],
-    challenges: &[u64],
+    witness: &'a [u64],
+    challenges: &'a [u64],
     columns: &mut [u64],
     copied: &[u64],
 )
@@ -88,11 +88,11 @@ fn last_columns(
 }
 
 // All columns. Where an input of a lookup is in no table row, false, and the column words needed become 0.
-pub fn write_columns(
-    circuit: &[u64],
+pub fn write_columns<'a>(
+    circuit: &'a [u64],
     instance: &[u64],
-    witness: &[u64],
-    challenges: &[u64],
+    witness: &'a [u64],
+    challenges: &'a [u64],
     columns: &mut [u64],
     copied: &[u64],
     v: Numbers,

@@ -11,6 +11,14 @@ use Rattle.completeness.proofs.DemandThreeOf as DemandThreeOf
 use Rattle.completeness.proofs.DemandThree as DemandThree
 use Rattle.completeness.proofs.Habock as Habock
 use Rattle.completeness.proofs.Plonk as Plonk
+use Rattle.completeness.proofs.Permuted as Permuted
+use Rattle.completeness.proofs.Copies as Copies
+use Rattle.completeness.proofs.PaperZ as PaperZ
+use Rattle.completeness.proofs.MustClose as MustClose
+use Rattle.completeness.proofs.GoodLog as GoodLog
+use Rattle.completeness.proofs.RowListedTwice as RowListedTwice
+use Rattle.completeness.proofs.Odds as Odds
+use Rattle.completeness.proofs.FewTurnedAway as FewTurnedAway
 
 pub claims : Claims
 claims =
@@ -19,6 +27,13 @@ claims =
       demand-three = DemandThree.demand-three;
       refused-when = Counts.refused-when;
       row-sum-zero = DemandThree.row-sum-zero;
+      readings-covered = GoodLog.readings-covered;
+      good-log = GoodLog.good-log;
+      few-turned-away = FewTurnedAway.few-turned-away;
+      odds = Odds.odds;
+      odds-limit = FewTurnedAway.odds-limit;
+      row-listed-twice = RowListedTwice.row-listed-twice;
+      zero-when = GoodLog.zero-when;
       reads-back = ReadsBack.reads-back;
       lookup-zero = ConstraintZero.lookup-zero;
       start-zero = ConstraintZero.start-zero;
@@ -33,8 +48,18 @@ claims =
       same-totals = Habock.same-totals;
       is-habock-h = Habock.is-habock-h;
       habock-sum = Habock.habock-sum;
-      permutes = Plonk.permutes;
-      keeps = Plonk.keeps;
       is-plonk-z = Plonk.is-plonk-z;
-      closes = Plonk.closes;
+      permutes = Permuted.permutes;
+      labels = Permuted.labels;
+      labels-differ-where = Permuted.labels-differ-where;
+      labels-differ-at-𝔾 = Permuted.labels-differ-at-𝔾;
+      are-factors = Copies.are-factors;
+      is-paper-z = PaperZ.is-paper-z;
+      keeps = Copies.keeps;
+      balances = Copies.balances;
+      whole-product = Copies.whole-product;
+      closes-when = Copies.closes-when;
+      closes = Copies.closes;
+      any-z = MustClose.any-z;
+      must-close = MustClose.must-close;
     }

@@ -22,7 +22,8 @@ use Rattle.preprocessor.proofs.Cycles.{Other, Distinct, apart-distinct}
 use Rattle.preprocessor.proofs.Copied.{Good, cells-good, cells-placed}
 use Rattle.prover.specs.Log.{Log}
 use Rattle.prover.specs.Columns.{givenPolys, copiedAt}
-use Rattle.calls.specs.Meaning.{noCell, cellValue, Premises}
+use Rattle.calls.specs.Meaning.{noCell, cellValue}
+use Rattle.calls.specs.Copies.{EqualCells}
 use Rattle.completeness.proofs.CellNumbers.{out-all, Placed, number-div, number-mod, number-in, same-true}
 
 module _ (c : Circuit) where
@@ -99,11 +100,11 @@ module _ (𝓕 : Field) (g : Log 𝓕) where
   equal-cycles [] a e = tt
   equal-cycles (C ∷ Cs) a e = (equal-cycle C (a .0) (e .0), equal-cycles Cs (a .1) (e .1))
 
-  pub copied-good : q11 (g .circuit) ≡ true → Premises 𝓕 g → Cycles.Copied val (map (map (firstLabel (g .circuit))) (g .circuit .cycles))
+  pub copied-good : q11 (g .circuit) ≡ true → EqualCells 𝓕 g → Cycles.Copied val (map (map (firstLabel (g .circuit))) (g .circuit .cycles))
   copied-good y p =
       equal-cycles (g .circuit .cycles) (cells-placed (g .circuit) y)
       (all-from (λ C. All (λ x. All (λ y. cellValue 𝓕 g x ≡ cellValue 𝓕 g y) C) C) (g .circuit .cycles) []
       (λ j l.
       let C : List Cell = getD (g .circuit .cycles) j [] in
       all-from (λ x. All (λ y. cellValue 𝓕 g x ≡ cellValue 𝓕 g y) C) C noCell
-      (λ i m. all-from (λ y. cellValue 𝓕 g (getD C i noCell) ≡ cellValue 𝓕 g y) C noCell (λ n w. p .equal-cells j l i m n w))))
+      (λ i m. all-from (λ y. cellValue 𝓕 g (getD C i noCell) ≡ cellValue 𝓕 g y) C noCell (λ n w. p j l i m n w))))

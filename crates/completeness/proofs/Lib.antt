@@ -13,4 +13,12 @@ pub mod RowSumReads
 pub mod DemandThree
 pub mod Habock
 pub mod Plonk
+pub mod Permuted
+pub mod Copies
+pub mod PaperZ
+pub mod MustClose
+pub mod GoodLog
+pub mod RowListedTwice
+pub mod Odds
+pub mod FewTurnedAway
 pub mod Claims

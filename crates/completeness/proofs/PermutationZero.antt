@@ -142,7 +142,7 @@ module _ (𝓕 : Field) (g : Log 𝓕) where
     met p =
         copies-meet 𝓕 (g .circuit .k) (numCopied (g .circuit)) size (copiedAt 𝓕 g) φ Cs (numZ (g .circuit)) kp ks (covers (g .circuit) n-pos)
         (cycles-good (g .circuit) y)
-        (copied-good 𝓕 g y p)
+        (copied-good 𝓕 g y (p .equal-cells))
         (λ i b l q m e. p .factor-denominators i l b m q (factor-agree i b l m ∙ e))
 
     module _ (ad : Admitted 𝓕 g) (p : Premises 𝓕 g) (α : F) (x : ℕ → F) where

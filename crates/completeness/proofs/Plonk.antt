@@ -1,11 +1,9 @@
--- PLONK: the labels' source is a permutation of the cells that keeps values, z is the grand product in closed form, and the running
--- product closes at one: Permutes, Keeps, IsPlonkZ and Closes of Papers. Assumes nothing.
+-- PLONK: the labels' source keeps cells apart, and z is the grand product in closed form: IsPlonkZ of Papers. Assumes nothing.
 use mathlib.Core.Path.{_≡_, refl, sym, ap, ap₂, _∙_, subst}
 use mathlib.Core.Bool.{Bool, true, cond}
 use mathlib.Core.List.{List, [], _∷_, map}
-use Prim.Native.Nat.{ℕ, _<_, suc, _+_, _*_, _≤_, _-_}
+use Prim.Native.Nat.{ℕ, _<_, suc, _+_, _*_, _≤_}
 use native.Mathlib.Decide.{decLt, ℕ-discrete}
-use native.Mathlib.Nat.{add-zero, mul-zero}
 use native.Mathlib.Omega.{arith}
 use lib.ListN.{length, getD, take}
 use lib.Seq.{take-all}
@@ -17,13 +15,9 @@ use Rattle.util.specs.Lists.{indexOf, All, below, concat}
 use Rattle.util.proofs.Tests.{by-test}
 use Rattle.util.proofs.Parts.{div-row, mod-row}
 use Rattle.util.proofs.Totals.{concat-cut}
-use Rattle.identities.proofs.Cycles.{good-labels, labels-good}
-use Rattle.identities.specs.Copies.{atCell}
-use Rattle.identities.proofs.Totals.{upTo-cong, upTo-add, upTo-flat, upTo-zero}
+use Rattle.identities.proofs.Cycles.{labels-good}
+use Rattle.identities.proofs.Totals.{upTo-cong, upTo-add, upTo-flat}
 use Rattle.identities.proofs.Fields.{muls}
-use Rattle.identities.proofs.Copies.{safe-parts, balanced}
-use Rattle.identities.specs.Running.{scan}
-use Rattle.identities.proofs.Running.{z-scan, closes as running-closes}
 use Rattle.identities.proofs.Products.{parts-product}
 use Rattle.backend.specs.Circuit.{Circuit, Cell, sameCell, rowsOf, copied, numCopied}
 use Rattle.backend.specs.Questions.{q11}
@@ -33,17 +27,15 @@ use Rattle.preprocessor.proofs.Copied.{cells-placed}
 use Rattle.preprocessor.specs.Permutation.{lastCell, beforeFrom, before, source, firstLabel}
 use Rattle.preprocessor.specs.Compose.{numZ, zCut}
 use Rattle.prover.specs.Log.{Log}
-use Rattle.prover.specs.Columns.{copiedAt, ratioAt, partAt, stepAt, runningAt, zAtPlace}
-use Rattle.calls.specs.Meaning.{cellValue}
-use Rattle.calls.specs.Papers.{Permutes, Keeps, plonkZ, IsPlonkZ, Closes}
+use Rattle.prover.specs.Columns.{ratioAt, partAt, stepAt, runningAt, zAtPlace}
+use Rattle.calls.specs.Papers.{plonkZ, IsPlonkZ}
 use Rattle.completeness.proofs.CellNumbers.{Placed, same-true, source-agree}
-use Rattle.completeness.proofs.CycleNumbers.{cycles-good, copied-good, value-at}
-use Rattle.completeness.proofs.DemandThreeOf.{eleven-yes, k-positive, k-below-21}
-use Rattle.completeness.proofs.Cuts.{partSize, size-pos, z-pos, covers, parts-of-z, none-z}
-use Rattle.completeness.proofs.PermutationZero.{φ, Cs, A, B, factor-agree, running-agree}
+use Rattle.completeness.proofs.CycleNumbers.{cycles-good}
+use Rattle.completeness.proofs.Cuts.{partSize, size-pos, parts-of-z, none-z}
+use Rattle.completeness.proofs.PermutationZero.{Cs}
 
 module _ (c : Circuit) where
-  placed? : (x : Cell) → Dec (Placed c x)
+  pub placed? : (x : Cell) → Dec (Placed c x)
   placed? x = go (decLt (indexOf (x .polynomial) (copied c)) (length (copied c))) (decLt (x .row) (rowsOf c))
     where
       go : Dec (indexOf (x .polynomial) (copied c) < length (copied c)) → Dec (x .row < rowsOf c) → Dec (Placed c x)
@@ -62,7 +54,7 @@ module _ (c : Circuit) where
   before-out [] x a n = refl
   before-out (y ∷ ys) x a n = from-out (lastCell y ys) (y ∷ ys) x a n
 
-  source-out : (Cs : List (List Cell)) (x : Cell) → All (All (Placed c)) Cs → ¬ Placed c x → source Cs x ≡ x
+  pub source-out : (Cs : List (List Cell)) (x : Cell) → All (All (Placed c)) Cs → ¬ Placed c x → source Cs x ≡ x
   unfolding source
   source-out [] x a n = refl
   source-out (C ∷ Cs) x a n = ap (before C) (source-out Cs x (a .1) n) ∙ before-out C x (a .0) n
@@ -86,36 +78,12 @@ module _ (c : Circuit) where
       go (no p) (yes q) = absurd (p (subst (Placed c) (sym h ∙ source-out (c .cycles) x a p) (source-all (Placed c) (c .cycles) y a q)))
       go (no p) (no q) = sym (source-out (c .cycles) x a p) ∙ h ∙ source-out (c .cycles) y a q
 
-module _ (𝓕 : Field) (g : Log 𝓕) where
-  pub permutes : Permutes 𝓕 g
-  permutes ad x y h = source-apart (g .circuit) (eleven-yes 𝓕 g ad) x y h
-
-  pub keeps : Keeps 𝓕 g
-  keeps ad p x = go (placed? (g .circuit) x)
-    where
-      a : All (All (Placed (g .circuit))) (g .circuit .cycles)
-      a = cells-placed (g .circuit) (eleven-yes 𝓕 g ad)
-
-      Cs : List (List ℕ)
-      Cs = map (map (firstLabel (g .circuit))) (g .circuit .cycles)
-
-      v : ℕ → 𝓕 .F
-      v = atCell (rowsOf (g .circuit)) (copiedAt 𝓕 g)
-
-      go : Dec (Placed (g .circuit) x) → cellValue 𝓕 g (source (g .circuit .cycles) x) ≡ cellValue 𝓕 g x
-      go (yes h) =
-          sym (value-at 𝓕 g (source (g .circuit .cycles) x) (source-all (Placed (g .circuit)) (g .circuit .cycles) x a h))
-          ∙ ap v (source-agree (g .circuit) (g .circuit .cycles) x a h)
-          ∙ good-labels (numCopied (g .circuit)) (rowsOf (g .circuit)) v Cs (cycles-good (g .circuit) (eleven-yes 𝓕 g ad)) (copied-good 𝓕 g (eleven-yes 𝓕 g ad) p) .same (firstLabel (g .circuit) x)
-          ∙ value-at 𝓕 g x h
-      go (no h) = ap (cellValue 𝓕 g) (source-out (g .circuit) (g .circuit .cycles) x a h)
-
 -- ---- the grand product
 module _ (𝓕 : Field) where
   open Field 𝓕 using (F, one, mul)
 
   module _ (g : Log 𝓕) where
-    whole : 0 < numCopied (g .circuit) → concat (take (numZ (g .circuit)) (zCut (g .circuit))) ≡ below (numCopied (g .circuit))
+    pub whole : 0 < numCopied (g .circuit) → concat (take (numZ (g .circuit)) (zCut (g .circuit))) ≡ below (numCopied (g .circuit))
     unfolding zCut
     whole p =
         let n : ℕ = numCopied (g .circuit) in
@@ -123,7 +91,7 @@ module _ (𝓕 : Field) where
         let q = parts-of-z (g .circuit) in
         ap concat (take-all (numZ (g .circuit)) (zCut (g .circuit)) (omega arith)) ∙ concat-cut s (below n) (size-pos (g .circuit) p)
 
-    step-at : (s j : ℕ) → j < numZ (g .circuit) → stepAt 𝓕 g (s * numZ (g .circuit) + j) ≡ partAt 𝓕 g (getD (zCut (g .circuit)) j []) (rowAt (g .circuit .k) (suc s))
+    pub step-at : (s j : ℕ) → j < numZ (g .circuit) → stepAt 𝓕 g (s * numZ (g .circuit) + j) ≡ partAt 𝓕 g (getD (zCut (g .circuit)) j []) (rowAt (g .circuit .k) (suc s))
     unfolding stepAt
     step-at s j l =
         ap₂ (λ (x y : ℕ). partAt 𝓕 g (getD (zCut (g .circuit)) x []) (rowAt (g .circuit .k) (suc y))) (mod-row s (numZ (g .circuit)) j l)
@@ -160,27 +128,3 @@ module _ (𝓕 : Field) where
                 bad : numZ (g .circuit) ≡ 0 → ⊥
                 bad z = omega arith
             go (no n) = omega arith
-
-    pub closes : Closes 𝓕 g
-    unfolding runningAt
-    closes ad p = go (ℕ-discrete (numCopied (g .circuit)) 0)
-      where
-        M : ℕ
-        M = rowsOf (g .circuit)
-
-        go : Dec (numCopied (g .circuit) ≡ 0) → runningAt 𝓕 g ((M - 1) * numZ (g .circuit)) ≡ one
-        go (no n) =
-            let pos : 0 < numCopied (g .circuit) = omega arith in
-            let N : ℕ = numZ (g .circuit) in
-            let a : ℕ → ℕ → F = A 𝓕 g pos (k-positive 𝓕 g ad) (k-below-21 𝓕 g ad) (eleven-yes 𝓕 g ad) in
-            let b : ℕ → ℕ → F = B 𝓕 g pos (k-positive 𝓕 g ad) (k-below-21 𝓕 g ad) (eleven-yes 𝓕 g ad) in
-            running-agree 𝓕 g pos (k-positive 𝓕 g ad) (k-below-21 𝓕 g ad) (eleven-yes 𝓕 g ad) ((M - 1) * N)
-            ∙ ap (scan 𝓕 (g .circuit .k) N a b) (sym (add-zero ((M - 1) * N)))
-            ∙ sym (z-scan 𝓕 (g .circuit .k) N a b 0 (M - 1) (z-pos (g .circuit) pos) (omega arith))
-            ∙ running-closes 𝓕 (g .circuit .k) N a b (k-positive 𝓕 g ad) (k-below-21 𝓕 g ad)
-            (safe-parts 𝓕 (g .circuit .k) (numCopied (g .circuit)) (partSize (g .circuit) pos) (copiedAt 𝓕 g) (φ 𝓕 g) (Cs 𝓕 g) N
-            (λ i r l q m e. p .factor-denominators i l r m q (factor-agree 𝓕 g pos (k-positive 𝓕 g ad) (k-below-21 𝓕 g ad) (eleven-yes 𝓕 g ad) i r l m ∙ e)))
-            (balanced 𝓕 (g .circuit .k) (numCopied (g .circuit)) (partSize (g .circuit) pos) (copiedAt 𝓕 g) (φ 𝓕 g) (Cs 𝓕 g) N (covers (g .circuit) pos)
-            (cycles-good (g .circuit) (eleven-yes 𝓕 g ad))
-            (copied-good 𝓕 g (eleven-yes 𝓕 g ad) p))
-        go (yes e) = ap (runningAt 𝓕 g) (ap (λ (n : ℕ). (M - 1) * n) (none-z (g .circuit) e) ∙ mul-zero (M - 1)) ∙ upTo-zero mul one (stepAt 𝓕 g)

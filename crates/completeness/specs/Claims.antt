@@ -21,7 +21,23 @@ use Rattle.calls.specs.RowSum.{rowSumOf}
 use Rattle.calls.specs.Meaning.{Each, Admitted, NoCounts, Conclusions, DemandThreeOf}
 use Rattle.calls.specs.Demand.{DemandThree}
 use Rattle.calls.specs.Composed.{ReadsBack, LookupZero, StartZero, PartZero, ComposeValue, Reads}
-use Rattle.calls.specs.Papers.{PartsOfZ, SameTotals, CountsTurn, IsHabockH, HabockSum, Permutes, Keeps, IsPlonkZ, Closes}
+use Rattle.calls.specs.Papers.{PartsOfZ, SameTotals, CountsTurn, IsHabockH, HabockSum, IsPlonkZ}
+use Rattle.calls.specs.Copies.{
+  Permutes,
+  Labels,
+  LabelsDifferWhere,
+  LabelsDifferAt𝔾,
+  AreFactors,
+  Keeps,
+  Balances,
+  WholeProduct,
+  ClosesWhen,
+  Closes,
+  AnyZ,
+  MustClose,
+  IsPaperZ,
+}
+use Rattle.calls.specs.Insurer.{ReadingsCovered, Odds, OddsLimit, GoodLog, FewTurnedAway, RowListedTwice, ZeroWhen}
 use Rattle.completeness.specs.Scope.{Scoped}
 
 -- "Then 15 is given exactly when, for some lookup, no column of whole counts turns the compressed table into the compressed inputs"
@@ -59,6 +75,14 @@ pub record Claims : Type 1 where
   pub demand-three : DemandThree
   pub refused-when : RefusedWhen
   pub row-sum-zero : RowSumZero
+  -- the insurer's first two questions: "Can a good log be turned away? Does a table row listed twice spoil a count?"
+  pub readings-covered : ReadingsCovered
+  pub good-log : GoodLog
+  pub few-turned-away : FewTurnedAway
+  pub odds : Odds
+  pub odds-limit : OddsLimit
+  pub row-listed-twice : RowListedTwice
+  pub zero-when : ZeroWhen
   -- what the composed constraints say, over any field and any columns, and what they read of a log
   pub reads-back : ReadsBack
   pub lookup-zero : (𝓕 : Field) (s : Environment 𝓕) (c : Circuit) → LookupZero 𝓕 s c
@@ -77,7 +101,18 @@ pub record Claims : Type 1 where
   pub is-habock-h : (𝓕 : Field) (el : ℕ → 𝓕 .F) (rows : ℕ) (input table : ℕ → 𝓕 .F) (γ : 𝓕 .F) (m : ℕ → 𝓕 .F)
       → IsHabockH 𝓕 el rows input table γ m
   pub habock-sum : (𝓕 : Field) (el : ℕ → 𝓕 .F) (rows : ℕ) (input table : ℕ → 𝓕 .F) (γ : 𝓕 .F) → HabockSum 𝓕 el rows input table γ
-  pub permutes : (𝓕 : Field) (g : Log 𝓕) → Permutes 𝓕 g
-  pub keeps : (𝓕 : Field) (g : Log 𝓕) → Keeps 𝓕 g
   pub is-plonk-z : (𝓕 : Field) (g : Log 𝓕) → IsPlonkZ 𝓕 g
+  -- the copies
+  pub permutes : Permutes
+  pub labels : Labels
+  pub labels-differ-where : (𝓕 : Field) (g : Log 𝓕) → LabelsDifferWhere 𝓕 g
+  pub labels-differ-at-𝔾 : LabelsDifferAt𝔾
+  pub are-factors : (𝓕 : Field) (g : Log 𝓕) → AreFactors 𝓕 g
+  pub is-paper-z : (𝓕 : Field) (g : Log 𝓕) → IsPaperZ 𝓕 g
+  pub keeps : (𝓕 : Field) (g : Log 𝓕) → Keeps 𝓕 g
+  pub balances : (𝓕 : Field) (g : Log 𝓕) → Balances 𝓕 g
+  pub whole-product : (𝓕 : Field) (g : Log 𝓕) → WholeProduct 𝓕 g
+  pub closes-when : (𝓕 : Field) (g : Log 𝓕) → ClosesWhen 𝓕 g
   pub closes : (𝓕 : Field) (g : Log 𝓕) → Closes 𝓕 g
+  pub any-z : (𝓕 : Field) (g : Log 𝓕) (α : 𝓕 .F) (y : ℕ → 𝓕 .F) → AnyZ 𝓕 g α y
+  pub must-close : (𝓕 : Field) (g : Log 𝓕) (α : 𝓕 .F) (y : ℕ → 𝓕 .F) → MustClose 𝓕 g α y

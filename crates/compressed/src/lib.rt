@@ -24,12 +24,12 @@ ghost use Rattle.prover.specs.Words.{wordsOf};
 ghost use Rattle.prover.specs.Lent.{Behind, lentEnvironment, compressedIn, compressedPolysIn, rootsOf};
 
 // The value of the expression at a root, 0 where there is no such node.
-fn value_of_root(
-    nodes: &[u64],
-    circuit: &[u64],
-    witness: &[u64],
-    columns: &[u64],
-    challenges: &[u64],
+fn value_of_root<'a>(
+    nodes: &'a [u64],
+    circuit: &'a [u64],
+    witness: &'a [u64],
+    columns: &'a [u64],
+    challenges: &'a [u64],
     layout: Layout,
     point: Point,
     root: u64,
@@ -54,12 +54,12 @@ fn value_of_root(
 }
 
 // The compressed value at a point.
-fn compressed_at(
-    nodes: &[u64],
-    circuit: &[u64],
-    witness: &[u64],
-    columns: &[u64],
-    challenges: &[u64],
+fn compressed_at<'a>(
+    nodes: &'a [u64],
+    circuit: &'a [u64],
+    witness: &'a [u64],
+    columns: &'a [u64],
+    challenges: &'a [u64],
     layout: Layout,
     point: Point,
     pairs: &[u64],
@@ -103,12 +103,12 @@ pub fn row_after(row: usize, place: usize, k: usize) -> usize
 }
 
 // One compressed column, from word `to` of the column buffer on, through the row order once.
-pub fn lookup_compressed_poly(
-    nodes: &[u64],
-    circuit: &[u64],
-    witness: &[u64],
+pub fn lookup_compressed_poly<'a>(
+    nodes: &'a [u64],
+    circuit: &'a [u64],
+    witness: &'a [u64],
     columns: &mut [u64],
-    challenges: &[u64],
+    challenges: &'a [u64],
     layout: Layout,
     k: usize,
     pairs: &[u64],
@@ -148,12 +148,12 @@ pub fn lookup_compressed_poly(
 }
 
 // Both columns of the lookup of `width` pairs from pair `start` on: the input, then the table.
-fn compressed_pair(
-    nodes: &[u64],
-    circuit: &[u64],
-    witness: &[u64],
+fn compressed_pair<'a>(
+    nodes: &'a [u64],
+    circuit: &'a [u64],
+    witness: &'a [u64],
     columns: &mut [u64],
-    challenges: &[u64],
+    challenges: &'a [u64],
     layout: Layout,
     k: usize,
     pairs: &[u64],
@@ -202,12 +202,12 @@ fn compressed_pair(
 }
 
 // The compressed columns of all lookups, of these widths: input 0, table 0, input 1, table 1, ..
-pub fn lookup_compressed_polys(
-    nodes: &[u64],
-    circuit: &[u64],
-    witness: &[u64],
+pub fn lookup_compressed_polys<'a>(
+    nodes: &'a [u64],
+    circuit: &'a [u64],
+    witness: &'a [u64],
     columns: &mut [u64],
-    challenges: &[u64],
+    challenges: &'a [u64],
     layout: Layout,
     k: usize,
     widths: &[u64],

@@ -78,12 +78,12 @@ fn layout_from(k: usize, words: &[u64]) -> Layout
 }
 
 // The value of node n at every row, through the row order once.
-fn values(
-    nodes: &[u64],
-    circuit: &[u64],
-    witness: &[u64],
-    columns: &[u64],
-    challenges: &[u64],
+fn values<'a>(
+    nodes: &'a [u64],
+    circuit: &'a [u64],
+    witness: &'a [u64],
+    columns: &'a [u64],
+    challenges: &'a [u64],
     layout: Layout,
     k: usize,
     eq: &[u64],
@@ -129,13 +129,13 @@ fn small_layout(words: &[u64]) -> bool
 // The value of node n at every row, over the first 2^k words of `out`; `eq` has EqXY's value at each row. Where k, the layout or n
 // is out of range, or `out` is short, it stays as it is.
 #[no_mangle]
-pub extern "C" fn expression_values(
+pub extern "C" fn expression_values<'a>(
     k: usize,
-    nodes: &[u64],
-    circuit: &[u64],
-    witness: &[u64],
-    columns: &[u64],
-    challenges: &[u64],
+    nodes: &'a [u64],
+    circuit: &'a [u64],
+    witness: &'a [u64],
+    columns: &'a [u64],
+    challenges: &'a [u64],
     layout: &[u64],
     eq: &[u64],
     n: usize,

@@ -65,11 +65,11 @@ fn answer_three(answer: &mut [u64], a: u64, b: u64, c: u64)
 }
 
 #[no_mangle]
-pub extern "C" fn hyperplonk_build(
-    circuit: &[u64],
+pub extern "C" fn hyperplonk_build<'a>(
+    circuit: &'a [u64],
     instance: &[u64],
-    witness: &[u64],
-    challenges: &[u64],
+    witness: &'a [u64],
+    challenges: &'a [u64],
     columns: &mut [u64],
     nodes: &mut [u64],
     answer: &mut [u64],
@@ -87,12 +87,12 @@ pub extern "C" fn hyperplonk_build(
 }
 
 #[no_mangle]
-pub extern "C" fn hyperplonk_row_sum(
-    circuit: &[u64],
-    witness: &[u64],
-    columns: &[u64],
-    nodes: &[u64],
-    challenges: &[u64],
+pub extern "C" fn hyperplonk_row_sum<'a>(
+    circuit: &'a [u64],
+    witness: &'a [u64],
+    columns: &'a [u64],
+    nodes: &'a [u64],
+    challenges: &'a [u64],
     y: &[u64],
     answer: &mut [u64],
 ) -> u64

@@ -14,7 +14,7 @@ ghost use Prim.Native.Nat.{_≤_};
 ghost use lib.ListN.{length};
 
 // Writes what was built to the file that argument 6 names.
-fn keep(columns: &[u64], nodes: &[u64], s: Shape) {
+fn keep<'a>(columns: &'a [u64], nodes: &'a [u64], s: Shape) {
     let fd = open_out(6);
     if fd < 0 {
         return;
@@ -32,11 +32,11 @@ fn keep(columns: &[u64], nodes: &[u64], s: Shape) {
     say::line(b", z columns ", s.parts as u64);
 }
 
-fn build_words(
-    circuit: &[u64],
+fn build_words<'a>(
+    circuit: &'a [u64],
     instance: &[u64],
-    witness: &[u64],
-    challenges: &[u64],
+    witness: &'a [u64],
+    challenges: &'a [u64],
     columns: &mut [u64],
     nodes: &mut [u64],
 ) {
@@ -64,10 +64,10 @@ fn build_words(
     keep(columns, nodes, s);
 }
 
-fn build_challenges(
-    circuit: &[u64],
+fn build_challenges<'a>(
+    circuit: &'a [u64],
     instance: &[u64],
-    witness: &[u64],
+    witness: &'a [u64],
     columns: &mut [u64],
     nodes: &mut [u64],
 ) {
@@ -140,12 +140,12 @@ fn columns_end(words: usize, built: &[u64]) -> usize
     built.len()
 }
 
-fn check_words(
-    circuit: &[u64],
-    witness: &[u64],
-    columns: &[u64],
-    nodes: &[u64],
-    challenges: &[u64],
+fn check_words<'a>(
+    circuit: &'a [u64],
+    witness: &'a [u64],
+    columns: &'a [u64],
+    nodes: &'a [u64],
+    challenges: &'a [u64],
     y: &[u64],
     s: Shape,
 ) {
@@ -169,7 +169,13 @@ fn check_words(
     sum_values(circuit, witness, columns, nodes, challenges, y, needed);
 }
 
-fn check_parts(circuit: &[u64], witness: &[u64], built: &[u64], challenges: &[u64], y: &[u64]) {
+fn check_parts<'a>(
+    circuit: &'a [u64],
+    witness: &'a [u64],
+    built: &'a [u64],
+    challenges: &'a [u64],
+    y: &[u64],
+) {
     say::out(b"asking\n");
     let s = shape_of(circuit);
     let at = columns_end(s.column_words, built);
@@ -185,7 +191,7 @@ fn check_parts(circuit: &[u64], witness: &[u64], built: &[u64], challenges: &[u6
     );
 }
 
-fn check_y(circuit: &[u64], witness: &[u64], built: &[u64], challenges: &[u64]) {
+fn check_y<'a>(circuit: &'a [u64], witness: &'a [u64], built: &'a [u64], challenges: &'a [u64]) {
     let mut y = [0u64; 64];
     let got = read(5, &mut y);
     let n = got.count;
@@ -194,7 +200,7 @@ fn check_y(circuit: &[u64], witness: &[u64], built: &[u64], challenges: &[u64]) 
     }
 }
 
-fn check_challenges(circuit: &[u64], witness: &[u64], built: &[u64]) {
+fn check_challenges<'a>(circuit: &'a [u64], witness: &'a [u64], built: &'a [u64]) {
     let mut challenges = [0u64; 64];
     let got = read(4, &mut challenges);
     let n = got.count;
@@ -203,7 +209,7 @@ fn check_challenges(circuit: &[u64], witness: &[u64], built: &[u64]) {
     }
 }
 
-fn check_built(circuit: &[u64], witness: &[u64], built: &mut [u64]) {
+fn check_built<'a>(circuit: &'a [u64], witness: &'a [u64], built: &mut [u64]) {
     let got = read(6, built);
     let n = got.count;
     if got.good {

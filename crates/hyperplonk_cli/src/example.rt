@@ -32,7 +32,7 @@ const H: usize = 40;
 const Z: usize = 48;
 
 // A row: its number, the table, the reading, the settings, m, h and z.
-fn show_row(circuit: &[u64], witness: &[u64], columns: &[u64], row: usize) {
+fn show_row<'a>(circuit: &'a [u64], witness: &'a [u64], columns: &'a [u64], row: usize) {
     say::padded(row as u64, 3);
     say::padded(word(circuit, after(20, row)), 10);
     say::padded(word(witness, row), 9);
@@ -44,7 +44,7 @@ fn show_row(circuit: &[u64], witness: &[u64], columns: &[u64], row: usize) {
     say::out(b"\n");
 }
 
-fn show_rows(circuit: &[u64], witness: &[u64], columns: &[u64]) {
+fn show_rows<'a>(circuit: &'a [u64], witness: &'a [u64], columns: &'a [u64]) {
     say::out(
         b"row  approved  reading  sheet  knee  m                     h                     z\n",
     );
@@ -66,7 +66,7 @@ fn column_sum(columns: &[u64], start: usize) -> u64 {
     sum
 }
 
-fn show(circuit: &[u64], witness: &[u64], columns: &[u64]) {
+fn show<'a>(circuit: &'a [u64], witness: &'a [u64], columns: &'a [u64]) {
     show_rows(circuit, witness, columns);
     say::out(
         b"\nThe table lists 60 at rows 3 and 4: all four readings of 60 are counted at row 4, the last.\n",
@@ -76,7 +76,13 @@ fn show(circuit: &[u64], witness: &[u64], columns: &[u64]) {
     say::out(b"z runs through the rows 1 2 4 3 6 7 5, and back to 1 at row 1.\n");
 }
 
-fn sum_up(circuit: &[u64], witness: &[u64], columns: &[u64], nodes: &[u64], challenges: &[u64]) {
+fn sum_up<'a>(
+    circuit: &'a [u64],
+    witness: &'a [u64],
+    columns: &'a [u64],
+    nodes: &'a [u64],
+    challenges: &'a [u64],
+) {
     let y = [2, 3, 5];
     let sum = hyperplonk::row_sum(circuit, witness, columns, nodes, challenges, &y);
     say::out(b"row sum of the composed expression: number ");
@@ -84,7 +90,12 @@ fn sum_up(circuit: &[u64], witness: &[u64], columns: &[u64], nodes: &[u64], chal
     say::line(b", sum ", sum.sum);
 }
 
-fn run_on(circuit: &[u64], witness: &[u64], challenges: &[u64], with_alpha: &[u64]) {
+fn run_on<'a>(
+    circuit: &'a [u64],
+    witness: &'a [u64],
+    challenges: &'a [u64],
+    with_alpha: &'a [u64],
+) {
     let instance = [0u64; 0];
     let mut columns = [0u64; 56];
     let mut nodes = [0u64; 312];

@@ -55,7 +55,7 @@ pub fn word(x: usize) -> u64
     x as u64
 }
 
-fn layout_of(c: &[usize; 12]) -> Layout
+pub fn layout_of(c: &[usize; 12]) -> Layout
     ensures { λ r. ⌜ r ≡ layoutOf (now (c .entry)) ⌝ }
 {
     let rows = c[4];
@@ -79,7 +79,7 @@ fn layout_of(c: &[usize; 12]) -> Layout
 }
 
 // The row that the rotation kept in a word leads to.
-fn turned(c: &[usize; 12], rotation: u64) -> usize
+pub fn turned(c: &[usize; 12], rotation: u64) -> usize
     requires { ⌜ Ready (now c) ⌝ }
     ensures { λ r. ⌜ (r ≡ rotated (pointOf (now (c .entry)) .k) (pointOf (now (c .entry)) .row) (signed rotation)) × (r < 1048576) ⌝ }
 {

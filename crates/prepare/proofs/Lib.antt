@@ -1,3 +1,4 @@
 pub mod Accepted
 pub mod Asked
 pub mod Computed
+pub mod Bound

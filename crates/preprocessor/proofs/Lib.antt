@@ -8,3 +8,4 @@ pub mod Handed
 pub mod Composed
 pub mod Nodes
 pub mod Counts
+pub mod Bound

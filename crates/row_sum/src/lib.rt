@@ -5,11 +5,9 @@ use composed::same_nodes;
 use compressed::row_after;
 use expression::poly::Layout;
 use expression::value::Point;
-use leaves::context;
 use multilinear::eq_at;
 use needed::column_words;
 use needed::composed_nodes;
-use node_values::node_values;
 use prepare::copied_of;
 use prepare::numbers;
 use preprocessor::Numbers;
@@ -122,68 +120,50 @@ pub fn question_16(
 
 // The value of the last node at one row, EqXY(0) at that row with it. The values of all nodes are left in `known` where it has a word for
 // each; else the last node is evaluated by itself.
-fn row_value(
-    circuit: &[u64],
-    witness: &[u64],
-    columns: &[u64],
-    nodes: &[u64],
-    challenges: &[u64],
+fn row_value<'a>(
+    circuit: &'a [u64],
+    witness: &'a [u64],
+    columns: &'a [u64],
+    nodes: &'a [u64],
+    challenges: &'a [u64],
     y: &[u64],
     layout: Layout,
     k: usize,
     row: usize,
     place: usize,
-    known: &mut [u64],
 ) -> u64
     requires { ⌜ Summable (now circuit) (now nodes) (now y) layout k × (place < 2 ^ k) × (row ≡ rowAt k place) ⌝ }
     ensures { λ r. ⌜ el r ≡ valueAt 𝔾 (lentEnvironment (now (circuit .entry)) (now (witness .entry)) (now (columns .entry)) (now (challenges .entry)) (now (y .entry))) (exprOf (now (nodes .entry)) (composedNodes (circuitOf (now (circuit .entry))) - 1)) row ⌝ }
 {
     let eq = eq_at(k, y, row);
-    let count = nodes.len() / 4;
-    let root = count - 1;
-    let point = Point {
-        k: k,
-        row: row,
-        place: place,
-        eq: eq,
-    };
-    if known.len() < count {
-        return value(
-            nodes,
-            circuit,
-            witness,
-            columns,
-            challenges,
-            layout,
-            point,
-            root,
-        );
-    }
-    let c = context(layout, point);
-    node_values(
+    let root = nodes.len() / 4 - 1;
+    value(
         nodes,
         circuit,
         witness,
         columns,
         challenges,
-        &c,
-        known,
-        count,
-    );
-    known[root]
+        layout,
+        Point {
+            k: k,
+            row: row,
+            place: place,
+            eq: eq,
+        },
+        root,
+    )
 }
 
 // The sum of the last node's values over the rows, through the row order once.
-fn sum_rows(
-    circuit: &[u64],
-    witness: &[u64],
-    columns: &[u64],
-    nodes: &[u64],
-    challenges: &[u64],
+fn sum_rows<'a>(
+    circuit: &'a [u64],
+    witness: &'a [u64],
+    columns: &'a [u64],
+    nodes: &'a [u64],
+    challenges: &'a [u64],
     y: &[u64],
     layout: Layout,
     k: usize,
-    known: &mut [u64],
 ) -> u64
     requires { ⌜ Summable (now circuit) (now nodes) (now y) layout k ⌝ }
     ensures { λ r. ⌜ r ≡ val (sumOf (now (circuit .entry)) (now (witness .entry)) (now (columns .entry)) (now (nodes .entry)) (now (challenges .entry)) (now (y .entry))) ⌝ }
@@ -204,7 +184,6 @@ fn sum_rows(
             k,
             row,
             place,
-            known,
         );
         sum = field::add_u64(sum, x);
         row = row_after(row, place, k);
@@ -214,12 +193,12 @@ fn sum_rows(
 }
 
 // The row sum of circuit words for which questions 1 to 11 are yes.
-fn sum_prepared(
-    circuit: &[u64],
-    witness: &[u64],
-    columns: &[u64],
-    nodes: &[u64],
-    challenges: &[u64],
+fn sum_prepared<'a>(
+    circuit: &'a [u64],
+    witness: &'a [u64],
+    columns: &'a [u64],
+    nodes: &'a [u64],
+    challenges: &'a [u64],
     y: &[u64],
     copied: &[u64],
     v: Numbers,
@@ -232,20 +211,7 @@ fn sum_prepared(
     }
     let layout = sum_layout(circuit, v);
     let k = circuit[0] as usize;
-    // A word for each node that the limits allow.
-    let mut known = [0u64; 11295];
-    let all = &mut known[..];
-    let sum = sum_rows(
-        circuit,
-        witness,
-        columns,
-        nodes,
-        challenges,
-        y,
-        layout,
-        k,
-        all,
-    );
+    let sum = sum_rows(circuit, witness, columns, nodes, challenges, y, layout, k);
     RowSum {
         number: 0,
         sum: sum,
@@ -253,12 +219,12 @@ fn sum_prepared(
 }
 
 // The same, with the copied columns as the first `count` of an array.
-fn sum_named(
-    circuit: &[u64],
-    witness: &[u64],
-    columns: &[u64],
-    nodes: &[u64],
-    challenges: &[u64],
+fn sum_named<'a>(
+    circuit: &'a [u64],
+    witness: &'a [u64],
+    columns: &'a [u64],
+    nodes: &'a [u64],
+    challenges: &'a [u64],
     y: &[u64],
     of: &[u64; 72],
     count: usize,
@@ -281,12 +247,12 @@ fn sum_named(
 }
 
 // The row sum: the number of the first question that is answered no and the sum 0, or 0 and the sum.
-pub fn row_sum(
-    circuit: &[u64],
-    witness: &[u64],
-    columns: &[u64],
-    nodes: &[u64],
-    challenges: &[u64],
+pub fn row_sum<'a>(
+    circuit: &'a [u64],
+    witness: &'a [u64],
+    columns: &'a [u64],
+    nodes: &'a [u64],
+    challenges: &'a [u64],
     y: &[u64],
 ) -> RowSum
     ensures { λ r. ⌜ r ≡ rowSumOf (now (circuit .entry)) (now (witness .entry)) (now (columns .entry)) (now (nodes .entry)) (now (challenges .entry)) (now (y .entry)) ⌝ }

@@ -11,6 +11,7 @@ use Rattle.prover.specs.Log.{Log}
 use Rattle.calls.specs.Build.{logOf, checkBuild, buildOf}
 use Rattle.calls.specs.Meaning.{Premises, cellValue}
 use Rattle.calls.specs.Demand.{Succeeds}
+use Rattle.calls.specs.Insurer.{Good}
 use Rattle.field.proofs.Elements.{val-zero, val-injective}
 use Rattle.bh.proofs.Xor.{two}
 use Rattle.completeness.proofs.DemandThree.{demand-three}
@@ -50,6 +51,17 @@ premises =
   where
     none : 0 < 0 → ⊥
     none l = omega arith
+
+-- it is a good log: each reading stands in the table
+pub good : Good 𝔾 log
+unfolding everything
+good =
+    record {
+      readings-stand = one _ (two _ (0, omega arith, one _ (val-injective _ _ refl)) (1, omega arith, one _ (val-injective _ _ refl)));
+      zero-constraints = premises .zero-constraints;
+      equal-cells = premises .equal-cells;
+      cuts-alike = premises .cuts-alike;
+    }
 
 -- questions 1 to 14 are yes, and 15 is not given
 asked : checkBuild circuit (6 ∷ []) (0 ∷ 6 ∷ []) (5 ∷ 7 ∷ []) (replicate 17 9) (replicate 429 9) ≡ 0

@@ -83,11 +83,11 @@ pub fn permutation_columns(circuit: &[u64], copied: &[u64], columns: &mut [u64])
 }
 
 // The compressed columns of the lookups, from word `to` on, over the user's challenges.
-fn compressed_from(
-    circuit: &[u64],
-    witness: &[u64],
+fn compressed_from<'a>(
+    circuit: &'a [u64],
+    witness: &'a [u64],
     columns: &mut [u64],
-    user: &[u64],
+    user: &'a [u64],
     layout: Layout,
     k: usize,
     beta: u64,
@@ -122,11 +122,11 @@ fn compressed_from(
 
 // The compressed columns, behind the permutation columns: input and table per lookup. `challenges` are the user's, then beta and gamma;
 // `copied` is how many columns are copied.
-pub fn compressed_columns(
-    circuit: &[u64],
-    witness: &[u64],
+pub fn compressed_columns<'a>(
+    circuit: &'a [u64],
+    witness: &'a [u64],
     columns: &mut [u64],
-    challenges: &[u64],
+    challenges: &'a [u64],
     copied: usize,
 )
     requires { ⌜ Accepted (now circuit) × (length (now challenges) ≡ numUser (circuitOf (now circuit)) + 2) × (copied ≡ numCopied (circuitOf (now circuit))) × (compressedAt (circuitOf (now circuit)) + numLookups (circuitOf (now circuit)) * 2 * rowsOf (circuitOf (now circuit)) ≤ length (now columns)) ⌝ }

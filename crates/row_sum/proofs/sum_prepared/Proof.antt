@@ -20,20 +20,15 @@ sum-layout-requires c κs = search needs
 shared-slice-read-k : tie.Need-shared-slice-read-k
 shared-slice-read-k c = omega (arith, laid-of (c .before .before .before .before .before .before .before .before .before .before .before .args .circuit .now) (c .before .before .before .before .before .before .before .before .before .before .before .pre .accepted) .long)
 
-slice-aggregate-all : tie.Need-slice-aggregate-all
-slice-aggregate-all c = search needs
-
 sum-rows-requires : tie.Need-sum-rows-requires
 sum-rows-requires c κs =
-    let s = c .before .before .before .before .before .before .before .before .before .before .before .before in
-    let a = s .args in
-    summable (a .circuit .now) (a .witness .now) (a .columns .now) (a .nodes .now) (a .challenges .now) (a .y .now) (s .pre .accepted) _ (c .before .before .before .before .question-16 .ensures) (c .before .before .before .if1 .left) _ (c .before .before .sum-layout .ensures)
+    let a = c .before .before .before .before .before .before .before .before .before .before .before .args in
+    summable (a .circuit .now) (a .witness .now) (a .columns .now) (a .nodes .now) (a .challenges .now) (a .y .now) (c .before .before .before .before .before .before .before .before .before .before .before .pre .accepted) _ (c .before .before .before .question-16 .ensures) (c .before .before .if1 .left) _ (c .before .sum-layout .ensures)
 
 returns-2 : tie.Need-returns-2
 returns-2 c =
-    let s = c .before .before .before .before .before .before .before .before .before .before .before .before .before .before in
-    let a = s .args in
-    answered (a .circuit .now) (a .witness .now) (a .columns .now) (a .nodes .now) (a .challenges .now) (a .y .now) (s .pre .accepted) _ (c .before .before .before .before .before .before .question-16 .ensures) (c .before .before .before .before .before .if1 .left) _ (c .before .sum-rows .ensures)
+    let a = c .before .before .before .before .before .before .before .before .before .before .before .before .args in
+    answered (a .circuit .now) (a .witness .now) (a .columns .now) (a .nodes .now) (a .challenges .now) (a .y .now) (c .before .before .before .before .before .before .before .before .before .before .before .before .pre .accepted) _ (c .before .before .before .before .question-16 .ensures) (c .before .before .before .if1 .left) _ (c .sum-rows .ensures)
 
 pub sum-prepared-spec : {M : Type 1} → statement M
 sum-prepared-spec =
@@ -43,6 +38,5 @@ sum-prepared-spec =
     returns
     sum-layout-requires
     shared-slice-read-k
-    slice-aggregate-all
     sum-rows-requires
     returns-2)

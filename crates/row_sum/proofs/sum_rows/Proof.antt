@@ -1,9 +1,8 @@
 -- `sum_rows` meets its contract: after t turns the sum is that over the first t rows of the order. Assumes nothing.
 use borrow.Author.Needs.{needs}
-use mathlib.Core.Path.{_≡_, refl, sym, _∙_}
+use mathlib.Core.Path.{_≡_, sym}
 use Prim.Native.Nat.{_-_, _^_, _≤_}
 use native.Mathlib.Omega.{arith}
-use lib.ListN.{length}
 use Rattle.field.specs.Field.{𝔾}
 use Rattle.bh.specs.Rows.{rowAt}
 use Rattle.bh.proofs.Order.{row-nought}
@@ -18,54 +17,49 @@ use Rattle.row_sum.proofs.sum_rows.Statement.{statement}
 use Rattle.row_sum.proofs.sum_rows.Tie as tie
 
 abbrev Inv-loop : tie.InvT-loop
-Inv-loop circuit witness columns nodes challenges y layout k known₀ rows sum₀ row₀ place₀ known sum row place =
+Inv-loop circuit witness columns nodes challenges y layout k rows sum₀ row₀ place₀ sum row place =
     (row ≡ rowAt k place) × (place ≤ 2 ^ k) × Added k (valueAt 𝔾 (lentEnvironment circuit witness columns challenges y) (exprOf nodes (composedNodes (circuitOf circuit) - 1))) sum place
-    × (length known ≡ length known₀)
 
 abbrev μ-loop : tie.MeasureT-loop
-μ-loop circuit witness columns nodes challenges y layout k known₀ rows sum₀ row₀ place₀ known sum row place = rows - place
+μ-loop circuit witness columns nodes challenges y layout k rows sum₀ row₀ place₀ sum row place = rows - place
 
 rows-of-requires : tie.Need-rows-of-requires Inv-loop μ-loop
-rows-of-requires c κs = omega (arith, k-high _ _ _ _ _ (c .before .before .before .before .before .before .before .pre))
+rows-of-requires c κs = omega (arith, k-high _ _ _ _ _ (c .before .before .before .before .before .before .pre))
 
 loop-holds : tie.Need-loop-holds Inv-loop μ-loop
-loop-holds c = (sym (row-nought (c .before .before .before .before .before .before .before .before .args .k)), omega arith, added-none _ _, refl)
+loop-holds c = (sym (row-nought (c .before .before .before .before .before .before .before .args .k)), omega arith, added-none _ _)
 
 row-value-requires : tie.Need-row-value-requires Inv-loop μ-loop
 row-value-requires c κs =
-    let l = c .before .before .loop in
-    (c .before .before .before .before .before .before .before .before .before .before .before .pre, omega (arith, c .before .loop-test .taken, c .before .before .before .rows-of .ensures), l .inv .0)
+    let l = c .before .loop in
+    (c .before .before .before .before .before .before .before .before .before .pre, omega (arith, c .loop-test .taken, c .before .before .rows-of .ensures), l .inv .0)
 
 add-u64-requires : tie.Need-add-u64-requires Inv-loop μ-loop
 add-u64-requires c κs = search needs
 
 row-after-requires : tie.Need-row-after-requires Inv-loop μ-loop
 row-after-requires c κs =
-    let pre = c .before .before .before .before .before .before .before .before .before .before .before .before .before .before .before .pre in
-    (k-low _ _ _ _ _ pre, k-high _ _ _ _ _ pre, c .before .before .before .before .before .before .loop .inv .0)
+    let pre = c .before .before .before .before .before .before .before .before .before .before .before .pre in
+    (k-low _ _ _ _ _ pre, k-high _ _ _ _ _ pre, c .before .before .before .loop .inv .0)
 
 add-place : tie.Need-add-place Inv-loop μ-loop
-add-place c = omega (arith, c .before .before .before .before .before .before .loop-test .taken)
+add-place c = omega (arith, c .before .before .before .loop-test .taken)
 
 loop-less : tie.Need-loop-less Inv-loop μ-loop
-loop-less c = omega (arith, c .before .before .before .before .before .before .loop-test .taken)
+loop-less c = omega (arith, c .before .before .before .loop-test .taken)
 
 loop-again : tie.Need-loop-again Inv-loop μ-loop
 loop-again c =
-    let l = c .before .before .before .before .before .before .before .loop in (
+    let l = c .before .before .before .before .loop in (
       c .row-after .ensures .0,
-      omega (arith, c .before .before .before .before .before .before .loop-test .taken, c .before .before .before .before .before .before .before .before .rows-of .ensures),
-      added-more _ _ _ _ (l .row) _ _ (l .inv .2) (l .inv .0) (c .before .before .before .before .row-value .ensures) (c .before .add-u64 .ensures),
-      c .before .before .before .before .row-value .kept .1 .1 .1 .1 .1 .1 .1 .1 .1 .1 .0 ∙ l .inv .3,
+      omega (arith, c .before .before .before .loop-test .taken, c .before .before .before .before .before .rows-of .ensures),
+      added-more _ _ _ _ (l .row) _ _ (l .inv .2) (l .inv .0) (c .before .before .row-value .ensures) (c .before .add-u64 .ensures),
     )
-
-same-length : tie.Need-same-length Inv-loop μ-loop
-same-length c = c .before .loop .inv .3
 
 returns : tie.Need-returns Inv-loop μ-loop
 returns c =
     let l = c .before .loop in
-    sum-is _ _ _ _ _ (c .before .before .before .before .before .before .before .before .before .before .pre) _ _ _ _ (l .place) (l .inv .2) (omega (arith, c .loop-test .left, c .before .before .rows-of .ensures, l .inv .1))
+    sum-is _ _ _ _ _ (c .before .before .before .before .before .before .before .before .before .pre) _ _ _ _ (l .place) (l .inv .2) (omega (arith, c .loop-test .left, c .before .before .rows-of .ensures, l .inv .1))
 
 pub sum-rows-spec : {M : Type 1} → statement M
 sum-rows-spec =
@@ -81,5 +75,4 @@ sum-rows-spec =
     add-place
     loop-less
     loop-again
-    same-length
     returns)

@@ -1,0 +1,121 @@
+-- Few γ turn a good log away, and how few: FewTurnedAway and OddsLimit of Insurer. Assumes nothing.
+use mathlib.Core.Path.{_≡_, sym, ap, _∙_, subst}
+use mathlib.Core.Logic.{_≢_}
+use mathlib.Core.List.{List, [], _∷_, _++_, map}
+use Prim.Native.Nat.{ℕ, _+_, _*_, _^_, _≤_, _<_}
+use native.Mathlib.Nat.{mul-le-mul}
+use native.Mathlib.Omega.{arith}
+use lib.ListN.{length, getD, take, drop, length-append, length-map}
+use lib.Seq.{take-at}
+use lib.Pow.{pow-mono}
+use Rattle.field.specs.Prime.{P}
+use Rattle.field.specs.Field.{𝔾, el, val, val-el}
+use Rattle.util.specs.Lists.{column, below, All}
+use Rattle.util.proofs.All.{all-right}
+use Rattle.util.proofs.Lists.{get-past, split-length}
+use Rattle.util.proofs.Columns.{column-length}
+use Rattle.util.proofs.Searches.{count-le}
+use Rattle.backend.specs.Circuit.{Section, wordK, entries, bodyOf, pairAt, Circuit, circuitOf, rowsOf, numUser, numPoly, numLookups, numCopied, copied, copiedIn}
+use Rattle.backend.specs.Questions.{largestK}
+use Rattle.backend.proofs.Sections.{body-length}
+use Rattle.prover.specs.Log.{Log}
+use Rattle.calls.specs.Build.{logOf, checkBuild}
+use Rattle.calls.specs.Meaning.{Premises}
+use Rattle.calls.specs.Insurer.{drawn, denominators, Good, NoneZero, Passes, FewTurnedAway, OddsLimit}
+use Rattle.completeness.proofs.Passed.{Yes, yes-all}
+use Rattle.completeness.proofs.Asked.{lending}
+use Rattle.completeness.proofs.GoodLog.{good-log}
+use Rattle.completeness.proofs.Odds.{unlucky, few, none-when}
+
+premises : (g : Log 𝔾) → Good 𝔾 g → NoneZero 𝔾 g → Premises 𝔾 g
+premises g a z =
+    record {
+      zero-constraints = a .zero-constraints;
+      equal-cells = a .equal-cells;
+      input-denominators = z .input-denominators;
+      table-denominators = z .table-denominators;
+      factor-denominators = z .factor-denominators;
+      cuts-alike = a .cuts-alike;
+    }
+
+-- a word that is none of these is none of them as an element
+words-apart : (γ : ℕ) → γ < P → (us : List (𝔾 .F)) → All (λ w. γ ≢ w) (map val us) → All (λ u. el γ ≢ u) us
+words-apart γ l [] a = tt
+words-apart γ l (u ∷ us) a = (λ e. a .0 (sym (val-el γ l) ∙ ap val e), words-apart γ l us (a .1))
+
+module _ (ws instances witness user : List ℕ) (β : ℕ) where
+  abbrev words : ℕ → List ℕ
+  words γ = user ++ (β ∷ γ ∷ [])
+
+  abbrev log : ℕ → Log 𝔾
+  log γ = logOf ws instances witness (words γ)
+
+  -- the logs differ in γ alone
+  module _ (γ : ℕ) (size : length user ≡ numUser (circuitOf ws)) where
+    user-same : (γ : ℕ) → take (numUser (circuitOf ws)) (words γ) ≡ user
+    user-same γ = take-at user (β ∷ γ ∷ []) (numUser (circuitOf ws)) size
+
+    β-same : (γ : ℕ) → getD (words γ) (numUser (circuitOf ws)) 0 ≡ β
+    β-same γ = get-past user (β ∷ γ ∷ []) (numUser (circuitOf ws)) 0 0 (omega arith)
+
+    γ-is : getD (words γ) (numUser (circuitOf ws) + 1) 0 ≡ γ
+    γ-is = get-past user (β ∷ γ ∷ []) (numUser (circuitOf ws) + 1) 1 0 (omega arith)
+
+    log-is : log γ ≡ drawn 𝔾 (log 0) (log 0 .β) (el γ)
+    unfolding logOf
+    log-is = rw (user-same γ, user-same 0, β-same γ, β-same 0, γ-is)
+
+  pub few-turned : (γ : ℕ) → All (λ u. γ ≢ u) (map val (unlucky 𝔾 (log 0))) → (columns nodes : List ℕ)
+      → checkBuild ws instances witness (words γ) columns nodes ≡ 0 → Good 𝔾 (log γ) → Passes ws instances witness (words γ) columns nodes
+  few-turned γ a columns nodes asked g =
+      let l = lending ws instances witness (words γ) columns nodes asked in
+      let e : length user ≡ numUser (circuitOf ws) = (let p = l .challenges-length in let q = length-append user (β ∷ γ ∷ []) in omega arith) in
+      let small : γ < P = all-right (λ w. w < P) user (β ∷ γ ∷ []) (l .challenges-small) .1 .0 in
+      let none : NoneZero 𝔾 (log γ) = subst (NoneZero 𝔾) (sym (log-is γ e)) (none-when 𝔾 (log 0) (el γ) .1 (words-apart γ small (unlucky 𝔾 (log 0)) a)) in
+      let r = good-log ws instances witness (words γ) columns nodes asked (g .readings-stand) in
+      record { number = r .0; row-sum = r .1 (premises (log γ) g none) }
+
+pub few-turned-away : FewTurnedAway
+unfolding logOf
+few-turned-away ws instances witness user β = (
+  map val (unlucky 𝔾 (log ws instances witness user β 0)),
+  subst (λ (x : ℕ). x ≤ denominators (circuitOf ws)) (sym (length-map (unlucky 𝔾 (log ws instances witness user β 0)) val)) (few 𝔾 (log ws instances witness user β 0)),
+  few-turned ws instances witness user β,
+)
+
+-- ---- how few
+module _ (ws : List ℕ) (y : Yes ws) where
+  abbrev c : Circuit
+  c = circuitOf ws
+
+  few-lookups : numLookups c ≤ 8
+  unfolding circuitOf
+  few-lookups =
+      let a = split-length (bodyOf ws Section.widths) (column (pairAt (bodyOf ws Section.nodes) (bodyOf ws Section.pairs)) (entries ws Section.pairs)) in
+      let b = body-length ws (y .laid) Section.widths in
+      let d = y .laid .few-widths in
+      omega arith
+
+  few-copied : numCopied c ≤ numPoly c
+  unfolding copied copiedIn
+  few-copied = subst (λ (n : ℕ). numCopied c ≤ n) (column-length (λ (i : ℕ). i) (numPoly c)) (count-le _ (below (numPoly c)))
+
+  few-polys : numPoly c ≤ 8 + 32 + 32
+  unfolding numPoly circuitOf
+  few-polys =
+      let a = body-length ws (y .laid) Section.instances in
+      let b = column-length (λ i. take (2 ^ wordK ws) (drop (i * 2 ^ wordK ws) (bodyOf ws Section.preprocess))) (entries ws Section.preprocess) in
+      let d = y .laid .few-instances in
+      let e = y .laid .few-preprocess in
+      let f = y .counted .few-witness in
+      omega arith
+
+  few-rows : rowsOf c ≤ 2 ^ largestK
+  unfolding circuitOf
+  few-rows = pow-mono (y .laid .k-high)
+
+pub odds-limit : OddsLimit
+odds-limit ws e =
+    let y = yes-all ws e in
+    mul-le-mul {n₁ = rowsOf (circuitOf ws)} {m₁ = 2 * numLookups (circuitOf ws) + numCopied (circuitOf ws)} {n₂ = 2 ^ largestK} {m₂ = 2 * 8 + (8 + 32 + 32)} (few-rows ws y)
+    (let a = few-lookups ws y in let b = few-copied ws y in let d = few-polys ws y in omega arith)

@@ -1,0 +1,145 @@
+-- Few γ make a denominator zero: Odds of Insurer. Assumes nothing.
+use mathlib.Core.Path.{_≡_, refl, sym, ap, _∙_, subst}
+use mathlib.Core.Logic.{_≢_, _↔_}
+use mathlib.Core.List.{List, [], _++_}
+use Prim.Native.Nat.{ℕ, zero, suc, _+_, _-_, _*_, _≤_, _<_}
+use native.Mathlib.Nat.{mul-comm, mul-add, mul-left-comm, mul-le-mul-left}
+use native.Mathlib.Omega.{arith}
+use lib.ListN.{length, getD, length-append}
+use Rattle.field.specs.Algebra.{Field, add-comm, add-neg, neg-unique}
+use Rattle.util.specs.Lists.{column, concat, All}
+use Rattle.util.proofs.All.{all-get, all-join, all-left, all-right, all-column, all-concat}
+use Rattle.util.proofs.Columns.{columns-length, get-columns}
+use Rattle.util.proofs.Walks.{entry-inside}
+use Rattle.backend.specs.Circuit.{rowsOf, numCopied, numLookups}
+use Rattle.prover.specs.Log.{Log}
+use Rattle.prover.specs.Columns.{instancePolys, preprocessPolys, witnessPolys, givenPolys, userEnvironment, compressedAt, inputAt, tableAt, permutationAt, copiedAt, permutationFactorAt}
+use Rattle.calls.specs.Insurer.{drawn, denominators, NoneZero, Odds}
+
+-- ---- all of a grid
+module _ {A : Type 0} (Q : A → Type 0) (rows : ℕ) (f : ℕ → ℕ → A) (n : ℕ) where
+  abbrev grid : List A
+  grid = concat (column (λ j. column (f j) rows) n)
+
+  all-grid : ((j b : ℕ) → j < n → b < rows → Q (f j b)) → All Q grid
+  all-grid h =
+      all-concat Q (column (λ j. column (f j) rows) n)
+      (all-column (All Q) (λ j. column (f j) rows) n (λ j l. all-column Q (f j) rows (λ b m. h j b l m)))
+
+  grid-all : All Q grid → (j b : ℕ) → j < n → b < rows → Q (f j b)
+  grid-all a j b l m =
+      subst Q (get-columns rows f n j b (f j b) l m)
+      (all-get Q grid a (j * rows + b) (f j b) (let e = columns-length rows f n in entry-inside j n b rows (length grid) l m (omega arith)))
+
+-- ---- over any field
+module _ (𝓕 : Field) where
+  open Field 𝓕 using (F, zero as nil, add, mul, neg)
+
+  -- γ + v is zero at one γ only
+  away : (γ v : F) → add γ v ≢ nil → γ ≢ neg v
+  away γ v n e = n (ap (λ (x : F). add x v) e ∙ add-comm 𝓕 (neg v) v ∙ add-neg 𝓕 v)
+
+  away-from : (γ v : F) → γ ≢ neg v → add γ v ≢ nil
+  away-from γ v n e = n (neg-unique 𝓕 v γ (add-comm 𝓕 v γ ∙ e))
+
+  module _ (g : Log 𝓕) where
+    abbrev rows : ℕ
+    rows = rowsOf (g .circuit)
+
+    -- what γ is added to, the inverted factors from row 1 on
+    abbrev input : ℕ → ℕ → F
+    input j b = inputAt 𝓕 g (getD (g .circuit .lookups) j []) b
+
+    abbrev table : ℕ → ℕ → F
+    table j b = tableAt 𝓕 g (getD (g .circuit .lookups) j []) b
+
+    abbrev factor : ℕ → ℕ → F
+    factor i b = add (copiedAt 𝓕 g i (suc b)) (mul (g .β) (permutationAt 𝓕 g i (suc b)))
+
+    -- the γ at which one of them is zero
+    abbrev opposite : ℕ → (ℕ → ℕ → F) → ℕ → List F
+    opposite r v n = concat (column (λ j. column (λ b. neg (v j b)) r) n)
+
+    pub unlucky : List F
+    unlucky = opposite rows input (numLookups (g .circuit)) ++ (opposite rows table (numLookups (g .circuit)) ++ opposite (rows - 1) factor (numCopied (g .circuit)))
+
+    pub few : length unlucky ≤ denominators (g .circuit)
+    unfolding unlucky
+    few =
+        let L : ℕ = numLookups (g .circuit) in
+        let n : ℕ = numCopied (g .circuit) in
+        let a = length-append (opposite rows input L) (opposite rows table L ++ opposite (rows - 1) factor n) in
+        let b = length-append (opposite rows table L) (opposite (rows - 1) factor n) in
+        let d = columns-length rows (λ j b. neg (input j b)) L in
+        let e = columns-length rows (λ j b. neg (table j b)) L in
+        let f = columns-length (rows - 1) (λ j b. neg (factor j b)) n in
+        let h : n * (rows - 1) ≤ n * rows = mul-le-mul-left n (omega arith) in
+        let q = mul-add rows (2 * L) n in
+        let r : rows * (2 * L) ≡ 2 * (L * rows) = mul-left-comm rows 2 L ∙ ap (λ (x : ℕ). 2 * x) (mul-comm rows L) in
+        let s = mul-comm n rows in
+        omega arith
+
+    module _ (γ : F) where
+      abbrev now : Log 𝓕
+      now = drawn 𝓕 g (g .β) γ
+
+      -- γ is in none of them
+      input-now : (j b : ℕ) → inputAt 𝓕 now (getD (g .circuit .lookups) j []) b ≡ input j b
+      unfolding inputAt compressedAt userEnvironment givenPolys instancePolys preprocessPolys witnessPolys
+      input-now j b = refl
+
+      table-now : (j b : ℕ) → tableAt 𝓕 now (getD (g .circuit .lookups) j []) b ≡ table j b
+      unfolding tableAt compressedAt userEnvironment givenPolys instancePolys preprocessPolys witnessPolys
+      table-now j b = refl
+
+      factor-now : (i b : ℕ) → permutationFactorAt 𝓕 now i (suc b) ≡ add γ (factor i b)
+      unfolding permutationFactorAt copiedAt permutationAt givenPolys instancePolys preprocessPolys witnessPolys
+      factor-now i b = add-comm 𝓕 (factor i b) γ
+
+      abbrev Apart : F → Type 0
+      Apart u = γ ≢ u
+
+      none-apart : NoneZero 𝓕 now → All Apart unlucky
+      unfolding unlucky
+      none-apart z =
+          all-join Apart (opposite rows input (numLookups (g .circuit))) _
+          (all-grid Apart rows (λ j b. neg (input j b)) (numLookups (g .circuit))
+          (λ j b l m. away γ (input j b) (subst (λ (x : F). add γ x ≢ nil) (input-now j b) (z .input-denominators j l b m))))
+          (all-join Apart (opposite rows table (numLookups (g .circuit))) _
+          (all-grid Apart rows (λ j b. neg (table j b)) (numLookups (g .circuit))
+          (λ j b l m. away γ (table j b) (subst (λ (x : F). add γ x ≢ nil) (table-now j b) (z .table-denominators j l b m))))
+          (all-grid Apart (rows - 1) (λ j b. neg (factor j b)) (numCopied (g .circuit))
+          (λ i b l m. away γ (factor i b) (subst (λ (x : F). x ≢ nil) (factor-now i b) (z .factor-denominators i l (suc b) (omega arith) (omega arith))))))
+
+      apart-none : All Apart unlucky → NoneZero 𝓕 now
+      unfolding unlucky
+      apart-none a =
+          let first = all-left Apart (opposite rows input (numLookups (g .circuit))) _ a in
+          let rest = all-right Apart (opposite rows input (numLookups (g .circuit))) _ a in
+          let second = all-left Apart (opposite rows table (numLookups (g .circuit))) _ rest in
+          let third = all-right Apart (opposite rows table (numLookups (g .circuit))) _ rest in
+          record {
+            input-denominators = λ j l b m.
+                subst (λ (x : F). add γ x ≢ nil) (sym (input-now j b))
+                (away-from γ (input j b) (grid-all Apart rows (λ j b. neg (input j b)) (numLookups (g .circuit)) first j b l m));
+            table-denominators = λ j l b m.
+                subst (λ (x : F). add γ x ≢ nil) (sym (table-now j b))
+                (away-from γ (table j b) (grid-all Apart rows (λ j b. neg (table j b)) (numLookups (g .circuit)) second j b l m));
+            factor-denominators = λ i l b m p. go third i l b m p;
+          }
+        where
+          go : All Apart (opposite (rows - 1) factor (numCopied (g .circuit))) → (i : ℕ) → i < numCopied (g .circuit) → (b : ℕ) → b < rows → 0 < b
+              → permutationFactorAt 𝓕 now i b ≢ nil
+          go third i l zero m p = absurd (bad p)
+            where
+              bad : 0 < 0 → ⊥
+              bad p = omega arith
+          go third i l (suc b) m p =
+              subst (λ (x : F). x ≢ nil) (sym (factor-now i b))
+              (away-from γ (factor i b) (grid-all Apart (rows - 1) (λ j b. neg (factor j b)) (numCopied (g .circuit)) third i b l (omega arith)))
+
+      pub none-when : NoneZero 𝓕 now ↔ All Apart unlucky
+      none-when = (none-apart, apart-none)
+
+pub odds : Odds
+odds 𝓕 g = (unlucky 𝓕 g, few 𝓕 g, none-when 𝓕 g)
