@@ -27,6 +27,33 @@ module _ (𝓕 : Field) where
 
   -- ---- Haböck, "Multivariate lookups based on logarithmic derivatives"
 
+  -- a / b, which is 0 where b is: "the inverse of 0 is 0"
+  abbrev pub fraction : F → F → F
+  fraction a b = mul a (inv b)
+
+  module _ (γ : F) (input table m : ℕ → F) where
+    -- the paper's h, a sum of fractions, with the sign of document 01: 1/(γ + input) − m/(γ + table)
+    unfoldable pub paperH : ℕ → F
+    paperH b = add (fraction one (add γ (input b))) (neg (fraction (m b) (add γ (table b))))
+
+    -- neither denominator is zero at row b
+    abbrev pub NoneZeroAt : ℕ → Type 0
+    NoneZeroAt b = (add γ (input b) ≢ zero) × (add γ (table b) ≢ zero)
+
+    -- with x for h at row b: h × (γ + input) × (γ + table) = (γ + table) − m × (γ + input)
+    abbrev pub HabockHolds : F → ℕ → Type 0
+    HabockHolds x b =
+        mul (mul x (add γ (input b))) (add γ (table b)) ≡ add (add γ (table b)) (neg (mul (m b) (add γ (input b))))
+
+    -- the h column of document 01 is the paper's on every row, and meets the equation on each where no denominator is zero
+    pub record IsHabockH : Type 0 where
+      pub is-fractions : (b : ℕ) → hAt 𝓕 γ input table m b ≡ paperH b
+      pub holds : (b : ℕ) → NoneZeroAt b → HabockHolds (hAt 𝓕 γ input table m b) b
+
+    -- on such a row no other value does
+    abbrev pub OnlyHabockH : Type 0
+    OnlyHabockH = (x : F) (b : ℕ) → NoneZeroAt b → HabockHolds x b → x ≡ paperH b
+
   module _ (el : ℕ → F) (rows : ℕ) (input table : ℕ → F) where
     -- how often the paper's column takes a value
     unfoldable pub often : (ℕ → F) → F → ℕ
@@ -50,23 +77,34 @@ module _ (𝓕 : Field) where
     abbrev pub CountsTurn : Type 0
     CountsTurn = (covered 𝓕 rows input table ≡ true) ↔ Turns 𝓕 rows input table (multiplicity 𝓕 rows input table)
 
-    -- the paper's h: h × (γ + input) × (γ + table) = (γ + table) − m × (γ + input) on every row
-    abbrev pub HabockH : F → (ℕ → F) → (ℕ → F) → Type 0
-    HabockH γ m h =
-        (b : ℕ) → b < rows
-        → mul (mul (h b) (add γ (input b))) (add γ (table b)) ≡ add (add γ (table b)) (neg (mul (m b) (add γ (input b))))
+    -- the paper's identity for the counts of document 01: Σ 1/(γ + input) = Σ m/(γ + table), a fraction with denominator 0 being 0
+    abbrev pub HabockIdentity : F → Type 0
+    HabockIdentity γ =
+        Embeds 𝓕 el → covered 𝓕 rows input table ≡ true
+        → sumRows 𝓕 rows (λ b. fraction one (add γ (input b)))
+        ≡ sumRows 𝓕 rows (λ r. fraction (el (multiplicity 𝓕 rows input table r)) (add γ (table r)))
 
-    abbrev pub IsHabockH : F → (ℕ → F) → Type 0
-    IsHabockH γ m =
-        ((b : ℕ) → b < rows → add γ (input b) ≢ zero) → ((b : ℕ) → b < rows → add γ (table b) ≢ zero)
-        → HabockH γ m (hAt 𝓕 γ input table m)
-
-    -- the paper's identity: Σ h = 0
+    -- so "Σh = 0 is Haböck's identity"
     abbrev pub HabockSum : F → Type 0
     HabockSum γ =
-        ((b : ℕ) → b < rows → add γ (input b) ≢ zero) → ((b : ℕ) → b < rows → add γ (table b) ≢ zero)
-        → Embeds 𝓕 el → covered 𝓕 rows input table ≡ true
+        Embeds 𝓕 el → covered 𝓕 rows input table ≡ true
         → sumRows 𝓕 rows (hAt 𝓕 γ input table (λ r. el (multiplicity 𝓕 rows input table r))) ≡ zero
+
+    -- what is summed over the table's rows with a factor that depends on the table's value alone depends on the totals only
+    abbrev pub TotalsDecide : Type 0
+    TotalsDecide =
+        (m n : ℕ → F) → ((v : F) → totalOf m v ≡ totalOf n v)
+        → (f : F → F) → sumRows 𝓕 rows (λ r. mul (m r) (f (table r))) ≡ sumRows 𝓕 rows (λ r. mul (n r) (f (table r)))
+
+    -- so the paper's identity, and Σ h = 0, hold of its own shared multiplicities too, with what SameTotals supposes
+    pub record SharedHolds (γ : F) : Type 0 where
+      pub identity :
+          sumRows 𝓕 rows (λ b. fraction one (add γ (input b))) ≡ sumRows 𝓕 rows (λ r. fraction (sharedM r) (add γ (table r)))
+      pub sum : sumRows 𝓕 rows (paperH γ input table sharedM) ≡ zero
+
+    abbrev pub SharedIdentity : F → Type 0
+    SharedIdentity γ =
+        Embeds 𝓕 el → covered 𝓕 rows input table ≡ true → ((n : ℕ) → 0 < n → n < suc rows → el n ≢ zero) → SharedHolds γ
 
   module _ (g : Log 𝓕) where
     -- ---- Gabizon, Williamson, Ciobotaru, "PLONK"

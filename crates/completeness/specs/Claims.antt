@@ -21,7 +21,18 @@ use Rattle.calls.specs.RowSum.{rowSumOf}
 use Rattle.calls.specs.Meaning.{Each, Admitted, NoCounts, Conclusions, DemandThreeOf}
 use Rattle.calls.specs.Demand.{DemandThree}
 use Rattle.calls.specs.Composed.{ReadsBack, LookupZero, StartZero, PartZero, ComposeValue, Reads}
-use Rattle.calls.specs.Papers.{PartsOfZ, SameTotals, CountsTurn, IsHabockH, HabockSum, IsPlonkZ}
+use Rattle.calls.specs.Papers.{
+  PartsOfZ,
+  SameTotals,
+  CountsTurn,
+  IsHabockH,
+  OnlyHabockH,
+  HabockIdentity,
+  HabockSum,
+  TotalsDecide,
+  SharedIdentity,
+  IsPlonkZ,
+}
 use Rattle.calls.specs.Copies.{
   Permutes,
   Labels,
@@ -98,9 +109,12 @@ pub record Claims : Type 1 where
   -- the papers
   pub counts-turn : (𝓕 : Field) (el : ℕ → 𝓕 .F) (rows : ℕ) (input table : ℕ → 𝓕 .F) → CountsTurn 𝓕 el rows input table
   pub same-totals : (𝓕 : Field) (el : ℕ → 𝓕 .F) (rows : ℕ) (input table : ℕ → 𝓕 .F) → SameTotals 𝓕 el rows input table
-  pub is-habock-h : (𝓕 : Field) (el : ℕ → 𝓕 .F) (rows : ℕ) (input table : ℕ → 𝓕 .F) (γ : 𝓕 .F) (m : ℕ → 𝓕 .F)
-      → IsHabockH 𝓕 el rows input table γ m
+  pub is-habock-h : (𝓕 : Field) (γ : 𝓕 .F) (input table m : ℕ → 𝓕 .F) → IsHabockH 𝓕 γ input table m
+  pub only-habock-h : (𝓕 : Field) (γ : 𝓕 .F) (input table m : ℕ → 𝓕 .F) → OnlyHabockH 𝓕 γ input table m
+  pub habock-identity : (𝓕 : Field) (el : ℕ → 𝓕 .F) (rows : ℕ) (input table : ℕ → 𝓕 .F) (γ : 𝓕 .F) → HabockIdentity 𝓕 el rows input table γ
   pub habock-sum : (𝓕 : Field) (el : ℕ → 𝓕 .F) (rows : ℕ) (input table : ℕ → 𝓕 .F) (γ : 𝓕 .F) → HabockSum 𝓕 el rows input table γ
+  pub totals-decide : (𝓕 : Field) (el : ℕ → 𝓕 .F) (rows : ℕ) (input table : ℕ → 𝓕 .F) → TotalsDecide 𝓕 el rows input table
+  pub shared-identity : (𝓕 : Field) (el : ℕ → 𝓕 .F) (rows : ℕ) (input table : ℕ → 𝓕 .F) (γ : 𝓕 .F) → SharedIdentity 𝓕 el rows input table γ
   pub is-plonk-z : (𝓕 : Field) (g : Log 𝓕) → IsPlonkZ 𝓕 g
   -- the copies
   pub permutes : Permutes
