@@ -21,7 +21,7 @@ use Rattle.prover.specs.Columns.{userEnvironment, inputAt, tableAt, countAt, lo
 use Rattle.calls.specs.Build.{logOf, columnWords, checkBuild, buildOf}
 use Rattle.calls.specs.RowSum.{rowSumOf}
 use Rattle.calls.specs.Meaning.{Each, EachRow, EachLookup, noCell, cellValue, Premises}
-use Rattle.calls.specs.Papers.{sharedM, totalOf}
+use Rattle.calls.specs.Papers.{fraction, paperH, sharedM, totalOf}
 
 -- what a lookup's list of pairs has past its end
 abbrev pub noPair : Pair
@@ -154,6 +154,12 @@ module _ (g : Log 𝔾) (left : List ℕ) (j : ℕ) where
     pub h-sums-defined : sumRows 𝔾 rows (lookupHAt 𝔾 g lookup) ≡ 𝔾 .zero
     -- "Haböck's paper shares a count out among equal table rows; here the last row takes it all, … with the same total for each table value"
     pub same-totals : (v : 𝔾 .F) → totalOf 𝔾 el rows input table (λ r. el (m r)) v ≡ totalOf 𝔾 el rows input table (sharedM 𝔾 el rows input table) v
+    -- Haböck's identity for the words of m: Σ 1/(γ + input) = Σ m/(γ + table)
+    pub identity :
+        sumRows 𝔾 rows (λ b. fraction 𝔾 (𝔾 .one) (𝔾 .add (g .γ) (input b)))
+        ≡ sumRows 𝔾 rows (λ b. fraction 𝔾 (el (m b)) (𝔾 .add (g .γ) (table b)))
+    -- the words of h are the paper's sums of fractions with the words of m: 1/(γ + input) − m/(γ + table)
+    pub h-is : (b : ℕ) → b < rows → el (h b) ≡ paperH 𝔾 (g .γ) input table (λ r. el (m r)) b
     -- the words are the counts of `lookup_m_poly` themselves: none reaches p
     pub whole : (b : ℕ) → b < rows → m b ≡ countAt 𝔾 g lookup b
 

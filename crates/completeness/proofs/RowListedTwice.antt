@@ -24,13 +24,14 @@ use Rattle.prover.specs.Columns.{inputAt, tableAt, countAt, mAt, lookupHAt, all
 use Rattle.prover.proofs.Words.{words-get, words-length}
 use Rattle.prover.proofs.Lengths.{instances-length, permutations-length, compressed-length, m-length, h-length, written-length}
 use Rattle.calls.specs.Build.{Output, wordsOf, logOf, checkBuild, buildOf, made}
+use Rattle.calls.specs.Papers.{fraction, paperH}
 use Rattle.calls.specs.Insurer.{mWord, hWord, CountsUnspoilt, RowListedTwice}
 use Rattle.calls.proofs.Building.{built-by}
 use Rattle.calls.proofs.Embeds.{embeds}
 use Rattle.completeness.proofs.Passed.{yes-all, k-small}
 use Rattle.completeness.proofs.Asked.{lending}
 use Rattle.completeness.proofs.Counts.{covered-each, counts-sum, h-sums}
-use Rattle.completeness.proofs.Habock.{counts-turn, same-totals}
+use Rattle.completeness.proofs.Habock.{counts-turn, same-totals, is-habock-h, habock-identity}
 use Rattle.completeness.proofs.GoodLog.{asked-yes, covered-yes, zero-when}
 
 module _ (g : Log 𝔾) where
@@ -139,6 +140,16 @@ module _ (ws instances witness challenges columns nodes : List ℕ) (z : buildOf
         ∙ ap val (written-h log j l b))
         ∙ el-val (lookupHAt 𝔾 log pairs b)
 
+    h-fractions : (b : ℕ) → b < rowsOf c
+        → lookupHAt 𝔾 log pairs b ≡ paperH 𝔾 (log .γ) (inputAt 𝔾 log pairs) (tableAt 𝔾 log pairs) (λ r. el (m r)) b
+    unfolding lookupHAt mAt logOf paperH
+    h-fractions b h =
+        is-habock-h 𝔾 (log .γ) (inputAt 𝔾 log pairs) (tableAt 𝔾 log pairs) (λ r. el (countAt 𝔾 log pairs r)) .is-fractions b
+        ∙ ap
+        (λ (n : ℕ).
+        𝔾 .add (fraction 𝔾 (𝔾 .one) (𝔾 .add (log .γ) (inputAt 𝔾 log pairs b))) (𝔾 .neg (fraction 𝔾 (el n) (𝔾 .add (log .γ) (tableAt 𝔾 log pairs b)))))
+        (sym (whole b h))
+
     h-sum : sumRows 𝔾 (rowsOf c) (lookupHAt 𝔾 log pairs) ≡ 𝔾 .zero
     unfolding logOf
     h-sum = h-sums 𝔾 log embeds all-covered j l
@@ -165,6 +176,13 @@ module _ (ws instances witness challenges columns nodes : List ℕ) (z : buildOf
               (λ r. cond (same 𝔾 (tableAt 𝔾 log pairs r) v) (el (counts r)) (𝔾 .zero)) (rowsOf c)
               (λ r h. ap (λ (n : ℕ). cond (same 𝔾 (tableAt 𝔾 log pairs r) v) (el n) (𝔾 .zero)) (whole' r h))
               ∙ same-totals 𝔾 el (rowsOf c) (inputAt 𝔾 log pairs) (tableAt 𝔾 log pairs) embeds covered-here char v;
+          identity =
+              habock-identity 𝔾 el (rowsOf c) (inputAt 𝔾 log pairs) (tableAt 𝔾 log pairs) (log .γ) embeds covered-here
+              ∙ sym
+              (upTo-cong (𝔾 .add) (𝔾 .zero) (λ b. fraction 𝔾 (el (m b)) (𝔾 .add (log .γ) (tableAt 𝔾 log pairs b)))
+              (λ b. fraction 𝔾 (el (counts b)) (𝔾 .add (log .γ) (tableAt 𝔾 log pairs b))) (rowsOf c)
+              (λ b h. ap (λ (n : ℕ). fraction 𝔾 (el n) (𝔾 .add (log .γ) (tableAt 𝔾 log pairs b))) (whole' b h)));
+          h-is = λ b h. h-whole b h ∙ h-fractions b h;
           whole = whole;
         }
 
