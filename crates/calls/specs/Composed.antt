@@ -4,18 +4,18 @@ use mathlib.Core.Path.{_≡_}
 use mathlib.Core.Logic.{_≢_, _↔_}
 use mathlib.Core.Bool.{Bool, true, false, cond}
 use mathlib.Core.List.{List, [], _∷_, _++_, map}
-use Prim.Native.Nat.{ℕ, suc, _+_, _-_, _<_}
+use Prim.Native.Nat.{ℕ, suc, _+_, _-_, _≤_, _<_}
 use lib.ListN.{length, getD}
 use lib.Dec.{ltb}
 use Rattle.field.specs.Algebra.{Field}
 use Rattle.field.specs.Algebra as Algebra
 use Rattle.bh.specs.Rows.{nextRow}
 use Rattle.util.specs.Lists.{column}
-use Rattle.expression.specs.Expr.{Expr, distributePowers}
+use Rattle.expression.specs.Expr.{Expr, degree, distributePowers}
 use Rattle.expression.specs.Nodes.{exprOf}
 use Rattle.expression.specs.Value.{Environment, polyOf, valueAt}
 use Rattle.backend.specs.Circuit.{Circuit, Pair, circuitOf, rowsOf, numUser, numCopied, numLookups, mNumber, hNumber, zNumber}
-use Rattle.backend.specs.Constraints.{betaOf, inputsOf, tablesOf, lookupConstraint}
+use Rattle.backend.specs.Constraints.{betaOf, inputsOf, tablesOf, lookupConstraint, maxDegree}
 use Rattle.preprocessor.specs.Compose.{
   numZ,
   constraintCut,
@@ -40,12 +40,27 @@ use Rattle.prover.specs.Columns.{
   permutationFactorAt,
   composedEnvironment,
 }
-use Rattle.calls.specs.Meaning.{Embeds, Admitted, EachRow}
+use Rattle.calls.specs.Meaning.{Each, Embeds, Admitted, EachRow}
 
 -- the node words that building writes are read as the composed tree
 abbrev pub ReadsBack : Type 0
 ReadsBack =
     (ws : List ℕ) → exprOf (composedWords (circuitOf ws)) (composedNodes (circuitOf ws) - 1) ≡ compose (circuitOf ws)
+
+-- ---- degrees, of any circuit
+
+-- "the constraints cut by D − 1": the degree of part i's constraint is one, of z, more than the part has columns, and so at most D
+pub record PartDegree (c : Circuit) (i : ℕ) : Type 0 where
+  pub is : degree (partConstraint c i) ≡ 1 + length (getD (constraintCut c) i [])
+  pub most : degree (partConstraint c i) ≤ maxDegree c
+
+-- "D the largest of 2, the stated maximum and all user and lookup constraint degrees": no composed constraint's degree is more
+abbrev pub ComposedDegree : Type 0
+ComposedDegree = (c : Circuit) → Each (Expr.constant 0) (composedConstraints c) (λ e. degree e ≤ maxDegree c)
+
+-- "by powers of α, times EqXY(0)": the composed expression's is at most one more
+abbrev pub ComposeDegree : Type 0
+ComposeDegree = (c : Circuit) → degree (compose c) ≤ maxDegree c + 1
 
 module _ (𝓕 : Field) where
   open Field 𝓕 using (F, zero, one, add, mul, neg)

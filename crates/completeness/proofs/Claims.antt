@@ -5,6 +5,7 @@ use Rattle.calls.proofs.Powers as Powers
 use Rattle.completeness.specs.Claims.{Claims}
 use Rattle.completeness.proofs.Counts as Counts
 use Rattle.completeness.proofs.Cuts as Cuts
+use Rattle.completeness.proofs.Degrees as Degrees
 use Rattle.completeness.proofs.ReadColumns as ReadColumns
 use Rattle.completeness.proofs.WellFormed as WellFormed
 use Rattle.completeness.proofs.DemandThreeOf as DemandThreeOf
@@ -43,6 +44,9 @@ claims =
       user-value = λ 𝓕 g ad α y e h b. ReadColumns.user-value 𝓕 g ad α y e h b;
       parts-of-z = Cuts.parts-of-z;
       parts-alike = Cuts.parts-alike;
+      part-degree = Degrees.part-degree;
+      composed-degree = Degrees.composed-degree;
+      compose-degree = Degrees.compose-degree;
       passed-is-well-formed = WellFormed.passed-is-well-formed;
       counts-turn = Habock.counts-turn;
       same-totals = Habock.same-totals;

@@ -21,4 +21,5 @@ pub mod GoodLog
 pub mod RowListedTwice
 pub mod Odds
 pub mod FewTurnedAway
+pub mod Degrees
 pub mod Claims

@@ -20,7 +20,17 @@ use Rattle.calls.specs.Build.{logOf, wordsOf, checkBuild}
 use Rattle.calls.specs.RowSum.{rowSumOf}
 use Rattle.calls.specs.Meaning.{Each, Admitted, NoCounts, Conclusions, DemandThreeOf}
 use Rattle.calls.specs.Demand.{DemandThree}
-use Rattle.calls.specs.Composed.{ReadsBack, LookupZero, StartZero, PartZero, ComposeValue, Reads}
+use Rattle.calls.specs.Composed.{
+  ReadsBack,
+  PartDegree,
+  ComposedDegree,
+  ComposeDegree,
+  LookupZero,
+  StartZero,
+  PartZero,
+  ComposeValue,
+  Reads,
+}
 use Rattle.calls.specs.Papers.{
   PartsOfZ,
   SameTotals,
@@ -102,9 +112,12 @@ pub record Claims : Type 1 where
   pub compose-value : (𝓕 : Field) (s : Environment 𝓕) (c : Circuit) → ComposeValue 𝓕 s c
   pub reads : (𝓕 : Field) (g : Log 𝓕) (α : 𝓕 .F) (y : ℕ → 𝓕 .F) → Reads 𝓕 g α y
   pub user-value : UserValue
-  -- the cuts, and the questions
+  -- the cuts, the degrees, and the questions
   pub parts-of-z : (c : Circuit) → PartsOfZ c
   pub parts-alike : PartsAlike
+  pub part-degree : (c : Circuit) (i : ℕ) → PartDegree c i
+  pub composed-degree : ComposedDegree
+  pub compose-degree : ComposeDegree
   pub passed-is-well-formed : PassedIsWellFormed
   -- the papers
   pub counts-turn : (𝓕 : Field) (el : ℕ → 𝓕 .F) (rows : ℕ) (input table : ℕ → 𝓕 .F) → CountsTurn 𝓕 el rows input table
