@@ -1,5 +1,5 @@
--- The composed constraints "in value as the source has them", over any field and any columns. The claims are stated here and
--- proved elsewhere.
+-- The composed constraints: their degrees, and "in value as the source has them", over any field and any columns. The claims are
+-- stated here and proved elsewhere.
 use mathlib.Core.Path.{_≡_}
 use mathlib.Core.Logic.{_≢_, _↔_}
 use mathlib.Core.Bool.{Bool, true, false, cond}
@@ -49,7 +49,7 @@ ReadsBack =
 
 -- ---- degrees, of any circuit
 
--- "the constraints cut by D − 1": the degree of part i's constraint is one, of z, more than the part has columns, and so at most D
+-- "the constraints cut by D − 1": the degree of part i's constraint is that of z, 1, and the number of the part's columns, so at most D
 pub record PartDegree (c : Circuit) (i : ℕ) : Type 0 where
   pub is : degree (partConstraint c i) ≡ 1 + length (getD (constraintCut c) i [])
   pub most : degree (partConstraint c i) ≤ maxDegree c
