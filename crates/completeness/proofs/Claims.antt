@@ -18,6 +18,7 @@ use Rattle.completeness.proofs.PaperZ as PaperZ
 use Rattle.completeness.proofs.MustClose as MustClose
 use Rattle.completeness.proofs.GoodLog as GoodLog
 use Rattle.completeness.proofs.RowListedTwice as RowListedTwice
+use Rattle.completeness.proofs.RunningProduct as RunningProduct
 use Rattle.completeness.proofs.Odds as Odds
 use Rattle.completeness.proofs.FewTurnedAway as FewTurnedAway
 
@@ -57,6 +58,7 @@ claims =
       totals-decide = Habock.totals-decide;
       shared-identity = Habock.shared-identity;
       is-plonk-z = Plonk.is-plonk-z;
+      running-product = RunningProduct.running-product;
       permutes = Permuted.permutes;
       labels = Permuted.labels;
       labels-differ-where = Permuted.labels-differ-where;

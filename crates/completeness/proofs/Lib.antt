@@ -19,6 +19,7 @@ pub mod PaperZ
 pub mod MustClose
 pub mod GoodLog
 pub mod RowListedTwice
+pub mod RunningProduct
 pub mod Odds
 pub mod FewTurnedAway
 pub mod Degrees

@@ -30,7 +30,7 @@ use Rattle.preprocessor.proofs.Cycles.{source-all}
 use Rattle.preprocessor.proofs.Labels.{cell-number, cell-placed}
 use Rattle.preprocessor.proofs.Copied.{Good as GoodCell, cells-good, cells-placed, copied-once}
 use Rattle.prover.specs.Log.{Log}
-use Rattle.calls.specs.Meaning.{noCell}
+use Rattle.calls.specs.Meaning.{Admitted, noCell}
 use Rattle.calls.specs.Copies.{copiedCell, IsCopied, σ, IsPermutation, Permutes, IsLabelling, LabelsDifferWhere, LabelsDifferAt𝔾}
 use Rattle.calls.proofs.Embeds.{embeds, embeds-num}
 use Rattle.completeness.proofs.CellNumbers.{Placed, number-in, same-true, source-agree}
@@ -160,12 +160,13 @@ copied-few : (ws : List ℕ) → numCopied (circuitOf ws) ≤ numPoly (circuitOf
 unfolding copied copiedIn
 copied-few ws = let q = count-le (cellsName (concat (circuitOf ws .cycles))) (below (numPoly (circuitOf ws))) in let w = below-length (numPoly (circuitOf ws)) in omega arith
 
-pub labels-differ-at-𝔾 : LabelsDifferAt𝔾
-labels-differ-at-𝔾 g ad = labels-differ-where 𝔾 g (λ m n l k e. el-injective m n (small m l) (small n k) (sym (own m) ∙ e ∙ own n))
+-- no label reaches p
+pub labels-small : (g : Log 𝔾) → Admitted 𝔾 g → (n : ℕ) → n < numCopied (g .circuit) * rowsOf (g .circuit) → n < P
+labels-small g ad n l =
+    let r : rowsOf (g .circuit) ≤ 2 ^ 20 = pow-mono {i = g .circuit .k} {j = 20} (let k = k-below-21 𝔾 g ad in omega arith) in
+    let m : numCopied (g .circuit) * rowsOf (g .circuit) ≤ 72 * 2 ^ 20 = mul-le-mul few r in
+    omega arith
   where
-    own : (n : ℕ) → g .el n ≡ el n
-    own n = embeds-num 𝔾 (g .el) (ad .embeds) n ∙ sym (embeds-num 𝔾 el embeds n)
-
     few : numCopied (g .circuit) ≤ 72
     few =
         subst (λ (c : Circuit). numCopied c ≤ 72) (sym (ad .read))
@@ -177,8 +178,8 @@ labels-differ-at-𝔾 g ad = labels-differ-where 𝔾 g (λ m n l k e. el-inject
         let n = copied-few (ad .words) in
         omega arith)
 
-    small : (n : ℕ) → n < numCopied (g .circuit) * rowsOf (g .circuit) → n < P
-    small n l =
-        let r : rowsOf (g .circuit) ≤ 2 ^ 20 = pow-mono {i = g .circuit .k} {j = 20} (let k = k-below-21 𝔾 g ad in omega arith) in
-        let m : numCopied (g .circuit) * rowsOf (g .circuit) ≤ 72 * 2 ^ 20 = mul-le-mul few r in
-        omega arith
+pub labels-differ-at-𝔾 : LabelsDifferAt𝔾
+labels-differ-at-𝔾 g ad = labels-differ-where 𝔾 g (λ m n l k e. el-injective m n (labels-small g ad m l) (labels-small g ad n k) (sym (own m) ∙ e ∙ own n))
+  where
+    own : (n : ℕ) → g .el n ≡ el n
+    own n = embeds-num 𝔾 (g .el) (ad .embeds) n ∙ sym (embeds-num 𝔾 el embeds n)

@@ -67,7 +67,7 @@ module _ (g : Log 𝔾) where
         ∙ get-map (lookupHAt 𝔾 g) (g .circuit .lookups) j [] (λ r. 𝔾 .zero) l)
 
   -- word b of column q, with more words behind
-  word-at : (d : List ℕ) (q b : ℕ) → q < length (writtenPolys 𝔾 g) → b < rows
+  pub word-at : (d : List ℕ) (q b : ℕ) → q < length (writtenPolys 𝔾 g) → b < rows
       → getD (wordsOf rows (writtenPolys 𝔾 g) ++ d) (q * rows + b) 0 ≡ val (polyOf 𝔾 (writtenPolys 𝔾 g) q b)
   word-at d q b l m =
       get-left (wordsOf rows (writtenPolys 𝔾 g)) d (q * rows + b) 0
@@ -89,13 +89,13 @@ module _ (ws instances witness challenges columns nodes : List ℕ) (z : buildOf
   abbrev left : List ℕ
   left = buildOf ws instances witness challenges columns nodes .columns
 
-  asked : checkBuild ws instances witness challenges columns nodes ≡ 0
+  pub asked : checkBuild ws instances witness challenges columns nodes ≡ 0
   asked = asked-yes ws instances witness challenges columns nodes z
 
   all-covered : allCovered 𝔾 log ≡ true
   all-covered = covered-yes ws instances witness challenges columns nodes asked (zero-when ws instances witness challenges columns nodes .0 z .1)
 
-  left-is : left ≡ written (wordsOf (rowsOf c) (writtenPolys 𝔾 log)) columns
+  pub left-is : left ≡ written (wordsOf (rowsOf c) (writtenPolys 𝔾 log)) columns
   unfolding made logOf
   left-is = ap (λ (o : Output). o .columns) (built-by ws instances witness challenges columns nodes asked all-covered)
 

@@ -59,6 +59,7 @@ use Rattle.calls.specs.Copies.{
   IsPaperZ,
 }
 use Rattle.calls.specs.Insurer.{ReadingsCovered, Odds, OddsLimit, GoodLog, FewTurnedAway, RowListedTwice, ZeroWhen}
+use Rattle.calls.specs.RunningProduct.{RunningProduct}
 use Rattle.completeness.specs.Scope.{Scoped}
 
 -- "Then 15 is given exactly when, for some lookup, no column of whole counts turns the compressed table into the compressed inputs"
@@ -129,7 +130,8 @@ pub record Claims : Type 1 where
   pub totals-decide : (𝓕 : Field) (el : ℕ → 𝓕 .F) (rows : ℕ) (input table : ℕ → 𝓕 .F) → TotalsDecide 𝓕 el rows input table
   pub shared-identity : (𝓕 : Field) (el : ℕ → 𝓕 .F) (rows : ℕ) (input table : ℕ → 𝓕 .F) (γ : 𝓕 .F) → SharedIdentity 𝓕 el rows input table γ
   pub is-plonk-z : (𝓕 : Field) (g : Log 𝓕) → IsPlonkZ 𝓕 g
-  -- the copies
+  -- the copies, and the insurer's third question: "Why must the running product close at one?"
+  pub running-product : RunningProduct
   pub permutes : Permutes
   pub labels : Labels
   pub labels-differ-where : (𝓕 : Field) (g : Log 𝓕) → LabelsDifferWhere 𝓕 g
