@@ -2,29 +2,30 @@
 -- that lists a pair twice; settings copied from the sheet to the knee; and a seal over the angles. Assumes nothing.
 use mathlib.Core.Path.{_≡_, refl, sym, ap, _∙_}
 use mathlib.Core.Logic.{_≢_}
-use mathlib.Core.Bool.{Bool, true, false, not, _&&_}
+use mathlib.Core.Bool.{Bool, true, not, _&&_}
 use mathlib.Core.List.{List, [], _∷_, _++_}
-use Prim.Native.Nat.{ℕ, zero, suc, _≤_, _<_}
+use Prim.Native.Nat.{ℕ, _<_}
 use native.Mathlib.Omega.{arith}
-use lib.ListN.{getD, replicate, length}
-use lib.Dec.{eqb, ltb, leb}
-use borrow.Author.Tests.{eqb-true, leb-true, ltb-true}
+use lib.ListN.{getD, replicate}
+use lib.Dec.{eqb, ltb}
+use borrow.Author.Tests.{eqb-true, eq-eqb, ltb-true}
 use Rattle.field.specs.Field.{𝔾, val}
 use Rattle.util.specs.Lists.{allOf, below, column}
 use Rattle.expression.specs.Expr.{Expr}
 use Rattle.expression.specs.Value.{valueAt}
-use Rattle.backend.specs.Circuit.{Cell, Pair, circuitOf, rowsOf, numCopied}
+use Rattle.backend.specs.Circuit.{Pair, rowsOf, numCopied, numLookups}
 use Rattle.preprocessor.specs.Compose.{CutsAlike, numZ}
 use Rattle.prover.specs.Log.{Log}
 use Rattle.prover.specs.Columns.{userEnvironment, inputAt, tableAt, lookupHAt, permutationFactorAt, zAt}
 use Rattle.calls.specs.Build.{Output, logOf, checkBuild, buildOf}
-use Rattle.calls.specs.Meaning.{Each, EachRow, Premises, cellValue, noCell}
+use Rattle.calls.specs.Meaning.{Each, Premises, cellValue, noCell}
 use Rattle.calls.specs.Demand.{Succeeds}
-use Rattle.calls.specs.Insurer.{Good, noPair, mWord, hWord}
-use Rattle.field.proofs.Elements.{val-zero, val-one, val-injective}
-use Rattle.util.proofs.Tests.{and-left, and-right, all-each}
+use Rattle.calls.specs.Insurer.{Good, Passes, CountsUnspoilt, noPair, mWord}
+use Rattle.field.proofs.Elements.{val-injective}
+use Rattle.util.proofs.Tests.{false-true, and-left, and-right, all-each}
 use Rattle.util.proofs.Columns.{below-length, below-get}
 use Rattle.completeness.proofs.DemandThree.{demand-three}
+use Rattle.completeness.proofs.RowListedTwice.{row-listed-twice}
 use Rattle.examples.specs.Open.{everything}
 
 -- ---- the words
@@ -83,17 +84,14 @@ build = buildOf circuit sheet witness challenges (replicate 80 9) (replicate 548
 
 -- ---- from a test that is computed to a fact
 
-is-zero : (x : 𝔾 .F) → eqb (val x) 0 ≡ true → x ≡ 𝔾 .zero
-is-zero x e = val-injective x (𝔾 .zero) (eqb-true _ _ e ∙ sym val-zero)
+abbrev same : 𝔾 .F → 𝔾 .F → Bool
+same x y = eqb (val x) (val y)
 
-not-zero : (x : 𝔾 .F) → leb 1 (val x) ≡ true → x ≢ 𝔾 .zero
-not-zero x e z = absurd (bad (leb-true 1 (val x) e) (ap val z ∙ val-zero))
-  where
-    bad : 1 ≤ val x → val x ≡ 0 → ⊥
-    bad l z = omega arith
+agree : (x y : 𝔾 .F) → same x y ≡ true → x ≡ y
+agree x y e = val-injective x y (eqb-true (val x) (val y) e)
 
-agree : (x y : 𝔾 .F) → eqb (val x) (val y) ≡ true → x ≡ y
-agree x y e = val-injective x y (eqb-true _ _ e)
+apart : (x y : 𝔾 .F) → not (same x y) ≡ true → x ≢ y
+apart x y e z = false-true (sym (ap not (eq-eqb (val x) (val y) (ap val z))) ∙ e)
 
 -- each entry of a list, and each of the numbers below n, has what its test tells
 each : {A : Type 0} (d : A) (xs : List A) (t : A → Bool) (Q : A → Type 0) → ((x : A) → t x ≡ true → Q x) → allOf t xs ≡ true → Each d xs Q
@@ -107,42 +105,37 @@ each-below n t Q f e b l = f b (ap t (sym (below-get n b 0 l)) ∙ all-each t 0 
 abbrev rows : List ℕ
 rows = below (rowsOf (log .circuit))
 
--- the value of a user's expression
+-- the value of a user's expression at a row
 abbrev valued : Expr → ℕ → 𝔾 .F
 valued e b = valueAt 𝔾 (userEnvironment 𝔾 log) e b
 
-abbrev zero-at : Expr → ℕ → Bool
-zero-at e b = eqb (val (valued e b)) 0
-
-zeros : allOf (λ e. allOf (zero-at e) rows) (log .circuit .constraints) ≡ true
+zeros : allOf (λ e. allOf (λ b. same (valued e b) (𝔾 .zero)) rows) (log .circuit .constraints) ≡ true
 unfolding everything
 zeros = refl
 
-abbrev cells-agree : Cell → Cell → Bool
-cells-agree x y = eqb (val (cellValue 𝔾 log x)) (val (cellValue 𝔾 log y))
-
-cells : allOf (λ cycle. allOf (λ x. allOf (cells-agree x) cycle) cycle) (log .circuit .cycles) ≡ true
+cells : allOf (λ cycle. allOf (λ x. allOf (λ y. same (cellValue 𝔾 log x) (cellValue 𝔾 log y)) cycle) cycle) (log .circuit .cycles) ≡ true
 unfolding everything cellValue
 cells = refl
 
-abbrev input-at : List Pair → ℕ → Bool
-input-at l b = leb 1 (val (𝔾 .add (log .γ) (inputAt 𝔾 log l b)))
+-- what is inverted: γ + input, γ + table, and the permutation factors
+abbrev input-at : List Pair → ℕ → 𝔾 .F
+input-at l b = 𝔾 .add (log .γ) (inputAt 𝔾 log l b)
 
-inputs : allOf (λ l. allOf (input-at l) rows) (log .circuit .lookups) ≡ true
+inputs : allOf (λ l. allOf (λ b. not (same (input-at l b) (𝔾 .zero))) rows) (log .circuit .lookups) ≡ true
 unfolding everything
 inputs = refl
 
-abbrev table-at : List Pair → ℕ → Bool
-table-at l b = leb 1 (val (𝔾 .add (log .γ) (tableAt 𝔾 log l b)))
+abbrev table-at : List Pair → ℕ → 𝔾 .F
+table-at l b = 𝔾 .add (log .γ) (tableAt 𝔾 log l b)
 
-tables : allOf (λ l. allOf (table-at l) rows) (log .circuit .lookups) ≡ true
+tables : allOf (λ l. allOf (λ b. not (same (table-at l b) (𝔾 .zero))) rows) (log .circuit .lookups) ≡ true
 unfolding everything
 tables = refl
 
-abbrev factor-at : ℕ → ℕ → Bool
-factor-at i b = leb 1 (val (permutationFactorAt 𝔾 log i b))
+abbrev factor-at : ℕ → ℕ → 𝔾 .F
+factor-at i b = permutationFactorAt 𝔾 log i b
 
-factors : allOf (λ i. allOf (factor-at i) rows) (below (numCopied (log .circuit))) ≡ true
+factors : allOf (λ i. allOf (λ b. not (same (factor-at i b) (𝔾 .zero))) rows) (below (numCopied (log .circuit))) ≡ true
 unfolding everything
 factors = refl
 
@@ -153,12 +146,11 @@ cuts = refl
 pub premises : Premises 𝔾 log
 premises =
     record {
-      zero-constraints = each _ _ _ _ (λ e. each-below _ _ _ (λ b. is-zero (valued e b))) zeros;
+      zero-constraints = each _ _ _ _ (λ e. each-below _ _ _ (λ b. agree (valued e b) (𝔾 .zero))) zeros;
       equal-cells = each _ _ _ _ (λ cycle. each noCell _ _ _ (λ x. each noCell _ _ _ (λ y. agree (cellValue 𝔾 log x) (cellValue 𝔾 log y)))) cells;
-      input-denominators = each _ _ _ _ (λ l. each-below _ _ _ (λ b. not-zero (𝔾 .add (log .γ) (inputAt 𝔾 log l b)))) inputs;
-      table-denominators = each _ _ _ _ (λ l. each-below _ _ _ (λ b. not-zero (𝔾 .add (log .γ) (tableAt 𝔾 log l b)))) tables;
-      factor-denominators =
-          each-below _ _ _ (λ i. each-below _ _ _ (λ b e _. not-zero (permutationFactorAt 𝔾 log i b) e)) factors;
+      input-denominators = each _ _ _ _ (λ l. each-below _ _ _ (λ b. apart (input-at l b) (𝔾 .zero))) inputs;
+      table-denominators = each _ _ _ _ (λ l. each-below _ _ _ (λ b. apart (table-at l b) (𝔾 .zero))) tables;
+      factor-denominators = each-below _ _ _ (λ i. each-below _ _ _ (λ b e _. apart (factor-at i b) (𝔾 .zero) e)) factors;
       cuts-alike = cuts;
     }
 
@@ -169,7 +161,7 @@ abbrev stands : ℕ → ℕ
 stands b = getD (0 ∷ 1 ∷ 2 ∷ 5 ∷ 5 ∷ 2 ∷ 3 ∷ 5 ∷ []) b 0
 
 abbrev entry-at : ℕ → Pair → Bool
-entry-at b p = eqb (val (valued (p .input) b)) (val (valued (p .table) (stands b)))
+entry-at b p = same (valued (p .input) b) (valued (p .table) (stands b))
 
 abbrev listed : ℕ → Bool
 listed b = ltb (stands b) (rowsOf (log .circuit))
@@ -213,3 +205,89 @@ answered e = absurd (bad e)
 -- so for every α and y the row sum is 0, by demand 3
 pub succeeds : Succeeds circuit sheet witness challenges (replicate 80 9) (replicate 548 9) build
 succeeds = demand-three circuit sheet witness challenges (replicate 80 9) (replicate 548 9) asked .otherwise premises answered
+
+number-zero : build .answer .number ≡ 0
+unfolding everything
+number-zero = refl
+
+-- the log is not turned away, neither by a number nor by the sum
+pub passes : Passes circuit sheet witness challenges (replicate 80 9) (replicate 548 9)
+passes = record { number = number-zero; row-sum = succeeds .row-sum }
+
+-- ---- the columns that it writes, as numbers
+
+-- the sheet's settings, at rows 1 and 2
+abbrev sheet-words : List ℕ
+sheet-words = 0 ∷ 30 ∷ 9 ∷ 0 ∷ 0 ∷ 0 ∷ 0 ∷ 0 ∷ []
+
+-- the permutation labels of the sheet, the angles and the knee
+abbrev label-words : List ℕ
+label-words =
+    0 ∷ 14 ∷ 21 ∷ 3 ∷ 4 ∷ 5 ∷ 6 ∷ 7 ∷ 8 ∷ 9 ∷ 10 ∷ 11 ∷ 12 ∷ 13 ∷ 19 ∷ 15 ∷ 16 ∷ 17 ∷ 18 ∷ 1 ∷ 20 ∷ 2 ∷ 22 ∷ 23 ∷ []
+
+-- angle + β × current: of the readings, then of the table
+abbrev compressed-words : List ℕ
+compressed-words =
+    0 ∷ 4028 ∷ 5030 ∷ 6032 ∷ 6032 ∷ 5030 ∷ 6030 ∷ 6032 ∷ 0 ∷ 4028 ∷ 5030 ∷ 6030 ∷ 6032 ∷ 6032 ∷ 7035 ∷ 9040 ∷ []
+
+-- m: the pair (32, 6), read three times, is counted at row 5 and not at row 4
+abbrev m-words : List ℕ
+m-words = 1 ∷ 1 ∷ 2 ∷ 1 ∷ 0 ∷ 3 ∷ 0 ∷ 0 ∷ []
+
+-- h: 0 at rows 0 and 1, where input and table are equal and m is 1
+abbrev h-words : List ℕ
+h-words =
+    0 ∷ 0 ∷ 11613793063161653225 ∷ 10239270693012380631 ∷ 5765115491219596921 ∷ 7984348602008724654 ∷ 13972588867621800611 ∷ 5765115491219596921 ∷ []
+
+-- both z columns: they change where a cell of a cycle stands
+abbrev z-words : List ℕ
+z-words =
+    0 ∷ 1 ∷ 15920236541031199638 ∷ 10398137493475229824 ∷ 10398137493475229824 ∷ 13806692774987341042 ∷ 6603793697377575670 ∷ 13806692774987341042 ∷ 0 ∷ 15920236541031199638 ∷ 10398137493475229824 ∷ 10398137493475229824 ∷ 10398137493475229824 ∷ 13806692774987341042 ∷ 13806692774987341042 ∷ 13806692774987341042 ∷ []
+
+pub columns-are :
+    build .columns ≡ sheet-words ++ (label-words ++ (compressed-words ++ (m-words ++ (h-words ++ z-words))))
+unfolding everything
+columns-are = refl
+
+abbrev lookup : List Pair
+lookup = getD (log .circuit .lookups) 0 []
+
+-- rows 4 and 5 list one pair
+twice : allOf (λ p. same (valued (p .table) 4) (valued (p .table) 5)) lookup ≡ true
+unfolding everything
+twice = refl
+
+pub listed-twice : Each noPair lookup (λ p. valued (p .table) 4 ≡ valued (p .table) 5)
+listed-twice = each _ _ _ _ (λ p. agree (valued (p .table) 4) (valued (p .table) 5)) twice
+
+-- the words of m: 3 at the last of these two rows, and 0 at the other
+pub counts : column (mWord (log .circuit) (build .columns) 0) (rowsOf (log .circuit)) ≡ m-words
+unfolding everything
+counts = refl
+
+one-lookup : ltb 0 (numLookups (log .circuit)) ≡ true
+unfolding everything
+one-lookup = refl
+
+-- and no count is spoilt
+pub unspoilt : CountsUnspoilt log (build .columns) 0
+unfolding logOf
+unspoilt =
+    row-listed-twice circuit sheet witness challenges (replicate 80 9) (replicate 548 9) number-zero 0 (ltb-true _ _ one-lookup)
+
+-- h is not 0 at row 5, where the count of 3 stands
+pub h-moves : lookupHAt 𝔾 log lookup 5 ≢ 𝔾 .zero
+unfolding everything
+h-moves = apart (lookupHAt 𝔾 log lookup 5) (𝔾 .zero) refl
+
+-- each z column is neither 0 nor 1 at row 2
+moves-at-2 : allOf (λ i. not (same (zAt 𝔾 log i 2) (𝔾 .zero)) && not (same (zAt 𝔾 log i 2) (𝔾 .one))) (below (numZ (log .circuit))) ≡ true
+unfolding everything
+moves-at-2 = refl
+
+moves : (x : 𝔾 .F) → (not (same x (𝔾 .zero)) && not (same x (𝔾 .one))) ≡ true → (x ≢ 𝔾 .zero) × (x ≢ 𝔾 .one)
+moves x e =
+    (apart x (𝔾 .zero) (and-left (not (same x (𝔾 .zero))) (not (same x (𝔾 .one))) e), apart x (𝔾 .one) (and-right (not (same x (𝔾 .zero))) (not (same x (𝔾 .one))) e))
+
+pub z-moves : (i : ℕ) → i < numZ (log .circuit) → (zAt 𝔾 log i 2 ≢ 𝔾 .zero) × (zAt 𝔾 log i 2 ≢ 𝔾 .one)
+z-moves = each-below _ _ _ (λ i. moves (zAt 𝔾 log i 2)) moves-at-2
