@@ -35,7 +35,7 @@ use Rattle.prover.specs.Columns.{
   zAt,
   composedEnvironment,
 }
-use Rattle.calls.specs.Meaning.{noCell, Each, EachRow, Admitted, cellValue}
+use Rattle.calls.specs.Meaning.{noCell, Each, EachRow, Admitted, cellValue, EqualCells, NoZeroFactor}
 use Rattle.calls.specs.Composed.{column-at}
 
 -- ---- the cells, and σ
@@ -114,16 +114,6 @@ module _ (𝓕 : Field) where
       pub permutation : (i b : ℕ)
           → permutationFactorAt 𝓕 g i b ≡ factor (copiedCell (g .circuit) i b) (σ (g .circuit) (copiedCell (g .circuit) i b))
 
-    -- "the cells of each cycle equal": "a cycle's cells are equal if all hold one value"
-    abbrev pub EqualCells : Type 0
-    EqualCells =
-        Each [] (g .circuit .cycles) (λ cycle. Each noCell cycle (λ x. Each noCell cycle (λ y. cellValue 𝓕 g x ≡ cellValue 𝓕 g y)))
-
-    -- "no denominator zero": "the inverted factors on every row but 0"
-    abbrev pub NoZeroFactor : Type 0
-    NoZeroFactor =
-        (i : ℕ) → i < numCopied (g .circuit) → EachRow 𝓕 g (λ b. 0 < b → permutationFactorAt 𝓕 g i b ≢ nil)
-
     -- the product over the copied columns and all rows but 0
     abbrev pub overCells : (ℕ → ℕ → F) → F
     overCells f = upTo mul one (λ i. upTo mul one (λ b. f i (suc b)) (rowsOf (g .circuit) - 1)) (numCopied (g .circuit))
@@ -141,11 +131,11 @@ module _ (𝓕 : Field) where
 
     -- where the cells of each cycle are equal, σ keeps the values: PLONK's f = σ(f)
     abbrev pub Keeps : Type 0
-    Keeps = Admitted 𝓕 g → EqualCells → (x : Cell) → cellValue 𝓕 g (σ (g .circuit) x) ≡ cellValue 𝓕 g x
+    Keeps = Admitted 𝓕 g → EqualCells 𝓕 g → (x : Cell) → cellValue 𝓕 g (σ (g .circuit) x) ≡ cellValue 𝓕 g x
 
     -- and the two products are equal, whatever β and γ
     abbrev pub Balances : Type 0
-    Balances = Admitted 𝓕 g → EqualCells → Balanced
+    Balances = Admitted 𝓕 g → EqualCells 𝓕 g → Balanced
 
     -- on every log the whole running product is the one product over the other, whatever the cut
     abbrev pub WholeProduct : Type 0
@@ -154,11 +144,11 @@ module _ (𝓕 : Field) where
 
     -- so, where no inverted factor is zero, it closes at one exactly when the two are equal
     abbrev pub ClosesWhen : Type 0
-    ClosesWhen = Admitted 𝓕 g → NoZeroFactor → Closed ↔ Balanced
+    ClosesWhen = Admitted 𝓕 g → NoZeroFactor 𝓕 g → Closed ↔ Balanced
 
     -- and it does where the cells of each cycle are equal
     abbrev pub Closes : Type 0
-    Closes = Admitted 𝓕 g → EqualCells → NoZeroFactor → Closed
+    Closes = Admitted 𝓕 g → EqualCells 𝓕 g → NoZeroFactor 𝓕 g → Closed
 
     -- ---- "Why must the running product close at one?"
 
@@ -198,7 +188,7 @@ module _ (𝓕 : Field) where
       -- cuts are supposed
       abbrev pub MustClose : Type 0
       MustClose =
-          Admitted 𝓕 g → NoZeroFactor
+          Admitted 𝓕 g → NoZeroFactor 𝓕 g
           → (s : Environment 𝓕) → ButForZ s
           → ZeroIn s (startConstraint (g .circuit))
           → ((i : ℕ) → i < numZ (g .circuit) → ZeroIn s (partConstraint (g .circuit) i))

@@ -20,7 +20,7 @@ use Rattle.prover.specs.Log.{Log}
 use Rattle.prover.specs.Columns.{userEnvironment, inputAt, tableAt, countAt, lookupHAt, permutationFactorAt, allCovered}
 use Rattle.calls.specs.Build.{logOf, columnWords, checkBuild, buildOf}
 use Rattle.calls.specs.RowSum.{rowSumOf}
-use Rattle.calls.specs.Meaning.{Each, EachRow, EachLookup, noCell, cellValue, Premises}
+use Rattle.calls.specs.Meaning.{Each, EachRow, EachLookup, ZeroConstraints, EqualCells, NoZeroInput, NoZeroTable, NoZeroFactor, Premises}
 use Rattle.calls.specs.Papers.{fraction, paperH, sharedM, totalOf}
 
 -- what a lookup's list of pairs has past its end
@@ -62,17 +62,15 @@ module _ (𝓕 : Field) where
     -- each cycle equal, … and both cuts of the copied columns alike". Neither β nor γ matters here
     pub record Good : Type 0 where
       pub readings-stand : ReadingsStand
-      pub zero-constraints : Each (Expr.constant 0) (g .circuit .constraints) (λ e. EachRow 𝓕 g (λ b. valueAt 𝓕 (userEnvironment 𝓕 g) e b ≡ zero))
-      pub equal-cells :
-          Each [] (g .circuit .cycles) (λ cycle. Each noCell cycle (λ x. Each noCell cycle (λ y. cellValue 𝓕 g x ≡ cellValue 𝓕 g y)))
+      pub zero-constraints : ZeroConstraints 𝓕 g
+      pub equal-cells : EqualCells 𝓕 g
       pub cuts-alike : CutsAlike (g .circuit)
 
     -- "no denominator zero": they "are γ + input and γ + table on all rows, and the inverted factors on every row but 0"
     pub record NoneZero : Type 0 where
-      pub input-denominators : EachLookup 𝓕 g (λ l. EachRow 𝓕 g (λ b. add (g .γ) (inputAt 𝓕 g l b) ≢ zero))
-      pub table-denominators : EachLookup 𝓕 g (λ l. EachRow 𝓕 g (λ b. add (g .γ) (tableAt 𝓕 g l b) ≢ zero))
-      pub factor-denominators :
-          (i : ℕ) → i < numCopied (g .circuit) → EachRow 𝓕 g (λ b. 0 < b → permutationFactorAt 𝓕 g i b ≢ zero)
+      pub input-denominators : NoZeroInput 𝓕 g
+      pub table-denominators : NoZeroTable 𝓕 g
+      pub factor-denominators : NoZeroFactor 𝓕 g
 
 -- if each reading stands in the table, question 15 is yes, whatever β and γ are
 abbrev pub ReadingsCovered : Type 1

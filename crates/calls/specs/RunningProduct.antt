@@ -11,8 +11,8 @@ use Rattle.preprocessor.specs.Permutation.{firstLabel}
 use Rattle.prover.specs.Log.{Log}
 use Rattle.prover.specs.Columns.{partAt}
 use Rattle.calls.specs.Build.{logOf, buildOf}
-use Rattle.calls.specs.Meaning.{Admitted}
-use Rattle.calls.specs.Copies.{copiedCell, σ, EqualCells, NoZeroFactor, wholeRunning, Closed, paperZ}
+use Rattle.calls.specs.Meaning.{Admitted, EqualCells, NoZeroFactor}
+use Rattle.calls.specs.Copies.{copiedCell, σ, wholeRunning, Closed, paperZ}
 
 -- "The column buffer holds instance, permutation, compressed input and table per lookup, m, h, z, each 2^k words": the words of
 -- permutation column i and of z column i, at row b

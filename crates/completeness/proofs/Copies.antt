@@ -30,8 +30,8 @@ use Rattle.preprocessor.proofs.Cycles.{source-all}
 use Rattle.preprocessor.proofs.Copied.{cells-placed}
 use Rattle.prover.specs.Log.{Log}
 use Rattle.prover.specs.Columns.{copiedAt, permutationAt, identityFactorAt, permutationFactorAt, ratioAt, partAt, stepAt, runningAt}
-use Rattle.calls.specs.Meaning.{Admitted, cellValue}
-use Rattle.calls.specs.Copies.{σ, AreFactors, EqualCells, NoZeroFactor, overCells, Balanced, Keeps, Balances, WholeProduct, ClosesWhen, Closes}
+use Rattle.calls.specs.Meaning.{Admitted, cellValue, EqualCells, NoZeroFactor}
+use Rattle.calls.specs.Copies.{σ, AreFactors, overCells, Balanced, Keeps, Balances, WholeProduct, ClosesWhen, Closes}
 use Rattle.completeness.proofs.CellNumbers.{Placed, source-agree, label-agree}
 use Rattle.completeness.proofs.CycleNumbers.{cycles-good, copied-good, value-at}
 use Rattle.completeness.proofs.DemandThreeOf.{eleven-yes, k-positive, k-below-21}

@@ -22,8 +22,7 @@ use Rattle.preprocessor.proofs.Cycles.{Other, Distinct, apart-distinct}
 use Rattle.preprocessor.proofs.Copied.{Good, cells-good, cells-placed}
 use Rattle.prover.specs.Log.{Log}
 use Rattle.prover.specs.Columns.{givenPolys, copiedAt}
-use Rattle.calls.specs.Meaning.{noCell, cellValue}
-use Rattle.calls.specs.Copies.{EqualCells}
+use Rattle.calls.specs.Meaning.{noCell, cellValue, EqualCells}
 use Rattle.completeness.proofs.CellNumbers.{out-all, Placed, number-div, number-mod, number-in, same-true}
 
 module _ (c : Circuit) where

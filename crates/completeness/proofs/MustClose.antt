@@ -34,9 +34,9 @@ use Rattle.preprocessor.specs.Compose.{numZ, constraintCut, identityFactor, per
 use Rattle.prover.specs.Log.{Log}
 use Rattle.prover.specs.Columns.{givenPolys, permutationPolys, mPolys, hPolys, zPolys, allPolys, copiedAt, permutationAt, identityFactorAt, permutationFactorAt, zAt, composedEnvironment}
 use Rattle.prover.proofs.Lengths.{given-length, permutations-length, m-length, h-length}
-use Rattle.calls.specs.Meaning.{Embeds, Admitted}
+use Rattle.calls.specs.Meaning.{Embeds, Admitted, NoZeroFactor}
 use Rattle.calls.specs.Composed.{column-at, nextIn, over-part}
-use Rattle.calls.specs.Copies.{NoZeroFactor, overCells, Balanced, ButForZ, withZ, AnyZ, ZeroIn, MustClose}
+use Rattle.calls.specs.Copies.{overCells, Balanced, ButForZ, withZ, AnyZ, ZeroIn, MustClose}
 use Rattle.calls.proofs.Embeds.{embeds-add}
 use Rattle.calls.proofs.ConstraintZero.{start-zero, part-zero}
 use Rattle.completeness.proofs.Cuts.{degree-two, z-pos}
