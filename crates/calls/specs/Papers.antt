@@ -32,7 +32,7 @@ module _ (𝓕 : Field) where
   fraction a b = mul a (inv b)
 
   module _ (γ : F) (input table m : ℕ → F) where
-    -- the paper's h, a sum of fractions, with the sign of document 01: 1/(γ + input) − m/(γ + table)
+    -- the paper's h as it is known here, a sum of two fractions, with the sign of document 01: 1/(γ + input) − m/(γ + table)
     unfoldable pub paperH : ℕ → F
     paperH b = add (fraction one (add γ (input b))) (neg (fraction (m b) (add γ (table b))))
 
