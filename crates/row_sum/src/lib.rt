@@ -118,8 +118,7 @@ pub fn question_16(
     values_small(witness, columns, challenges, y)
 }
 
-// The value of the last node at one row, EqXY(0) at that row with it. The values of all nodes are left in `known` where it has a word for
-// each; else the last node is evaluated by itself.
+// The value of the last node at one row, EqXY(0) at that row with it.
 fn row_value<'a>(
     circuit: &'a [u64],
     witness: &'a [u64],
