@@ -38,19 +38,19 @@
  * and in composed nodes then permutation, m, h, z.
  *
  * CIRCUIT WORDS. Word 0 is k. Word 1 is 0 for no maximum degree, else that degree + 1. Words 2 to 19 are nine pairs (start, count).
- * Counts are in entries. A start is the number of the body's first word: 20, then the start before plus its words, also where a body is
- * empty. The bodies follow in this order without gaps, and nothing follows the last:
+ * Counts are in entries. A start is the number of the body's first word: 20, then the start before it plus that body's words, also where
+ * a body is empty. The bodies follow in this order without gaps, and nothing follows the last:
  *     instance lengths       1 word each
  *     preprocess columns     2^k words each
  *     rounds                 2 words each: witness columns, challenges. Each has a witness column, each but the last a challenge
  *     nodes                  4 words each
- *     constraint roots       1 word each: a node, to be 0 on every row
+ *     constraint roots       1 word each: a node, to be 0 on every row, row 0 too
  *     lookup widths          1 word each
  *     lookup pairs           2 words each: input root, table root; as many as the widths sum to
  *     cycle lengths          1 word each
- *     cells                  2 words each: polynomial, row (not place); as many as the lengths sum to
- * Each lookup takes the next pairs, as many as its width: on every row the inputs together are to be what the tables together are on
- * some row. Each cycle takes the next cells, as many as its length: they are to hold one value.
+ *     cells                  2 words each: polynomial, row (not place) from 1 to 2^k - 1; as many as the lengths sum to
+ * Each lookup takes the next pairs, as many as its width: on every row, row 0 too, the inputs together are to be what the tables
+ * together are on some row. Each cycle takes the next cells, as many as its length, none twice: they are to hold one value.
  *
  * NODES. The four words of each kind, its value at row b, and its degree. An unused word is 0. A signed number i, from -2147483648 to
  * 2147483647, is kept as i + 2147483648 (HYPERPLONK_SIGNED). Sums and products are in the field.
@@ -97,9 +97,15 @@
  *                    beta * label + gamma), the column's value and label at b. Every z is 0 at row 0; z_0 is 1 at row 1. On every row
  *                    but 0, z_(i+1) is z_i times the factor of part i; and z_0 at next(b) is the last z at b times the factor of the
  *                    last part at b, for each b but row 0 and the row at the last place.
- * The inverse of 0 is 0. The composed nodes are the user's constraints, then the lookups', then the permutation's, by powers of alpha,
- * times EqXY(0); and then the h columns first, that product last, by powers of alpha. Their challenges are the user's, then beta,
- * gamma, alpha.
+ * The inverse of 0 is 0.
+ *
+ * COMPOSED NODES are the constraints by powers of alpha, times EqXY(0); and then the h columns first, that product last, by powers of
+ * alpha. Their challenges are the user's, then beta, gamma, alpha. The constraints are the user's, then these:
+ *     for each lookup, of its compressed input and table,
+ *         h * (input + gamma) * (table + gamma) - (table + gamma) + m * (input + gamma);
+ *     if n is not 0, Lagrange(1) * (z_0 - 1), and for each part i of the copied columns cut into parts of D - 1, the last perhaps shorter,
+ *         z_i * the product of (value + beta * (j * 2^k + Identity) + gamma) - next * the product of (value + beta * label + gamma),
+ *         over its columns j; next is z_(i+1), after the last part z_0 with rotation 1.
  *
  * SIZES. The columns take (instance columns + n + 4 * lookups + N) * 2^k words, the nodes 4 words each. With list(x) = x + 2 for x > 1,
  * else 0, there are, to be added up:
@@ -109,10 +115,10 @@
  *     list(user's constraints + lookups + (N + 1 if n is not 0)) + 2 + lookups + list(lookups + 1)
  * Room for HYPERPLONK_MAX_COLUMN_WORDS and HYPERPLONK_MAX_NODE_WORDS is enough for any circuit.
  *
- * CHALLENGES must be drawn after the columns that they are to bind: a round's after its witness columns, beta after all witness columns,
+ * CHALLENGES must be drawn once the columns before them are fixed: a round's after its witness columns, beta after all witness columns,
  * gamma after the m columns, alpha and y after the h and z columns. Drawing them, and committing to columns, is no part of this
- * library: they are taken as they are lent. The instance, permutation, compressed and m columns and number 15 do not depend on gamma:
- * for m before gamma is drawn, build with any gamma, and build again with the drawn one.
+ * library: they are taken as they are lent, the user's first, round after round. The instance, permutation, compressed and m columns and
+ * number 15 do not depend on gamma: for m before gamma is drawn, build with any gamma, and build again with the drawn one.
  *
  * THE ROW SUM is 0 for every alpha and every y where it is given what a build wrote with number 0 and that build's circuit, witness and
  * challenges, and
@@ -128,8 +134,8 @@
  * A SMALL CIRCUIT, k = 3. Polynomial 0 is an instance column of five values; polynomial 1 is the one witness column. On every row but
  * that at the last place: witness at rotation 1 = witness + instance value. As (1 - Lagrange(-1)) * (next - (here + value)), degree 2.
  *     word 0     3, 0                                        k; no maximum degree
- *     word 2     20, 1     21, 0     21, 1     23, 11        instance lengths, preprocess columns, rounds, nodes
- *     word 10    67, 1     68, 0     68, 0     68, 0   68, 0 constraint roots, lookup widths, pairs, cycle lengths, cells
+ *     word 2     20, 1,   21, 0,   21, 1,   23, 11           instance lengths, preprocess columns, rounds, nodes
+ *     word 10    67, 1,   68, 0,   68, 0,   68, 0,   68, 0   constraint roots, lookup widths, pairs, cycle lengths, cells
  *     word 20    5                                           the instance column has five values
  *     word 21    1, 0                                        the round: one witness column, no challenge
  *     word 23    HYPERPLONK_POLYNOMIAL, 1, 0, HYPERPLONK_SIGNED(1)    node 0: the witness one row on

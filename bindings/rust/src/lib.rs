@@ -52,8 +52,8 @@
 //! # Circuit words
 //!
 //! Word 0 is k. Word 1 is 0 for no maximum degree, else that degree + 1. Words 2 to 19 are nine pairs (start, count). Counts are in
-//! entries. A start is the number of the body's first word: 20, then the start before plus its words, also where a body is empty. The
-//! bodies follow in this order without gaps, and nothing follows the last:
+//! entries. A start is the number of the body's first word: 20, then the start before it plus that body's words, also where a body is
+//! empty. The bodies follow in this order without gaps, and nothing follows the last:
 //!
 //! | body | words each | |
 //! |---|---|---|
@@ -61,14 +61,15 @@
 //! | preprocess columns | 2^k | |
 //! | rounds | 2 | witness columns, challenges. Each has a witness column, each but the last a challenge |
 //! | nodes | 4 | |
-//! | constraint roots | 1 | a node, to be 0 on every row |
+//! | constraint roots | 1 | a node, to be 0 on every row, row 0 too |
 //! | lookup widths | 1 | |
 //! | lookup pairs | 2 | input root, table root; as many as the widths sum to |
 //! | cycle lengths | 1 | |
-//! | cells | 2 | polynomial, row (not place); as many as the lengths sum to |
+//! | cells | 2 | polynomial, row (not place) from 1 to 2^k − 1; as many as the lengths sum to |
 //!
-//! Each lookup takes the next pairs, as many as its width: on every row the inputs together are to be what the tables together are on
-//! some row. Each cycle takes the next cells, as many as its length: they are to hold one value. The limits are in [`limit`].
+//! Each lookup takes the next pairs, as many as its width: on every row, row 0 too, the inputs together are to be what the tables
+//! together are on some row. Each cycle takes the next cells, as many as its length, none twice: they are to hold one value. The limits
+//! are in [`limit`].
 //!
 //! # Nodes
 //!
@@ -117,8 +118,17 @@
 //! | h | One for each lookup: [`lookup_h_poly`]. |
 //! | z | N of them, z_0 first. The copied columns are cut into N parts of n / N, rounded up, the last perhaps shorter. The factor of a part at row b is the product, over its columns j, of (value + β × (j × 2^k + b) + γ) / (value + β × label + γ), the column's value and label at b. Every z is 0 at row 0; z_0 is 1 at row 1. On every row but 0, z_(i+1) is z_i times the factor of part i; and z_0 at next(b) is the last z at b times the factor of the last part at b, for each b but row 0 and the row at the last place. |
 //!
-//! The inverse of 0 is 0. The composed nodes are the user's constraints, then the lookups', then the permutation's, by powers of α,
-//! times EqXY(0); and then the h columns first, that product last, by powers of α. Their challenges are the user's, then β, γ, α.
+//! The inverse of 0 is 0.
+//!
+//! # Composed nodes
+//!
+//! They are the constraints by powers of α, times EqXY(0); and then the h columns first, that product last, by powers of α. Their
+//! challenges are the user's, then β, γ, α. The constraints are the user's, then these:
+//!
+//! - for each lookup, of its compressed input and table, h × (input + γ) × (table + γ) − (table + γ) + m × (input + γ);
+//! - if n is not 0, Lagrange(1) × (z_0 − 1), and for each part i of the copied columns cut into parts of D − 1, the last perhaps shorter,
+//!   z_i × the product of (value + β × (j × 2^k + Identity) + γ) − next × the product of (value + β × label + γ), over its columns j;
+//!   next is z_(i+1), after the last part z_0 with rotation 1.
 //!
 //! # Sizes
 //!
@@ -134,9 +144,9 @@
 //!
 //! # Challenges
 //!
-//! They must be drawn after the columns that they are to bind: a round's after its witness columns, β after all witness columns, γ after
+//! They must be drawn once the columns before them are fixed: a round's after its witness columns, β after all witness columns, γ after
 //! the m columns, α and y after the h and z columns. Drawing them, and committing to columns, is no part of this library: they are taken
-//! as they are lent. The instance, permutation, compressed and m columns and number 15 do not depend on γ: for m before γ is drawn,
+//! as they are lent, the user's first, round after round. The instance, permutation, compressed and m columns and number 15 do not depend on γ: for m before γ is drawn,
 //! build with any γ, and build again with the drawn one.
 //!
 //! # The row sum
@@ -409,7 +419,7 @@ pub enum Refusal {
     TooFewWords = 1,
     /// k is not from 1 to 10.
     BadK = 2,
-    /// A count or a sum is past its [limit](limit), or there is no round.
+    /// A count or a sum is past its [limit], or there is no round.
     BadCount = 3,
     /// Starts, counts and total length do not agree.
     BadContents = 4,
