@@ -2,52 +2,158 @@
  * The calls of HyperPlonk's building of columns over the Goldilocks field, p = 2^64 - 2^32 + 1.
  * Link target/staticlib/libhyperplonk.a, which `rt staticlib hyperplonk` writes (x86-64 Linux).
  *
- * A slice is lent as a pointer to its first word and its number of words. The pointer is aligned and never null, also where the
- * slice is empty. Words behind `const` are read only, and nothing writes them during the call. A buffer overlaps no other slice of
- * the call. The library keeps no pointer and no memory, allocates nothing, and can be called from several threads at once. Trees are
- * walked by recursion: a thread that makes calls should have 1 MiB of stack (1024 nodes, one in another, were seen to take 0.6 MiB).
+ * SLICES. A slice is lent as a pointer to its first word and its number of words. The pointer is aligned and never null, also where
+ * the slice is empty: for an empty slice pass the address of any word, and 0. Words behind `const` are read only, and nothing writes
+ * them during the call. A buffer overlaps no other slice of the call. The library keeps no pointer and no memory, allocates nothing,
+ * and can be called from several threads at once. Trees are walked by recursion: a thread that makes calls should have 1 MiB of stack
+ * (1024 nodes, one in another, were seen to take 0.2 MiB).
  *
- * A field element is a word below p. Each call returns a number: 0, or the number of the first question that is answered no.
- *   1   the circuit has fewer than 20 words
- *   2   k is not from 1 to 10
- *   3   a count or a sum is past its limit: instance columns 8, preprocess columns 32, rounds 1 to 4, witness columns 32 in all, user
- *       challenges 16 in all, nodes 1024, constraints 32, lookups 8, width 8, cycles 1024, cells 4096, stated degree 32
- *   4   starts, counts and total length do not agree
- *   5   a round has no witness column, a round but the last has no challenge, or an instance column has more than 2^k - 1 values
- *   6   a preprocess value, a Constant or a scalar is not below p
- *   7   the nodes are not as laid out below
- *   8   a polynomial or user challenge number is out of range, a rotation is not from -k to k, or a node has kind 4
- *   9   a width is 0, or there is no constraint, no lookup and no cycle
- *   10  a user or lookup constraint's degree is above 1024, or a user constraint's above the stated maximum
- *   11  a cycle is empty, a cell's polynomial is out of range or its row not from 1 to 2^k - 1, or a cell is twice in one cycle
- *   12  a lent length is not the exact one: instance, witness or challenge words (alone: a column's 2^k words; eq_xy: y's k words)
- *   13  a lent word that stands for a field element is not below p
- *   14  a buffer has fewer words than needed (alone: 2^k)
- *   15  (build, counts) an input equals no table row
- *   16  (row sum) witness, columns, nodes, challenges or y have not the exact length, the node words are not those that building
- *       writes, or another value is not below p
- * On 0 the first words of a buffer are those that the call says (alone: the first 2^k are the column). On 15 the column words needed
- * become 0. On any other number no word of a buffer is written, those of `answer` aside. Words past those needed are never written.
+ * NUMBERS. A field element is a word below p. Each call puts its questions in the order of their numbers and returns the number of the
+ * first that is answered no, or 0 (HYPERPLONK_OK). 3 and then 4 are put to words 0 to 19, then 3 and then 4 to what follows. The
+ * constants below name the numbers. On 0 the first words of a buffer are those that the call says (alone: the first 2^k are the
+ * column). On 15 the column words needed become 0. On any other number no word of a buffer is written, those of `answer` aside. Words
+ * past those needed are never written.
  *
- * Circuit words. Word 0 is k. Word 1 is 0 for no maximum degree, else that degree + 1. Words 2 to 19 are nine pairs (start, count). A
- * start is the number of the body's first word: 20, then the start before plus its words. The bodies follow in this order without gaps:
- *   instance lengths       1 word each
- *   preprocess columns     2^k words each
- *   rounds                 2 words each: witness columns, challenges
- *   nodes                  4 words each: kind, first, second, value; an unused word is 0
- *   constraint roots       1 word each
- *   lookup widths          1 word each
- *   lookup pairs           2 words each: input root, table root; as many as the widths sum to
- *   cycle lengths          1 word each
- *   cells                  2 words each: polynomial, row; as many as the lengths sum to
- * Polynomials are numbered instance, preprocess, witness, and in composed nodes then permutation, m, h, z.
+ * ROWS. A column has 2^k words: word b is its value at row b. Rows also have an order: row 0 first, then 1, next(1), next(next(1)) ...
+ * next(b) is 2 * b and, if bit k of that is set, that exclusive-or PRIMITIVES[k]:
  *
- * Nodes. 1 Constant(value). 2 Identity. 3 Lagrange(value). 4 EqXY(value), in composed nodes only. 5 Polynomial(first, rotation in
- * value). 6 Challenge(first). 7 Negated(first). 8 Sum(first, second). 9 Product(first, second). 10 Scaled(first, by value).
- * 11 DistributePowers(first base, second first Item). 12 Item(first expression, second next Item, value 1; the last has second 0,
- * value 0), named only as the second of kind 11 or 12, and kind 11 has two Items or more. A node names lower nodes only; each is
- * named exactly once, by a node or as a root; a root is the number of a node that is no Item. A signed number i (Lagrange, rotation)
- * is kept as i + 2147483648.
+ *     k                1    2    3    4    5    6    7    8    9    10
+ *     PRIMITIVES[k]    3    7   11   19   37   67  131  285  529  1033
+ *
+ * From row 1 all 2^k - 1 rows that are not 0 come once before 1 returns; next(0) is 0. The place of a row is its number in this order,
+ * from 0 on. Do not take one for the other. They are the same for k = 1 and 2, and for k = 3:
+ *
+ *     place    0    1    2    3    4    5    6    7
+ *     row      0    1    2    4    3    6    7    5
+ *
+ * Rotation r leads from a row to the row that is r steps of next on or, if r is negative, -r steps back: place 1 follows the last place.
+ * From row 0 every rotation leads to row 0, and from no other row does one lead there.
+ *
+ * POLYNOMIALS are columns, numbered from 0 on in this order:
+ *     instance      the circuit says how many values each has, at most 2^k - 1. The values are lent, one column's after another's.
+ *                   Value t (from 0) stands at place t + 1; other rows are 0. At k = 3 the values 11 12 13 14 15 stand at the rows
+ *                   1 2 4 3 6, and the column is 0 11 12 14 13 0 15 0.
+ *     preprocess    the circuit has them, 2^k words each, by rows
+ *     witness       lent, 2^k words each, by rows, one column after another, round after round
+ * and in composed nodes then permutation, m, h, z.
+ *
+ * CIRCUIT WORDS. Word 0 is k. Word 1 is 0 for no maximum degree, else that degree + 1. Words 2 to 19 are nine pairs (start, count).
+ * Counts are in entries. A start is the number of the body's first word: 20, then the start before it plus that body's words, also where
+ * a body is empty. The bodies follow in this order without gaps, and nothing follows the last:
+ *     instance lengths       1 word each
+ *     preprocess columns     2^k words each
+ *     rounds                 2 words each: witness columns, challenges. Each has a witness column, each but the last a challenge
+ *     nodes                  4 words each
+ *     constraint roots       1 word each: a node, to be 0 on every row, row 0 too
+ *     lookup widths          1 word each
+ *     lookup pairs           2 words each: input root, table root; as many as the widths sum to
+ *     cycle lengths          1 word each
+ *     cells                  2 words each: polynomial, row (not place) from 1 to 2^k - 1; as many as the lengths sum to
+ * Each lookup takes the next pairs, as many as its width: on every row, row 0 too, the inputs together are to be what the tables
+ * together are on some row. Each cycle takes the next cells, as many as its length, none twice: they are to hold one value.
+ *
+ * NODES. The four words of each kind, its value at row b, and its degree. An unused word is 0. A signed number i, from -2147483648 to
+ * 2147483647, is kept as i + 2147483648 (HYPERPLONK_SIGNED). Sums and products are in the field.
+ *
+ *     1   Constant           1 0 0 v         v                                                       0
+ *     2   Identity           2 0 0 0         the number b                                            1
+ *     3   Lagrange(i)        3 0 0 i+2^31    1 where b is the row at place i mod 2^k, else 0. The    1
+ *                                            remainder is never negative: Lagrange(-1) is 1 at the
+ *                                            last place, Lagrange(2^k) at row 0
+ *     4   EqXY(0)            4 0 0 0         the product over i from 0 to k - 1 of y_i where bit i   1
+ *                                            of b is set, else of 1 - y_i. In composed nodes only
+ *     5   Polynomial(q, r)   5 q 0 r+2^31    polynomial q at the row to which rotation r leads       1
+ *                                            from b; r is from -k to k
+ *     6   Challenge(i)       6 i 0 0         challenge i: in a circuit the user's, from 0 on         0
+ *     7   Negated            7 a 0 0         0 - node a                                              a's
+ *     8   Sum                8 a c 0         node a + node c                                         the larger
+ *     9   Product            9 a c 0         node a * node c                                         their sum
+ *     10  Scaled             10 a 0 v        node a * v                                              a's
+ *     11  DistributePowers   11 a t 0        e_0 + base * e_1 + base^2 * e_2 + ..., the base being   the largest of
+ *                                            node a, and the expressions e_0, e_1, ... those of the  e_i's + i * base's
+ *                                            Items from Item t on
+ *     12  Item               12 a t 1        none of its own: its expression is node a, and Item t
+ *                                            is the next. The last Item is 12 a 0 0
+ *
+ * A list has two Items or more, and an Item is named only as the second word of kind 11 or 12. A node names lower nodes only, so the
+ * first Item has the highest number; each node is named exactly once, by a node or as a root; a root is the number of a node that is no
+ * Item. With e_0, e_1, e_2 at nodes 0, 1, 2 and the base at node 3, a list is node 4: 12 2 0 0, node 5: 12 1 4 1, node 6: 12 0 5 1,
+ * node 7: 11 3 6 0.
+ *
+ * A lookup's constraint has degree 1 + the largest degree of its inputs + the largest of its tables. D is the largest of 2, the maximum
+ * degree that the circuit states, and the degrees of all user and lookup constraints. The copied columns are the polynomials that cells
+ * name, each once, by rising number; n is how many. N = n / (D - 1), rounded up.
+ *
+ * COLUMNS that building writes, each 2^k words, by rows, in this order:
+ *     instance       as above
+ *     permutation    one for each copied column: its labels. Copied column number j (from 0) starts with j * 2^k + b at row b. Along
+ *                    a cycle each cell takes the label that the cell before held when the cycle began, the first that of the last.
+ *                    Cycles act one after another. At k = 2 the cycle (0, 1), (1, 2) makes 0 6 2 3 and 4 5 1 7.
+ *     compressed     for each lookup the input, then the table: e_0 + beta * e_1 + beta^2 * e_2 + ... of its inputs, of its tables
+ *     m              one for each lookup: at each row how many rows' inputs are counted there, by hyperplonk_lookup_m_poly
+ *     h              one for each lookup: hyperplonk_lookup_h_poly
+ *     z              N of them, z_0 first. The copied columns are cut into N parts of n / N, rounded up, the last perhaps shorter. The
+ *                    factor of a part at row b is the product, over its columns j, of (value + beta * (j * 2^k + b) + gamma) / (value +
+ *                    beta * label + gamma), the column's value and label at b. Every z is 0 at row 0; z_0 is 1 at row 1. On every row
+ *                    but 0, z_(i+1) is z_i times the factor of part i; and z_0 at next(b) is the last z at b times the factor of the
+ *                    last part at b, for each b but row 0 and the row at the last place.
+ * The inverse of 0 is 0.
+ *
+ * COMPOSED NODES are the constraints by powers of alpha, times EqXY(0); and then the h columns first, that product last, by powers of
+ * alpha. Their challenges are the user's, then beta, gamma, alpha. The constraints are the user's, then these:
+ *     for each lookup, of its compressed input and table,
+ *         h * (input + gamma) * (table + gamma) - (table + gamma) + m * (input + gamma);
+ *     if n is not 0, Lagrange(1) * (z_0 - 1), and for each part i of the copied columns cut into parts of D - 1, the last perhaps shorter,
+ *         z_i * the product of (value + beta * (j * 2^k + Identity) + gamma) - next * the product of (value + beta * label + gamma),
+ *         over its columns j; next is z_(i+1), after the last part z_0 with rotation 1.
+ *
+ * SIZES. The columns take (instance columns + n + 4 * lookups + N) * 2^k words, the nodes 4 words each. With list(x) = x + 2 for x > 1,
+ * else 0, there are, to be added up:
+ *     all nodes of the user's constraints
+ *     for each lookup 2 * (all nodes of its inputs and tables) + 16 + 4 * list(its width)
+ *     if n is not 0, 6 + 18 * n + 4 * N
+ *     list(user's constraints + lookups + (N + 1 if n is not 0)) + 2 + lookups + list(lookups + 1)
+ * Room for HYPERPLONK_MAX_COLUMN_WORDS and HYPERPLONK_MAX_NODE_WORDS is enough for any circuit.
+ *
+ * CHALLENGES must be drawn once the columns before them are fixed: a round's after its witness columns, beta after all witness columns,
+ * gamma after the m columns, alpha and y after the h and z columns. Drawing them, and committing to columns, is no part of this
+ * library: they are taken as they are lent, the user's first, round after round. The instance, permutation, compressed and m columns and
+ * number 15 do not depend on gamma: for m before gamma is drawn, build with any gamma, and build again with the drawn one.
+ *
+ * THE ROW SUM is 0 for every alpha and every y where it is given what a build wrote with number 0 and that build's circuit, witness and
+ * challenges, and
+ *     every user constraint is 0 on every row, and the cells of each cycle hold one value;
+ *     the cuts are alike: the permutation's constraints cut the copied columns into parts of D - 1, z into parts of n / N, rounded up;
+ *     no denominator is 0: gamma + input and gamma + table of each lookup on every row, and value + beta * label + gamma of each
+ *     copied column on every row but 0.
+ * So a sum that is not 0 says: the log does not meet its circuit; or the cuts differ, which n and D decide (n = 4 with D = 4 are the
+ * smallest: 3, 1 and 2, 2); or a denominator is 0, and another gamma is to be drawn; or the words are not that build's. A sum of 0 at
+ * one alpha and y does not by itself say that the log meets its circuit: y = 0, 0, ... looks at the constraints on row 0 only. The
+ * compressed columns are measured and their words held below p, and not read.
+ *
+ * A SMALL CIRCUIT, k = 3. Polynomial 0 is an instance column of five values; polynomial 1 is the one witness column. On every row but
+ * that at the last place: witness at rotation 1 = witness + instance value. As (1 - Lagrange(-1)) * (next - (here + value)), degree 2.
+ *     word 0     3, 0                                        k; no maximum degree
+ *     word 2     20, 1,   21, 0,   21, 1,   23, 11           instance lengths, preprocess columns, rounds, nodes
+ *     word 10    67, 1,   68, 0,   68, 0,   68, 0,   68, 0   constraint roots, lookup widths, pairs, cycle lengths, cells
+ *     word 20    5                                           the instance column has five values
+ *     word 21    1, 0                                        the round: one witness column, no challenge
+ *     word 23    HYPERPLONK_POLYNOMIAL, 1, 0, HYPERPLONK_SIGNED(1)    node 0: the witness one row on
+ *     word 27    HYPERPLONK_POLYNOMIAL, 1, 0, HYPERPLONK_SIGNED(0)    node 1: the witness
+ *     word 31    HYPERPLONK_POLYNOMIAL, 0, 0, HYPERPLONK_SIGNED(0)    node 2: the instance value
+ *     word 35    HYPERPLONK_SUM, 1, 2, 0                              node 3
+ *     word 39    HYPERPLONK_NEGATED, 3, 0, 0                          node 4
+ *     word 43    HYPERPLONK_SUM, 0, 4, 0                              node 5
+ *     word 47    HYPERPLONK_CONSTANT, 0, 0, 1                         node 6
+ *     word 51    HYPERPLONK_LAGRANGE, 0, 0, HYPERPLONK_SIGNED(-1)     node 7: 1 at the last place, row 5
+ *     word 55    HYPERPLONK_NEGATED, 7, 0, 0                          node 8
+ *     word 59    HYPERPLONK_SUM, 6, 8, 0                              node 9
+ *     word 63    HYPERPLONK_PRODUCT, 9, 5, 0                          node 10
+ *     word 67    10                                                   the constraint's root
+ * Instance words 11 12 13 14 15. By places the witness is 0 100 111 123 136 150 165 165, so by rows, as its words are lent,
+ * 0 100 111 136 123 165 150 165. Challenges beta, gamma: any two words below p. Building writes 8 column words, 0 11 12 14 13 0 15 0,
+ * and 13 nodes; there is no z. The row sum is 0 for every alpha and every three values of y. bindings/c/total.c has a lookup and a
+ * cycle besides.
  */
 #ifndef HYPERPLONK_H
 #define HYPERPLONK_H
@@ -59,10 +165,94 @@
 extern "C" {
 #endif
 
-/* The columns and the composed expression of a log. Challenges are the user's, then beta, gamma. Columns, 2^k words each: instance,
- * permutation, compressed input and table per lookup, m, h, z. Nodes, 4 words each: the root is the last. The first three words of
- * the answer become column words written, nodes written, z columns, all 0 when refused; a shorter answer is left as it is.
- * Returns 0 to 15. */
+/* The field's prime. */
+#define HYPERPLONK_P UINT64_C(18446744069414584321)
+
+/* The word of a signed number (Lagrange, rotation). */
+#define HYPERPLONK_SIGNED_OFFSET UINT64_C(2147483648)
+#define HYPERPLONK_SIGNED(i) (HYPERPLONK_SIGNED_OFFSET + (uint64_t)(i))
+
+/* PRIMITIVES[0] to PRIMITIVES[10], for an array: static const uint64_t primitives[] = HYPERPLONK_PRIMITIVES; */
+#define HYPERPLONK_PRIMITIVES {1, 3, 7, 11, 19, 37, 67, 131, 285, 529, 1033}
+
+/* Node kinds. */
+#define HYPERPLONK_CONSTANT UINT64_C(1)
+#define HYPERPLONK_IDENTITY UINT64_C(2)
+#define HYPERPLONK_LAGRANGE UINT64_C(3)
+#define HYPERPLONK_EQ_XY UINT64_C(4)
+#define HYPERPLONK_POLYNOMIAL UINT64_C(5)
+#define HYPERPLONK_CHALLENGE UINT64_C(6)
+#define HYPERPLONK_NEGATED UINT64_C(7)
+#define HYPERPLONK_SUM UINT64_C(8)
+#define HYPERPLONK_PRODUCT UINT64_C(9)
+#define HYPERPLONK_SCALED UINT64_C(10)
+#define HYPERPLONK_DISTRIBUTE_POWERS UINT64_C(11)
+#define HYPERPLONK_ITEM UINT64_C(12)
+
+/* Numbers. */
+#define HYPERPLONK_OK UINT64_C(0)
+/* The circuit has fewer than 20 words. */
+#define HYPERPLONK_TOO_FEW_WORDS UINT64_C(1)
+/* k is not from 1 to 10. */
+#define HYPERPLONK_BAD_K UINT64_C(2)
+/* A count or a sum is past its limit below, or there is no round. */
+#define HYPERPLONK_BAD_COUNT UINT64_C(3)
+/* Starts, counts and total length do not agree. */
+#define HYPERPLONK_BAD_CONTENTS UINT64_C(4)
+/* A round has no witness column, a round but the last has no challenge, or an instance column has more than 2^k - 1 values. */
+#define HYPERPLONK_BAD_ROUND_OR_INSTANCE UINT64_C(5)
+/* A preprocess value, a Constant or a scalar is not below p. */
+#define HYPERPLONK_BAD_CIRCUIT_VALUE UINT64_C(6)
+/* The nodes are not laid out as above. */
+#define HYPERPLONK_BAD_NODE_LAYOUT UINT64_C(7)
+/* A polynomial or user challenge number is out of range, a rotation is not from -k to k, or a node has kind 4. */
+#define HYPERPLONK_BAD_NODE_RANGE UINT64_C(8)
+/* A width is 0, or there is no constraint, no lookup and no cycle. */
+#define HYPERPLONK_EMPTY_LOOKUP_OR_CIRCUIT UINT64_C(9)
+/* A user or lookup constraint's degree is above 1024, or a user constraint's above the stated maximum. */
+#define HYPERPLONK_BAD_DEGREE UINT64_C(10)
+/* A cycle is empty, a cell's polynomial is out of range or its row not from 1 to 2^k - 1, or a cell is twice in one cycle. */
+#define HYPERPLONK_BAD_CYCLE UINT64_C(11)
+/* A lent length is not the exact one: instance, witness or challenge words (alone: a column's 2^k words; eq_xy: y's k words). */
+#define HYPERPLONK_BAD_LENGTH UINT64_C(12)
+/* A lent word that stands for a field element is not below p. */
+#define HYPERPLONK_BAD_VALUE UINT64_C(13)
+/* A buffer has fewer words than needed (alone: 2^k). */
+#define HYPERPLONK_SHORT_BUFFER UINT64_C(14)
+/* (Build, counts.) An input equals no table row. */
+#define HYPERPLONK_NOT_IN_TABLE UINT64_C(15)
+/* (Row sum.) Witness, columns, nodes, challenges or y have not the exact length, the node words are not those that building writes,
+ * or another value is not below p. */
+#define HYPERPLONK_BAD_ROW_SUM_WORDS UINT64_C(16)
+
+/* Limits. k is 1 or more, and so are the rounds; witness columns, user challenges and cells are counted in all. The stated degree is
+ * that of word 1, the degree that of any user or lookup constraint. */
+#define HYPERPLONK_MAX_K UINT64_C(10)
+#define HYPERPLONK_MAX_INSTANCE_COLUMNS UINT64_C(8)
+#define HYPERPLONK_MAX_PREPROCESS_COLUMNS UINT64_C(32)
+#define HYPERPLONK_MAX_ROUNDS UINT64_C(4)
+#define HYPERPLONK_MAX_WITNESS_COLUMNS UINT64_C(32)
+#define HYPERPLONK_MAX_USER_CHALLENGES UINT64_C(16)
+#define HYPERPLONK_MAX_NODES UINT64_C(1024)
+#define HYPERPLONK_MAX_CONSTRAINTS UINT64_C(32)
+#define HYPERPLONK_MAX_LOOKUPS UINT64_C(8)
+#define HYPERPLONK_MAX_WIDTH UINT64_C(8)
+#define HYPERPLONK_MAX_CYCLES UINT64_C(1024)
+#define HYPERPLONK_MAX_CELLS UINT64_C(4096)
+#define HYPERPLONK_MAX_STATED_DEGREE UINT64_C(32)
+#define HYPERPLONK_MAX_DEGREE UINT64_C(1024)
+
+/* The words of the contents, before the bodies; and the most words that a circuit has, that columns and nodes take. */
+#define HYPERPLONK_CONTENTS_WORDS UINT64_C(20)
+#define HYPERPLONK_MAX_CIRCUIT_WORDS UINT64_C(46284)
+#define HYPERPLONK_MAX_COLUMN_WORDS UINT64_C(188416)
+#define HYPERPLONK_MAX_COMPOSED_NODES UINT64_C(4190)
+#define HYPERPLONK_MAX_NODE_WORDS UINT64_C(16760)
+
+/* The columns and the composed expression of a log. Instance words are the instance columns' values, witness words the witness columns;
+ * challenges are the user's, then beta, gamma. Columns, 2^k words each: instance, permutation, compressed input and table per lookup,
+ * m, h, z. Nodes, 4 words each: the root is the last. The first three words of the answer become column words written, nodes written,
+ * z columns, all 0 when refused; a shorter answer is left as it is. Returns 0 to 15. */
 uint64_t hyperplonk_build(const uint64_t *circuit, size_t circuit_len,
                           const uint64_t *instance, size_t instance_len,
                           const uint64_t *witness, size_t witness_len,
@@ -72,8 +262,8 @@ uint64_t hyperplonk_build(const uint64_t *circuit, size_t circuit_len,
                           uint64_t *answer, size_t answer_len);
 
 /* The sum of the composed expression over all rows. Columns and nodes are the words that building wrote, and no more. Challenges are
- * the user's, then beta, gamma, alpha. The first word of the answer becomes the sum, 0 when refused; an empty answer is left as it is.
- * Returns 0 to 11, 16. */
+ * the user's, then beta, gamma, alpha; y has k words. The first word of the answer becomes the sum, 0 when refused; an empty answer is
+ * left as it is. Returns 0 to 11, 16: a sum that is not 0 is no refusal. */
 uint64_t hyperplonk_row_sum(const uint64_t *circuit, size_t circuit_len,
                             const uint64_t *witness, size_t witness_len,
                             const uint64_t *columns, size_t columns_len,
@@ -82,7 +272,8 @@ uint64_t hyperplonk_row_sum(const uint64_t *circuit, size_t circuit_len,
                             const uint64_t *y, size_t y_len,
                             uint64_t *answer, size_t answer_len);
 
-/* m: how many inputs are counted at each table row. An input is counted at the last row equal to it. Returns 0, 2, 12, 13, 14, 15. */
+/* m: how many inputs are counted at each table row. An input is counted at the last row (by row number) whose table value equals it.
+ * Returns 0, 2, 12, 13, 14, 15. */
 uint64_t hyperplonk_lookup_m_poly(uint64_t k,
                                   const uint64_t *input, size_t input_len,
                                   const uint64_t *table, size_t table_len,

@@ -2,7 +2,7 @@
 //! the stored answers of oracle/data/small.txt.
 #![allow(clippy::type_complexity)]
 
-use hyperplonk::{build, eq_xy, lookup_h_poly, lookup_m_poly, row_sum, Built, RowSum, P};
+use hyperplonk::{build, eq_xy, lookup_h_poly, lookup_m_poly, row_sum, Built, Refusal, P};
 
 /// What buffers hold before a call.
 const BEFORE: u64 = 0x5a5a;
@@ -20,41 +20,41 @@ const TWICE: [u64; 37] = [
 /// One witness column, k = 1, and the constraint Constant(0): no column is written.
 const BARE: [u64; 27] = [1, 0, 20, 0, 20, 0, 20, 1, 22, 1, 26, 1, 27, 0, 27, 0, 27, 0, 27, 0, 1, 0, 1, 0, 0, 0, 0];
 
-fn refused(number: u64) -> Built {
-    Built { number, column_words: 0, nodes: 0, z_columns: 0 }
+fn refused<T>(number: u64) -> Result<T, Refusal> {
+    Err(Refusal::ALL[number as usize - 1])
 }
 
 #[test]
 fn counts() {
     let mut m = [BEFORE; 6];
-    assert_eq!(lookup_m_poly(2, &INPUT, &TABLE, &mut m), 0);
+    assert_eq!(lookup_m_poly(2, &INPUT, &TABLE, &mut m), Ok(()));
     assert_eq!(m, [1, 0, 2, 1, BEFORE, BEFORE]);
-    assert_eq!(lookup_m_poly(2, &[7, 6, 5, 9], &TABLE, &mut m), 15);
+    assert_eq!(lookup_m_poly(2, &[7, 6, 5, 9], &TABLE, &mut m), refused(15));
     assert_eq!(m, [0, 0, 0, 0, BEFORE, BEFORE]);
-    assert_eq!(lookup_m_poly(1, &[P - 1; 2], &[P - 1; 2], &mut m[..2]), 0);
+    assert_eq!(lookup_m_poly(1, &[P - 1; 2], &[P - 1; 2], &mut m[..2]), Ok(()));
     assert_eq!(m, [0, 2, 0, 0, BEFORE, BEFORE]);
 }
 
 #[test]
 fn fractions() {
     let mut h = [BEFORE; 5];
-    assert_eq!(lookup_h_poly(2, &INPUT, &TABLE, &M, 100, &mut h), 0);
+    assert_eq!(lookup_h_poly(2, &INPUT, &TABLE, &M, 100, &mut h), Ok(()));
     assert_eq!((&h[..4], h[4]), (&H[..], BEFORE));
     assert_eq!(h[..4].iter().fold(0, |sum, w| (sum + *w as u128) % P as u128), 0);
     // The inverse of 2, and that of 0.
-    assert_eq!(lookup_h_poly(1, &[1, P - 1], &[1, 1], &[0, 0], 1, &mut h), 0);
+    assert_eq!(lookup_h_poly(1, &[1, P - 1], &[1, 1], &[0, 0], 1, &mut h), Ok(()));
     assert_eq!(h[..2], [9223372034707292161, 0]);
 }
 
 #[test]
 fn eq_table() {
     let mut out = [BEFORE; 5];
-    assert_eq!(eq_xy(2, &[2, 3], &mut out), 0);
+    assert_eq!(eq_xy(2, &[2, 3], &mut out), Ok(()));
     assert_eq!(out, [2, P - 4, P - 3, 6, BEFORE]);
-    assert_eq!(eq_xy(2, &[0, 1], &mut out), 0);
+    assert_eq!(eq_xy(2, &[0, 1], &mut out), Ok(()));
     assert_eq!(out, [0, 0, 1, 0, BEFORE]);
     let mut out = vec![BEFORE; 1 << 10];
-    assert_eq!(eq_xy(10, &[0; 10], &mut out), 0);
+    assert_eq!(eq_xy(10, &[0; 10], &mut out), Ok(()));
     assert!(out[0] == 1 && out[1..].iter().all(|w| *w == 0));
 }
 
@@ -73,19 +73,19 @@ fn stages_refuse() {
     ];
     for (number, k, input, table, room) in cases {
         let (mut m, mut h) = ([BEFORE; 4], [BEFORE; 4]);
-        assert_eq!(lookup_m_poly(k, input, table, &mut m[..room]), number);
-        assert_eq!(lookup_h_poly(k, input, table, &M, 100, &mut h[..room]), number);
+        assert_eq!(lookup_m_poly(k, input, table, &mut m[..room]), refused(number));
+        assert_eq!(lookup_h_poly(k, input, table, &M, 100, &mut h[..room]), refused(number));
         assert_eq!((m, h), ([BEFORE; 4], [BEFORE; 4]));
     }
     let mut h = [BEFORE; 4];
-    assert_eq!(lookup_h_poly(2, &INPUT, &TABLE, &M[..2], P, &mut h), 12);
-    assert_eq!(lookup_h_poly(2, &INPUT, &TABLE, &high, 100, &mut h), 13);
-    assert_eq!(lookup_h_poly(2, &INPUT, &TABLE, &M, P, &mut h), 13);
-    assert_eq!(eq_xy(0, &[], &mut h), 2);
-    assert_eq!(eq_xy(11, &[0; 11], &mut h), 2);
-    assert_eq!(eq_xy(2, &[0, 1, P], &mut h), 12);
-    assert_eq!(eq_xy(2, &[0, P], &mut h), 13);
-    assert_eq!(eq_xy(2, &[0, P - 1], &mut h[..3]), 14);
+    assert_eq!(lookup_h_poly(2, &INPUT, &TABLE, &M[..2], P, &mut h), refused(12));
+    assert_eq!(lookup_h_poly(2, &INPUT, &TABLE, &high, 100, &mut h), refused(13));
+    assert_eq!(lookup_h_poly(2, &INPUT, &TABLE, &M, P, &mut h), refused(13));
+    assert_eq!(eq_xy(0, &[], &mut h), refused(2));
+    assert_eq!(eq_xy(11, &[0; 11], &mut h), refused(2));
+    assert_eq!(eq_xy(2, &[0, 1, P], &mut h), refused(12));
+    assert_eq!(eq_xy(2, &[0, P], &mut h), refused(13));
+    assert_eq!(eq_xy(2, &[0, P - 1], &mut h[..3]), refused(14));
     assert_eq!(h, [BEFORE; 4]);
 }
 
@@ -93,19 +93,19 @@ fn stages_refuse() {
 fn builds() {
     let (mut columns, mut nodes) = ([BEFORE; 18], [BEFORE; 110]);
     let built = build(&TWICE, &[], &INPUT, &[10, 100], &mut columns, &mut nodes);
-    assert_eq!(built, Built { number: 0, column_words: 16, nodes: 27, z_columns: 0 });
+    assert_eq!(built, Ok(Built { column_words: 16, nodes: 27, z_columns: 0 }));
     assert_eq!(columns[..16], [INPUT, TABLE, M, H].concat());
     assert_eq!((&columns[16..], &nodes[108..]), (&[BEFORE; 2][..], &[BEFORE; 2][..]));
     let (columns, nodes) = (&columns[..16], &nodes[..108]);
     for (alpha, y) in [(2, [0, 2]), (0, [0, 0]), (P - 1, [P - 1, 12345])] {
         let sum = row_sum(&TWICE, &INPUT, columns, nodes, &[10, 100, alpha], &y);
-        assert_eq!(sum, RowSum { number: 0, sum: 0 });
+        assert_eq!(sum, Ok(0));
     }
     // The composed expression is h + α × (the rest): an h that is 1 higher on one row adds to it.
     let mut other = columns.to_vec();
     other[15] = 1;
     let sum = row_sum(&TWICE, &INPUT, &other, nodes, &[10, 100, 0], &[0, 2]);
-    assert_eq!(sum, RowSum { number: 0, sum: 1 });
+    assert_eq!(sum, Ok(1));
 }
 
 #[test]
@@ -133,26 +133,25 @@ fn build_refuses() {
     let (mut columns, mut nodes) = ([BEFORE; 17], [BEFORE; 108]);
     assert_eq!(build(&TWICE, &[], &[7, 6, 5, 9], &[10, 100], &mut columns, &mut nodes), refused(15));
     assert_eq!((&columns[..16], columns[16], nodes), (&[0; 16][..], BEFORE, [BEFORE; 108]));
-    assert_eq!(build(&TWICE, &[], &INPUT, &[P - 1, P - 1], &mut columns, &mut nodes).number, 0);
+    assert!(build(&TWICE, &[], &INPUT, &[P - 1, P - 1], &mut columns, &mut nodes).is_ok());
 }
 
 #[test]
 fn row_sum_refuses() {
     let (mut columns, mut nodes) = ([0; 16], [0; 108]);
-    assert_eq!(build(&TWICE, &[], &INPUT, &[10, 100], &mut columns, &mut nodes).number, 0);
-    let due = |number| RowSum { number, sum: 0 };
+    assert!(build(&TWICE, &[], &INPUT, &[10, 100], &mut columns, &mut nodes).is_ok());
     let high = [7, 7, 5, P];
     let longer = [&columns[..], &[0]].concat();
     let mut others = nodes;
     others[107] ^= 1;
-    assert_eq!(row_sum(&[], &INPUT, &columns, &nodes, &[10, 100, 2], &[0, 2]), due(1));
-    assert_eq!(row_sum(&TWICE[..36], &high, &columns, &nodes, &[10, 100, 2], &[0, 2]), due(4));
-    assert_eq!(row_sum(&TWICE, &high, &columns, &nodes, &[10, 100, 2], &[0, 2]), due(16));
-    assert_eq!(row_sum(&TWICE, &INPUT, &longer, &nodes, &[10, 100, 2], &[0, 2]), due(16));
-    assert_eq!(row_sum(&TWICE, &INPUT, &columns, &others, &[10, 100, 2], &[0, 2]), due(16));
-    assert_eq!(row_sum(&TWICE, &INPUT, &columns, &nodes, &[10, 100], &[0, 2]), due(16));
-    assert_eq!(row_sum(&TWICE, &INPUT, &columns, &nodes, &[10, 100, 2], &[0, P]), due(16));
-    assert_eq!(row_sum(&TWICE, &INPUT, &columns, &nodes, &[10, 100, 2], &[]), due(16));
+    assert_eq!(row_sum(&[], &INPUT, &columns, &nodes, &[10, 100, 2], &[0, 2]), refused(1));
+    assert_eq!(row_sum(&TWICE[..36], &high, &columns, &nodes, &[10, 100, 2], &[0, 2]), refused(4));
+    assert_eq!(row_sum(&TWICE, &high, &columns, &nodes, &[10, 100, 2], &[0, 2]), refused(16));
+    assert_eq!(row_sum(&TWICE, &INPUT, &longer, &nodes, &[10, 100, 2], &[0, 2]), refused(16));
+    assert_eq!(row_sum(&TWICE, &INPUT, &columns, &others, &[10, 100, 2], &[0, 2]), refused(16));
+    assert_eq!(row_sum(&TWICE, &INPUT, &columns, &nodes, &[10, 100], &[0, 2]), refused(16));
+    assert_eq!(row_sum(&TWICE, &INPUT, &columns, &nodes, &[10, 100, 2], &[0, P]), refused(16));
+    assert_eq!(row_sum(&TWICE, &INPUT, &columns, &nodes, &[10, 100, 2], &[]), refused(16));
 }
 
 #[test]
@@ -160,18 +159,29 @@ fn empty_slices() {
     assert_eq!(build(&[], &[], &[], &[], &mut [], &mut []), refused(1));
     assert_eq!(build(&BARE, &[], &[], &[], &mut [], &mut []), refused(12));
     assert_eq!(build(&BARE, &[], &[3, 4], &[5, 6], &mut [], &mut []), refused(14));
-    assert_eq!(row_sum(&[], &[], &[], &[], &[], &[]), RowSum { number: 1, sum: 0 });
-    assert_eq!(row_sum(&BARE, &[], &[], &[], &[], &[]), RowSum { number: 16, sum: 0 });
+    assert_eq!(row_sum(&[], &[], &[], &[], &[], &[]), refused(1));
+    assert_eq!(row_sum(&BARE, &[], &[], &[], &[], &[]), refused(16));
     for (k, number) in [(0, 2), (1, 12), (10, 12), (11, 2)] {
-        assert_eq!(lookup_m_poly(k, &[], &[], &mut []), number);
-        assert_eq!(lookup_h_poly(k, &[], &[], &[], 0, &mut []), number);
-        assert_eq!(eq_xy(k, &[], &mut []), number);
+        assert_eq!(lookup_m_poly(k, &[], &[], &mut []), refused(number));
+        assert_eq!(lookup_h_poly(k, &[], &[], &[], 0, &mut []), refused(number));
+        assert_eq!(eq_xy(k, &[], &mut []), refused(number));
     }
     let mut nodes = [BEFORE; 12];
     let built = build(&BARE, &[], &[3, 4], &[5, 6], &mut [], &mut nodes);
-    assert_eq!(built, Built { number: 0, column_words: 0, nodes: 3, z_columns: 0 });
+    assert_eq!(built, Ok(Built { column_words: 0, nodes: 3, z_columns: 0 }));
     assert_eq!(nodes, [1, 0, 0, 0, 4, 0, 0, 0, 9, 0, 1, 0]);
-    assert_eq!(row_sum(&BARE, &[3, 4], &[], &nodes, &[5, 6, 7], &[8]), RowSum { number: 0, sum: 0 });
+    assert_eq!(row_sum(&BARE, &[3, 4], &[], &nodes, &[5, 6, 7], &[8]), Ok(0));
+}
+
+/// Each number has one refusal, and each refusal says its number and its question.
+#[test]
+fn refusals() {
+    for (number, refusal) in (1..).zip(Refusal::ALL) {
+        assert_eq!(refusal.number(), number);
+        let told: Box<dyn std::error::Error> = Box::new(refusal);
+        assert_eq!(told.to_string(), format!("question {number} was answered no: {}", refusal.question()));
+    }
+    assert_eq!(format!("{:?}", Refusal::NotInTable), "NotInTable");
 }
 
 #[test]
@@ -192,11 +202,11 @@ fn deep() {
     circuit.extend([5, 0, 0, 1 << 31, 1, 1022, 1023]);
     let calls = move || {
         let (mut columns, mut nodes) = (vec![BEFORE; 8], vec![BEFORE; 1 << 14]);
-        let built = build(&circuit, &[], &[4, 0], &[5, 6], &mut columns, &mut nodes);
-        assert_eq!((built.number, built.column_words), (0, 8));
+        let built = build(&circuit, &[], &[4, 0], &[5, 6], &mut columns, &mut nodes).unwrap();
+        assert_eq!(built.column_words, 8);
         assert_eq!(columns[..6], [0, 0, 4, 0, 0, 2]);
         let sum = row_sum(&circuit, &[4, 0], &columns, &nodes[..4 * built.nodes], &[5, 6, 7], &[8]);
-        assert_eq!(sum, RowSum { number: 0, sum: 0 });
+        assert_eq!(sum, Ok(0));
     };
     std::thread::Builder::new().stack_size(1 << 20).spawn(calls).unwrap().join().unwrap();
 }
@@ -219,13 +229,16 @@ fn stored_answers() {
             ) => {
                 let (mut columns, mut nodes) = (columns.clone(), nodes.clone());
                 let built = build(circuit, instance, witness, challenges, &mut columns, &mut nodes);
-                let words = [built.column_words, built.nodes, built.z_columns].map(|count| count as u64);
-                assert_eq!([&[built.number][..], &words].concat(), *returned, "{block}");
+                let words = built.map_or_else(
+                    |refusal| [refusal.number(), 0, 0, 0],
+                    |built| [0, built.column_words as u64, built.nodes as u64, built.z_columns as u64],
+                );
+                assert_eq!(words, returned[..], "{block}");
                 assert_eq!((&columns, &nodes), (columns_after, nodes_after), "{block}");
             }
             ("row_sum", [circuit, witness, columns, nodes, challenges, y, returned]) => {
                 let sum = row_sum(circuit, witness, columns, nodes, challenges, y);
-                assert_eq!([sum.number, sum.sum], returned[..], "{block}");
+                assert_eq!(sum.map_or_else(|refusal| [refusal.number(), 0], |sum| [0, sum]), returned[..], "{block}");
             }
             _ => panic!("a block of another shape: {block}"),
         }
