@@ -3,19 +3,19 @@ use mathlib.Core.Path.{_≡_, refl, sym, ap, ap₂, _∙_, subst}
 use mathlib.Core.Logic.{_≢_}
 use mathlib.Core.Bool.{Bool, true, false, cond}
 use mathlib.Core.List.{List, [], _∷_, _++_}
-use Prim.Native.Nat.{ℕ, zero, suc, _+_, _-_, _*_, _≤_, _<_}
+use Prim.Native.Nat.{ℕ, zero, suc, _-_, _*_, _≤_, _<_}
 use native.Mathlib.Omega.{arith}
-use lib.ListN.{length, getD, take, drop, length-append}
+use lib.ListN.{length, take, drop, length-append}
 use lib.Seq.{take-suc, take-all}
 use lib.Dec.{eqb}
 use borrow.Author.Tests.{eq-eqb, ne-eqb}
 use Rattle.field.specs.Field.{𝔾}
 use Rattle.backend.specs.Circuit.{circuitOf, rowsOf}
-use Rattle.preprocessor.specs.Compose.{composedWords, composedNodes}
+use Rattle.preprocessor.specs.Compose.{composedWords}
 use Rattle.preprocessor.proofs.Composed.{composed-length}
 use Rattle.prover.specs.Log.{Log}
 use Rattle.prover.specs.Columns.{allCovered, writtenPolys}
-use Rattle.calls.specs.Build.{Output, logOf, wordsOf, columnWords, checkBuild, made, zeroed, buildOf}
+use Rattle.calls.specs.Build.{Output, logOf, wordsOf, checkBuild, made, zeroed, buildOf}
 use Rattle.calls.specs.RowSum.{rowSumOf}
 use Rattle.calls.specs.declared.RowSum.{RowSum}
 use Rattle.calls.proofs.Building.{columns-length, refused-by, fifteen-by, built-by}

@@ -1,13 +1,13 @@
 -- Demand 3 holds of what the one call returns and leaves. Assumes nothing.
-use mathlib.Core.Path.{_≡_, refl, sym, ap, ap₂, _∙_, subst}
-use mathlib.Core.Logic.{_≢_, _↔_, _⊎_, inl, inr}
-use mathlib.Core.Bool.{Bool, true, false, cond}
+use mathlib.Core.Path.{_≡_, refl, sym, ap, _∙_, subst}
+use mathlib.Core.Logic.{_≢_}
+use mathlib.Core.Bool.{Bool, true, false}
 use mathlib.Core.List.{List, [], _∷_, _++_, map}
-use Prim.Native.Nat.{ℕ, zero, suc, _+_, _-_, _*_, _≤_, _<_}
+use Prim.Native.Nat.{ℕ, _-_, _*_, _<_}
 use native.Mathlib.Omega.{arith}
 use native.Mathlib.Decide.{ℕ-discrete}
-use lib.ListN.{length, getD, take, length-take}
-use borrow.Author.Tests.{eq-eqb, ne-eqb}
+use lib.ListN.{length, take, length-take}
+use borrow.Author.Tests.{ne-eqb}
 use Rattle.field.specs.Field.{𝔾}
 use Rattle.util.specs.Lists.{Asked, asked, askedOf, firstNo}
 use Rattle.util.proofs.First.{first-none, first-next, first-number, first-append, first-of, numbered-of}
@@ -23,7 +23,7 @@ use Rattle.calls.specs.Meaning.{Premises}
 use Rattle.calls.specs.Demand.{Succeeds, Demand3}
 use Rattle.completeness.proofs.Asked.{Lending, numbered, lending}
 use Rattle.completeness.proofs.DemandThree.{demand-three-at}
-use Rattle.build_and_sum.specs.Call.{beforeAlpha, alphaOf, Left, sized, sumOfBuilt, buildAndSumOf}
+use Rattle.build_and_sum.specs.Call.{beforeAlpha, alphaOf, Left, sized, buildAndSumOf}
 use Rattle.build_and_sum.specs.Demand.{Concluded, Demanded, DemandThreeWhole}
 use Rattle.build_and_sum.proofs.Called.{with-alpha, refused-left, summed-left}
 
@@ -142,6 +142,7 @@ module _ (ws instances witness challenges y columns nodes : List ℕ) (asked : c
         (record { answer = sized (success circuit) (record { number = 0; sum = 0 }); columns = built .columns; nodes = built .nodes })
         x
         → Concluded ws instances witness challenges y columns nodes x
+    unfolding logOf
     concluded x e =
         subst (λ (x : Left). Concluded ws instances witness challenges y columns nodes x) e
         (record {
@@ -162,6 +163,7 @@ module _ (ws instances witness challenges y columns nodes : List ℕ) (asked : c
         })
 
   demanded : Demanded ws instances witness challenges y columns nodes after
+  unfolding logOf
   demanded =
       record {
         fifteen = (λ e. d .fifteen .0 (fifteen-built e), λ n. fifteen-left (d .fifteen .1 n));
