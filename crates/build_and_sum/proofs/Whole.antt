@@ -110,6 +110,9 @@ module _ (ws instances witness challenges y columns nodes : List ℕ) (asked : c
       go (no h) =
           ap (λ (x : Left). x .answer .number) (refused-left ws instances witness challenges y columns nodes built refl h) ∙ e
 
+  unless-built : after .answer .number ≢ 15 → built .answer .number ≢ 15
+  unless-built n e = n (fifteen-left e)
+
   -- the build gave 0 and the row sum 0 and 0
   module _ (s : Succeeds ws instances witness (beforeAlpha challenges) columns nodes built) where
     abbrev circuit : Circuit
@@ -178,7 +181,7 @@ module _ (ws instances witness challenges y columns nodes : List ℕ) (asked : c
               cuts-alike = cuts-alike;
             } in
             let s : Succeeds ws instances witness (beforeAlpha challenges) columns nodes built =
-            d .otherwise premises (λ e. not-15 (fifteen-left e)) in
+            d .otherwise premises (unless-built not-15) in
             concluded s after (left-zero s (s .row-sum (alphaOf challenges) y α-small y-length y-small));
       }
 

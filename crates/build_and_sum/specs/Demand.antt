@@ -43,15 +43,15 @@ module _ (ws instances witness challenges y columns nodes : List ℕ) (left : Le
     -- "at each row that value is the one `compose` above gives": the nodes written are read as that tree
     pub nodes-read : exprOf (take (composedNodes circuit * 4) (left .nodes)) (composedNodes circuit - 1) ≡ compose circuit
     -- "every composed constraint is zero on every row"
-    pub constraints-zero : (α : 𝔾 .F) (y : ℕ → 𝔾 .F)
-        → Each (Expr.constant 0) (composedConstraints (circuit))
-        (λ e. EachRow 𝔾 log (λ b. valueAt 𝔾 (composedEnvironment 𝔾 log α y) e b ≡ 𝔾 .zero))
+    pub constraints-zero : (α : 𝔾 .F) (ys : ℕ → 𝔾 .F)
+        → Each (Expr.constant 0) (composedConstraints circuit)
+        (λ e. EachRow 𝔾 log (λ b. valueAt 𝔾 (composedEnvironment 𝔾 log α ys) e b ≡ 𝔾 .zero))
     -- "each h sums to 0, each m sums to 2^k"
-    pub h-sums : EachLookup 𝔾 log (λ l. sumRows 𝔾 (rowsOf (circuit)) (lookupHAt 𝔾 log l) ≡ 𝔾 .zero)
-    pub m-sums : EachLookup 𝔾 log (λ l. sumCounts (rowsOf (circuit)) (countAt 𝔾 log l) ≡ rowsOf (circuit))
+    pub h-sums : EachLookup 𝔾 log (λ l. sumRows 𝔾 (rowsOf circuit) (lookupHAt 𝔾 log l) ≡ 𝔾 .zero)
+    pub m-sums : EachLookup 𝔾 log (λ l. sumCounts (rowsOf circuit) (countAt 𝔾 log l) ≡ rowsOf circuit)
     -- "and for every alpha and every y the composed expression sums to 0"
-    pub composed-sum : (α : 𝔾 .F) (y : ℕ → 𝔾 .F)
-        → sumRows 𝔾 (rowsOf (circuit)) (valueAt 𝔾 (composedEnvironment 𝔾 log α y) (compose (circuit))) ≡ 𝔾 .zero
+    pub composed-sum : (α : 𝔾 .F) (ys : ℕ → 𝔾 .F)
+        → sumRows 𝔾 (rowsOf circuit) (valueAt 𝔾 (composedEnvironment 𝔾 log α ys) (compose circuit)) ≡ 𝔾 .zero
 
   pub record Demanded : Type 0 where
     -- "Then 15 is given exactly when, for some lookup, no column of whole counts turns the compressed table into the compressed inputs."
@@ -59,14 +59,14 @@ module _ (ws instances witness challenges y columns nodes : List ℕ) (left : Le
     pub otherwise :
         -- "Let further every user constraint be zero on every row,"
         Each (Expr.constant 0) (circuit .constraints) (λ e. EachRow 𝔾 log (λ b. valueAt 𝔾 (userEnvironment 𝔾 log) e b ≡ 𝔾 .zero))
-        -- "the cells of each cycle equal,"
-        → Each [] (circuit .cycles) (λ cycle. Each noCell cycle (λ x. Each noCell cycle (λ y. cellValue 𝔾 log x ≡ cellValue 𝔾 log y)))
+        -- "the cells of each cycle equal,": "a cycle's cells are equal if all hold one value"
+        → Each [] (circuit .cycles) (λ cycle. Each noCell cycle (λ s. Each noCell cycle (λ t. cellValue 𝔾 log s ≡ cellValue 𝔾 log t)))
         -- "no denominator zero,": "γ + input and γ + table on all rows, and the inverted factors on every row but 0"
         → EachLookup 𝔾 log (λ l. EachRow 𝔾 log (λ b. 𝔾 .add (log .γ) (inputAt 𝔾 log l b) ≢ 𝔾 .zero))
         → EachLookup 𝔾 log (λ l. EachRow 𝔾 log (λ b. 𝔾 .add (log .γ) (tableAt 𝔾 log l b) ≢ 𝔾 .zero))
-        → ((i : ℕ) → i < numCopied (circuit) → EachRow 𝔾 log (λ b. 0 < b → permutationFactorAt 𝔾 log i b ≢ 𝔾 .zero))
+        → ((i : ℕ) → i < numCopied circuit → EachRow 𝔾 log (λ b. 0 < b → permutationFactorAt 𝔾 log i b ≢ 𝔾 .zero))
         -- "and both cuts of the copied columns alike."
-        → CutsAlike (circuit)
+        → CutsAlike circuit
         -- "Then, unless 15 is given, …"
         → left .answer .number ≢ 15
         -- "for every alpha and every y": "any α and any k values y of the field"
