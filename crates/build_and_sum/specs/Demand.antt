@@ -1,7 +1,7 @@
 -- Demand 3, of what the one call returned and left. Assumes nothing.
 use mathlib.Core.Path.{_≡_}
 use mathlib.Core.Logic.{_≢_, _↔_}
-use mathlib.Core.List.{List, []}
+use mathlib.Core.List.{List}
 use Prim.Native.Nat.{ℕ, _-_, _*_, _<_}
 use lib.ListN.{length, take, drop}
 use Rattle.field.specs.Prime.{P}
@@ -9,13 +9,23 @@ use Rattle.field.specs.Field.{𝔾}
 use Rattle.expression.specs.Expr.{Expr}
 use Rattle.expression.specs.Nodes.{exprOf}
 use Rattle.expression.specs.Value.{valueAt}
-use Rattle.backend.specs.Circuit.{Circuit, circuitOf, rowsOf, numCopied}
+use Rattle.backend.specs.Circuit.{Circuit, circuitOf, rowsOf}
 use Rattle.preprocessor.specs.Compose.{CutsAlike, numZ, compose, composedConstraints, composedWords, composedNodes}
 use Rattle.prover.specs.Lookup.{sumRows, sumCounts}
 use Rattle.prover.specs.Log.{Log}
-use Rattle.prover.specs.Columns.{userEnvironment, inputAt, tableAt, countAt, lookupHAt, permutationFactorAt, composedEnvironment, writtenPolys}
+use Rattle.prover.specs.Columns.{countAt, lookupHAt, composedEnvironment, writtenPolys}
 use Rattle.calls.specs.Build.{logOf, wordsOf, columnWords, checkBuild}
-use Rattle.calls.specs.Meaning.{noCell, Each, EachRow, EachLookup, cellValue, NoCounts}
+use Rattle.calls.specs.Meaning.{
+  Each,
+  EachRow,
+  EachLookup,
+  NoCounts,
+  ZeroConstraints,
+  EqualCells,
+  NoZeroInput,
+  NoZeroTable,
+  NoZeroFactor,
+}
 use Rattle.build_and_sum.specs.Call.{beforeAlpha, alphaOf, Left}
 
 -- a call that was lent these words and buffers, and what it returned and left
@@ -58,13 +68,13 @@ module _ (ws instances witness challenges y columns nodes : List ℕ) (left : Le
     pub fifteen : (left .answer .number ≡ 15) ↔ NoCounts 𝔾 log
     pub otherwise :
         -- "Let further every user constraint be zero on every row,"
-        Each (Expr.constant 0) (circuit .constraints) (λ e. EachRow 𝔾 log (λ b. valueAt 𝔾 (userEnvironment 𝔾 log) e b ≡ 𝔾 .zero))
+        ZeroConstraints 𝔾 log
         -- "the cells of each cycle equal,": "a cycle's cells are equal if all hold one value"
-        → Each [] (circuit .cycles) (λ cycle. Each noCell cycle (λ s. Each noCell cycle (λ t. cellValue 𝔾 log s ≡ cellValue 𝔾 log t)))
+        → EqualCells 𝔾 log
         -- "no denominator zero,": "γ + input and γ + table on all rows, and the inverted factors on every row but 0"
-        → EachLookup 𝔾 log (λ l. EachRow 𝔾 log (λ b. 𝔾 .add (log .γ) (inputAt 𝔾 log l b) ≢ 𝔾 .zero))
-        → EachLookup 𝔾 log (λ l. EachRow 𝔾 log (λ b. 𝔾 .add (log .γ) (tableAt 𝔾 log l b) ≢ 𝔾 .zero))
-        → ((i : ℕ) → i < numCopied circuit → EachRow 𝔾 log (λ b. 0 < b → permutationFactorAt 𝔾 log i b ≢ 𝔾 .zero))
+        → NoZeroInput 𝔾 log
+        → NoZeroTable 𝔾 log
+        → NoZeroFactor 𝔾 log
         -- "and both cuts of the copied columns alike."
         → CutsAlike circuit
         -- "Then, unless 15 is given, …"
