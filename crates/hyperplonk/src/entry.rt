@@ -1,9 +1,9 @@
 // The calls by the names that include/hyperplonk.h declares. A slice crosses as a pointer and a length.
+use crate::build;
+use crate::row_sum;
 use alone::eq_xy;
 use alone::lookup_h_poly;
 use alone::lookup_m_poly;
-use building::build;
-use row_sum::row_sum;
 ghost use mathlib.Core.Path.{_≡_};
 ghost use mathlib.Core.List.{[], _∷_};
 ghost use Rattle.calls.specs.Stages.{mOf, hOf, eqOf};

@@ -18,12 +18,13 @@ pub fn m_column(rows: usize, input: &[u64], table: &[u64], m: &mut [u64]) -> boo
     let mut i: usize = 0;
     while i < rows {
         let v = input[i];
-        let mut j = rows;
+        let mut seen = 0;
         let found = 'search: loop {
-            if j == 0 {
+            if seen == rows {
                 break 'search Found::Nothing;
             }
-            j -= 1;
+            seen += 1;
+            let j = rows - seen;
             if table[j] == v {
                 break 'search Found::At(j);
             }
@@ -51,14 +52,15 @@ pub fn lookup_m_poly(columns: &mut [u64], input: usize, table: usize, m: usize, 
     let mut i: usize = 0;
     while i < rows {
         let v = columns[input + i];
-        let mut j = rows;
+        let mut seen = 0;
         let found = 'search: loop {
-            if j == 0 {
+            if seen == rows {
                 break 'search Found::Nothing;
             }
-            j -= 1;
-            if columns[table + j] == v {
-                break 'search Found::At(j);
+            seen += 1;
+            let row = rows - seen;
+            if columns[table + row] == v {
+                break 'search Found::At(row);
             }
         };
         match found {

@@ -10,7 +10,7 @@ use native.Mathlib.Omega.{arith}
 use lib.ListN.{length, getD, replicate, length-set}
 use Rattle.util.specs.Lists.{over}
 use Rattle.prover.specs.Words.{elementsFrom}
-use Rattle.prover.proofs.Search.{rowOf, lastRow, row-below, row-same, search-none, search-hit, search-miss}
+use Rattle.prover.proofs.Search.{rowOf, lastRow, row-below, row-same}
 use Rattle.prover.proofs.Counts.{
   Counted,
   counted-start,
@@ -23,6 +23,7 @@ use Rattle.prover.proofs.Counts.{
   answer-true,
   answer-false,
 }
+use Rattle.lookup_m.proofs.Down.{none-seen, all-seen, next-hit, next-miss}
 use Rattle.lookup_m.proofs.lookup_m_poly.Statement.{statement}
 use Rattle.lookup_m.proofs.lookup_m_poly.Tie as tie
 use Rattle.lookup_m.proofs.lookup_m_poly.Reads as reads
@@ -30,11 +31,11 @@ use Rattle.lookup_m.proofs.lookup_m_poly.Lts as lts
 use Rattle.blank_column.proofs.clear.Reads as clear-reads
 
 abbrev Inv-search : tie.InvT-search
-Inv-search columns input table m rows i v j₀ j =
-    (j ≤ rows) × (lastRow (λ r. getD columns (table + r) 0) v rows ≡ lastRow (λ r. getD columns (table + r) 0) v j)
+Inv-search columns input table m rows i v seen₀ seen =
+    (seen ≤ rows) × (lastRow (λ r. getD columns (table + r) 0) v rows ≡ lastRow (λ r. getD columns (table + r) 0) v (rows - seen))
 
 abbrev μ-search : tie.MeasureT-search
-μ-search columns input table m rows i v j₀ j = j
+μ-search columns input table m rows i v seen₀ seen = rows - seen
 
 abbrev Inv-loop : tie.InvT-loop
 Inv-loop columns₀ input table m rows i₀ columns i =
@@ -76,8 +77,8 @@ found-is : (c : tie.Joined1 Inv-search μ-search Inv-loop μ-loop) → row (c .b
 found-is c =
     let l = c .before .search in
     ⊎-elim
-    (λ w. l .inv .1 ∙ search-none _ _ (l .j) (w .0 .taken) ∙ sym (ap rowOf (w .2)))
-    (λ w. l .inv .1 ∙ search-hit _ _ (l .j) (w .0 .left) (w .2 .taken) ∙ sym (ap rowOf (w .4)))
+    (λ w. l .inv .1 ∙ all-seen _ _ _ (l .seen) (w .0 .taken) ∙ sym (ap rowOf (w .2)))
+    (λ w. l .inv .1 ∙ next-hit _ _ _ (l .seen) (l .inv .0) (w .0 .left) (w .2 .taken) ∙ sym (ap rowOf (w .4)))
     (c .if1 .came)
 
 at-is : (c : tie.After-found Inv-search μ-search Inv-loop μ-loop)
@@ -110,11 +111,14 @@ slice-read-v c = search needs
 
 -- src/lib.rt:72:13
 search-holds : tie.Need-search-holds Inv-search μ-search Inv-loop μ-loop
-search-holds c = search needs
+search-holds c = (omega arith, none-seen _ _ _)
 
 -- src/lib.rt:76:13
-sub-j : tie.Need-sub-j Inv-search μ-search Inv-loop μ-loop
-sub-j c = search needs
+add-seen : tie.Need-add-seen Inv-search μ-search Inv-loop μ-loop
+add-seen c = search needs
+
+sub-row : tie.Need-sub-row Inv-search μ-search Inv-loop μ-loop
+sub-row c = search needs
 
 -- src/lib.rt:77:24
 add-if2 : tie.Need-add-if2 Inv-search μ-search Inv-loop μ-loop
@@ -138,11 +142,12 @@ search-again c =
     let s = c .before .before .before .before .before .before .before .before .before .before .before .before in
     let l = c .before .before .before .before .before .before in
     let t = c .before .before .before .search in
-    let lt : t .j - 1 < s .args .rows = omega (arith, c .before .before .if1 .left, t .inv .0) in (
+    let at = s .args .rows - (t .seen + 1) in
+    let lt : at < s .args .rows = omega (arith, c .before .before .if1 .left, t .inv .0) in (
       omega arith,
       t .inv .1
-          ∙ search-miss _ _ (t .j) (c .before .before .if1 .left)
-          (rw (counted-before _ _ _ _ (s .pre .2) _ _ (counted l) (s .args .table + (t .j - 1)) (omega (arith, s .pre .1))) (s .pre .4 (t .j - 1) lt))
+          ∙ next-miss _ _ _ (t .seen) (t .inv .0) (c .before .before .if1 .left)
+          (rw (counted-before _ _ _ _ (s .pre .2) _ _ (counted l) (s .args .table + at) (omega (arith, s .pre .1, lt))) (s .pre .4 at lt))
           (rw (counted-before _ _ _ _ (s .pre .2) _ _ (counted l) (s .args .input + l .loop .i) (omega (arith, s .pre .0, c .before .before .before .before .before .loop-test .taken)))
           (s .pre .3 (l .loop .i) (c .before .before .before .before .before .loop-test .taken)))
           (c .if2 .left),
@@ -241,7 +246,8 @@ lookup-m-poly-spec =
     mul-v
     slice-read-v
     search-holds
-    sub-j
+    add-seen
+    sub-row
     add-if2
     mul-if2
     slice-read-if2

@@ -11,7 +11,7 @@ use native.Mathlib.Omega.{arith}
 use lib.ListN.{length, getD, replicate, length-set}
 use Rattle.util.specs.Lists.{over}
 use Rattle.prover.specs.Words.{elements}
-use Rattle.prover.proofs.Search.{rowOf, lastRow, row-below, search-none, search-hit, search-miss}
+use Rattle.prover.proofs.Search.{rowOf, lastRow, row-below}
 use Rattle.prover.proofs.Counts.{
   Counted,
   counted-start,
@@ -22,6 +22,7 @@ use Rattle.prover.proofs.Counts.{
   answer-true,
   answer-false,
 }
+use Rattle.lookup_m.proofs.Down.{none-seen, all-seen, next-hit, next-miss}
 use Rattle.lookup_m.proofs.m_column.Statement.{statement}
 use Rattle.lookup_m.proofs.m_column.Tie as tie
 use Rattle.lookup_m.proofs.m_column.Reads as reads
@@ -29,11 +30,11 @@ use Rattle.lookup_m.proofs.m_column.Lts as lts
 use Rattle.blank_column.proofs.clear.Reads as clear-reads
 
 abbrev Inv-search : tie.InvT-search
-Inv-search rows input table m i v j₀ j =
-    (j ≤ rows) × (lastRow (λ r. getD table r 0) v rows ≡ lastRow (λ r. getD table r 0) v j)
+Inv-search rows input table m i v seen₀ seen =
+    (seen ≤ rows) × (lastRow (λ r. getD table r 0) v rows ≡ lastRow (λ r. getD table r 0) v (rows - seen))
 
 abbrev μ-search : tie.MeasureT-search
-μ-search rows input table m i v j₀ j = j
+μ-search rows input table m i v seen₀ seen = rows - seen
 
 abbrev Inv-loop : tie.InvT-loop
 Inv-loop rows input table m₀ i₀ m i =
@@ -63,8 +64,8 @@ found-is : (c : tie.Joined1 Inv-search μ-search Inv-loop μ-loop) → row (c .b
 found-is c =
     let s = c .before .search in
     ⊎-elim
-    (λ w. s .inv .1 ∙ search-none _ _ (s .j) (w .0 .taken) ∙ sym (ap rowOf (w .2)))
-    (λ w. s .inv .1 ∙ search-hit _ _ (s .j) (w .0 .left) (w .2 .taken) ∙ sym (ap rowOf (w .4)))
+    (λ w. s .inv .1 ∙ all-seen _ _ _ (s .seen) (w .0 .taken) ∙ sym (ap rowOf (w .2)))
+    (λ w. s .inv .1 ∙ next-hit _ _ _ (s .seen) (s .inv .0) (w .0 .left) (w .2 .taken) ∙ sym (ap rowOf (w .4)))
     (c .if1 .came)
 
 at-is : (c : tie.After-found Inv-search μ-search Inv-loop μ-loop)
@@ -93,9 +94,12 @@ shared-slice-read-v c = search needs
 
 -- src/lib.rt:39:13
 search-holds : tie.Need-search-holds Inv-search μ-search Inv-loop μ-loop
-search-holds c = search needs
+search-holds c = (omega arith, none-seen _ _ _)
 
 -- src/lib.rt:43:13
+add-seen : tie.Need-add-seen Inv-search μ-search Inv-loop μ-loop
+add-seen c = search needs
+
 sub-j : tie.Need-sub-j Inv-search μ-search Inv-loop μ-loop
 sub-j c = search needs
 
@@ -118,7 +122,7 @@ search-again c =
     let s = c .before .before .before .before .before .before .before .before .before .before .before .before .before .before in (
       omega arith,
       l .inv .1
-          ∙ search-miss _ _ (l .j) (c .before .before .if1 .left) (s .pre .4 (l .j - 1) (omega (arith, c .before .before .if1 .left)))
+          ∙ next-miss _ _ _ (l .seen) (l .inv .0) (c .before .before .if1 .left) (s .pre .4 (s .args .rows - (l .seen + 1)) (omega (arith, l .inv .0, c .before .before .if1 .left)))
           (s .pre .3 (c .before .before .before .before .before .before .loop .i) (c .before .before .before .before .before .loop-test .taken)) (c .if2 .left),
     )
 
@@ -211,6 +215,7 @@ m-column-spec =
     mul-v
     shared-slice-read-v
     search-holds
+    add-seen
     sub-j
     mul-if2
     shared-slice-read-if2
