@@ -1,9 +1,9 @@
 // build and check, over files. Each function reads one file and hands its words on.
 use crate::files::open_out;
-use crate::files::read;
 use crate::shape::Shape;
 use crate::shape::shape_of;
 use crate::write_out::write_out;
+use messages::files::read;
 use messages::question;
 use messages::refusal::refusal;
 use messages::say;

@@ -44,3 +44,16 @@ pub fn error_count(name: &[u8], n: u64) {
     error(name);
     error_number(n);
 }
+
+// Two names, each with a number, and the line's end.
+pub fn error_two(first: &[u8], n: u64, second: &[u8], m: u64) {
+    error_count(first, n);
+    error_count(second, m);
+    error(b"\n");
+}
+
+// A number and the least and the largest that it may be.
+pub fn error_range(name: &[u8], n: u64, least: u64, largest: u64) {
+    error_count(name, n);
+    error_two(b", from ", least, b" to ", largest);
+}
