@@ -3,13 +3,13 @@ use crate::files::open_out;
 use crate::shape::Shape;
 use crate::shape::shape_of;
 use crate::write_out::write_out;
-use messages::files::read;
 use messages::question;
 use messages::refusal::refusal;
 use messages::say;
 use messages::values::Needed;
 use messages::values::build_values;
 use messages::values::sum_values;
+use texts::files::read;
 ghost use Prim.Native.Nat.{_≤_};
 ghost use lib.ListN.{length};
 

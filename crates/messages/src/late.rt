@@ -1,5 +1,4 @@
 // What is said of questions 5, 6 and 8 to 11.
-use crate::say;
 use contents::word;
 use faults::bounds::Bounds;
 use faults::bounds::MODULUS;
@@ -11,6 +10,7 @@ use faults::degrees::ABOVE;
 use faults::degrees::degree_of;
 use faults::degrees::lookup_degree;
 use faults::degrees::lookup_start;
+use texts::say;
 
 // One less than a count.
 fn last(count: u64) -> u64 {

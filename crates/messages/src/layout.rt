@@ -1,5 +1,4 @@
 // What is said of question 7: a node's word that is not as its kind asks, a root that is none, a node not named exactly once.
-use crate::say;
 use contents::word;
 use faults::bounds::Bounds;
 use faults::bounds::after;
@@ -16,6 +15,7 @@ use faults::nodes::is_kind;
 use faults::nodes::largest;
 use faults::nodes::second_why;
 use faults::nodes::value_why;
+use texts::say;
 
 // A root, by its place.
 fn root(b: Bounds, place: usize) {
@@ -36,13 +36,17 @@ fn root(b: Bounds, place: usize) {
 fn root_why(circuit: &[u64], b: Bounds, place: usize) {
     let n = word(circuit, place);
     root(b, place);
-    say::error_count(b" is ", n);
     if n < b.nodes {
+        say::error_count(b" is ", n);
         say::error(b", an Item\n");
         return;
     }
-    say::error_count(b", the number of nodes is ", b.nodes);
-    say::error(b"\n");
+    if b.nodes == 0 {
+        say::error_count(b" is ", n);
+        say::error(b", there is no node\n");
+        return;
+    }
+    say::error_range(b" is ", n, 0, std::num::wrapping_sub_u64(b.nodes, 1));
 }
 
 // By what a node is named, at the place of a word.
@@ -84,13 +88,16 @@ fn names_why(circuit: &[u64], b: Bounds, n: u64) {
 }
 
 // A word that the kind does not use.
-fn unused_why(kind: u64) {
-    if kind == 12 {
-        say::error(b"an Item of value 0 is the last, its second must be 0\n");
-        return;
-    }
+fn unused_why(kind: u64, part: usize) {
     say::error_count(b"kind ", kind);
-    say::error(b" does not use this word, it must be 0\n");
+    if kind == 12 {
+        say::error(b" of value 0, the last Item,");
+    }
+    match part {
+        1 => say::error(b" does not use its first: expected 0\n"),
+        2 => say::error(b" does not use its second: expected 0\n"),
+        _ => say::error(b" does not use its value: expected 0\n"),
+    }
 }
 
 // A name that is not right.
@@ -106,9 +113,9 @@ fn name_why(n: u64, named: u64, what: u64) {
 }
 
 // What is wrong with a word of node n but its kind.
-fn word_why(n: u64, kind: u64, held: u64, what: u64) {
+fn word_why(n: u64, part: usize, kind: u64, held: u64, what: u64) {
     if what == UNUSED {
-        unused_why(kind);
+        unused_why(kind, part);
         return;
     }
     if what == LARGE {
@@ -136,9 +143,21 @@ fn node_why(circuit: &[u64], b: Bounds, place: usize) {
     let held = word(circuit, place);
     match part {
         0 => kind_why(circuit, b, n, kind),
-        1 => word_why(n, kind, held, first_why(circuit, b.nodes_start, at, n)),
-        2 => word_why(n, kind, held, second_why(circuit, b.nodes_start, at, n)),
-        _ => word_why(n, kind, held, value_why(circuit, at)),
+        1 => word_why(
+            n,
+            part,
+            kind,
+            held,
+            first_why(circuit, b.nodes_start, at, n),
+        ),
+        2 => word_why(
+            n,
+            part,
+            kind,
+            held,
+            second_why(circuit, b.nodes_start, at, n),
+        ),
+        _ => word_why(n, part, kind, held, value_why(circuit, at)),
     }
 }
 

@@ -1,15 +1,15 @@
 // Which question was answered no, where the first offending word stands, and what is wrong with it.
-use crate::files;
 use crate::late;
 use crate::layout;
 use crate::question;
-use crate::say;
 use crate::sections::section_name;
 use crate::sections::section_of;
 use crate::starts;
 use contents::word;
 use faults::bounds::NONE;
 use faults::fault::place_of;
+use texts::files;
+use texts::say;
 
 // The argument that names the circuit's file.
 const CIRCUIT: usize = 2;

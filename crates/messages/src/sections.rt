@@ -1,10 +1,10 @@
 // What circuit words have, section by section.
-use crate::say;
 use contents::word;
 use faults::bounds::Bounds;
 use faults::bounds::after;
 use faults::bounds::bounds_of;
 use faults::bounds::sum_of;
+use texts::say;
 
 // The section that a word past the contents stands in, by the starts; 9 for the contents.
 pub fn section_of(circuit: &[u64], at: u64) -> u64 {

@@ -1,5 +1,4 @@
 // What is said of questions 2 to 4: k, counts and sums with their limits, starts and lengths.
-use crate::say;
 use crate::sections::section_name;
 use crate::sections::section_of;
 use contents::word;
@@ -9,6 +8,7 @@ use faults::bounds::sum_of;
 use faults::fault::begins;
 use faults::fault::limit_of;
 use faults::fault::widths_sum;
+use texts::say;
 
 // Question 2.
 pub fn size_why(circuit: &[u64]) {

@@ -1,11 +1,11 @@
 // What questions 12, 13 and 16 found: lengths that are not the exact ones, values that are not below p.
-use crate::files;
-use crate::say;
 use contents::word;
 use faults::bounds::MODULUS;
 use faults::bounds::NONE;
 use faults::bounds::bounds_of;
 use faults::bounds::sum_of;
+use texts::files;
+use texts::say;
 
 // The arguments of build and of check that name the files.
 const BUILD_INSTANCE: usize = 3;

@@ -1,8 +1,8 @@
 -- `show_bytes` is safe and ends. The measure is the places left. Assumes nothing.
 use Prim.Native.Nat.{_-_}
 use borrow.Author.Needs.{needs}
-use Rattle.messages.proofs.token.show_bytes.Statement.{statement}
-use Rattle.messages.proofs.token.show_bytes.Tie as tie
+use Rattle.texts.proofs.token.show_bytes.Statement.{statement}
+use Rattle.texts.proofs.token.show_bytes.Tie as tie
 
 abbrev Inv-loop : tie.InvT-loop
 Inv-loop kept count i₀ i = Unit {0}

@@ -2,8 +2,8 @@
 use borrow.Author.Needs.{needs}
 use lib.ListN.{length}
 use mathlib.Core.Path.{_≡_}
-use Rattle.messages.proofs.files.read_all.Statement.{statement}
-use Rattle.messages.proofs.files.read_all.Tie as tie
+use Rattle.texts.proofs.files.read_all.Statement.{statement}
+use Rattle.texts.proofs.files.read_all.Tie as tie
 
 abbrev Inv-loop : tie.InvT-loop
 Inv-loop fd words₀ scan₀ turns₀ words scan turns = length words ≡ length words₀

@@ -1,7 +1,7 @@
 -- `returns_alone` is safe and ends. The measure is the turns left. Assumes nothing.
 use borrow.Author.Needs.{needs}
-use Rattle.messages.proofs.files.returns_alone.Statement.{statement}
-use Rattle.messages.proofs.files.returns_alone.Tie as tie
+use Rattle.texts.proofs.files.returns_alone.Statement.{statement}
+use Rattle.texts.proofs.files.returns_alone.Tie as tie
 
 abbrev Inv-loop : tie.InvT-loop
 Inv-loop fd seen₀ turns₀ seen turns = Unit {0}

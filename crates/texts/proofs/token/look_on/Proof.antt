@@ -3,8 +3,8 @@ use Prim.Native.Nat.{_-_}
 use borrow.Author.Needs.{needs}
 use lib.ListN.{length}
 use mathlib.Core.Path.{_≡_}
-use Rattle.messages.proofs.token.look_on.Statement.{statement}
-use Rattle.messages.proofs.token.look_on.Tie as tie
+use Rattle.texts.proofs.token.look_on.Statement.{statement}
+use Rattle.texts.proofs.token.look_on.Tie as tie
 
 abbrev Inv-loop : tie.InvT-loop
 Inv-loop bytes kept₀ words₀ come₀ i₀ kept words come i = (length kept ≡ length kept₀) × (length words ≡ length words₀)

@@ -2,8 +2,8 @@
 use Prim.Native.Nat.{_-_}
 use borrow.Author.Needs.{needs}
 use lib.ListN.{length}
-use Rattle.messages.proofs.files.see.Statement.{statement}
-use Rattle.messages.proofs.files.see.Tie as tie
+use Rattle.texts.proofs.files.see.Statement.{statement}
+use Rattle.texts.proofs.files.see.Tie as tie
 
 abbrev Inv-loop : tie.InvT-loop
 Inv-loop bytes returns₀ feeds₀ hashes₀ i₀ returns feeds hashes i = Unit {0}

@@ -2,8 +2,8 @@
 use borrow.Author.Needs.{needs}
 use lib.ListN.{length}
 use mathlib.Core.Path.{_≡_}
-use Rattle.messages.proofs.files.look_all.Statement.{statement}
-use Rattle.messages.proofs.files.look_all.Tie as tie
+use Rattle.texts.proofs.files.look_all.Statement.{statement}
+use Rattle.texts.proofs.files.look_all.Tie as tie
 
 abbrev Inv-loop : tie.InvT-loop
 Inv-loop fd kept₀ words₀ look₀ turns₀ kept words look turns = (length kept ≡ length kept₀) × (length words ≡ length words₀)
