@@ -1,23 +1,35 @@
 // Which question was answered no, where the first offending word stands, and what is wrong with it.
-use crate::late;
-use crate::layout;
 use crate::question;
-use crate::sections::section_name;
-use crate::sections::section_of;
-use crate::starts;
 use contents::word;
 use faults::bounds::NONE;
 use faults::fault::place_of;
+use reasons::late;
+use reasons::layout;
+use reasons::section::section_name;
+use reasons::section::section_of;
+use reasons::starts;
 use texts::files;
 use texts::say;
 
 // The argument that names the circuit's file.
 const CIRCUIT: usize = 2;
 
+// Which of a node's words it is.
+fn node_word(part: u64) {
+    match part {
+        0 => say::error(b" (its kind)"),
+        1 => say::error(b" (its first)"),
+        2 => say::error(b" (its second)"),
+        _ => say::error(b" (its value)"),
+    }
+}
+
 fn node_of(circuit: &[u64], at: u64) {
     let start = word(circuit, 8);
     if (start <= at) & (at < word(circuit, 10)) {
-        say::error_count(b", node ", std::num::wrapping_sub_u64(at, start) / 4);
+        let part = std::num::wrapping_sub_u64(at, start);
+        say::error_count(b", node ", part / 4);
+        node_word(part % 4);
     }
 }
 

@@ -1,8 +1,8 @@
 -- `section_of` is safe and ends. The measure is the sections left. Assumes nothing.
 use Prim.Native.Nat.{_-_}
 use borrow.Author.Needs.{needs}
-use Rattle.messages.proofs.sections.section_of.Statement.{statement}
-use Rattle.messages.proofs.sections.section_of.Tie as tie
+use Rattle.reasons.proofs.section.section_of.Statement.{statement}
+use Rattle.reasons.proofs.section.section_of.Tie as tie
 
 abbrev Inv-loop : tie.InvT-loop
 Inv-loop circuit at next₀ s₀ next s = Unit {0}

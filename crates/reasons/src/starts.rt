@@ -1,6 +1,6 @@
 // What is said of questions 2 to 4: k, counts and sums with their limits, starts and lengths.
-use crate::sections::section_name;
-use crate::sections::section_of;
+use crate::section::section_name;
+use crate::section::section_of;
 use contents::word;
 use faults::bounds::Bounds;
 use faults::bounds::bounds_of;

@@ -1,8 +1,8 @@
 -- `lookup_at` is safe and ends. The measure is the lookups left. Assumes nothing.
 use Prim.Native.Nat.{_-_}
 use borrow.Author.Needs.{needs}
-use Rattle.messages.proofs.late.lookup_at.Statement.{statement}
-use Rattle.messages.proofs.late.lookup_at.Tie as tie
+use Rattle.reasons.proofs.late.lookup_at.Statement.{statement}
+use Rattle.reasons.proofs.late.lookup_at.Tie as tie
 
 abbrev Inv-loop : tie.InvT-loop
 Inv-loop circuit b place i₀ i = Unit {0}
