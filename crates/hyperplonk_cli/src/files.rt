@@ -1,4 +1,4 @@
-// Files of words, written; messages reads them.
+// Files of words, written; the crate texts reads them.
 // Opens the file that an argument names, to be written from its start; says why it can't be.
 pub fn open_out(argument: usize) -> i32 {
     let mut path = io::buffer();
