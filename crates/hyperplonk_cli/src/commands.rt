@@ -1,6 +1,5 @@
 // build and check, over files. Each function reads one file and hands its words on.
 use crate::files::open_out;
-use crate::files::read;
 use crate::shape::Shape;
 use crate::shape::shape_of;
 use crate::write_out::write_out;
@@ -10,6 +9,7 @@ use messages::say;
 use messages::values::Needed;
 use messages::values::build_values;
 use messages::values::sum_values;
+use texts::files::read;
 ghost use Prim.Native.Nat.{_≤_};
 ghost use lib.ListN.{length};
 

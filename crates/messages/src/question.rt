@@ -1,5 +1,5 @@
 // The questions in document 01's words.
-use crate::say;
+use texts::say;
 
 // Which question was answered no.
 pub fn answered_no(number: u64) {

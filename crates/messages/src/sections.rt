@@ -1,9 +1,9 @@
 // What circuit words have, section by section.
-use crate::bounds::Bounds;
-use crate::bounds::bounds_of;
-use crate::bounds::sum_of;
-use crate::say;
 use contents::word;
+use faults::bounds::Bounds;
+use faults::bounds::bounds_of;
+use faults::bounds::sum_of;
+use texts::say;
 
 fn size(b: Bounds, stated: u64) {
     say::out(b"k is ");

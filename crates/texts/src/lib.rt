@@ -1,0 +1,4 @@
+// Texts and numbers written, and files of words read and told of by name, line and token. Proved safe and ending.
+pub mod files;
+pub mod say;
+mod token;
