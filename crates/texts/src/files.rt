@@ -1,4 +1,5 @@
 // Files of words, read, and told of by name, line and token.
+use crate::lines;
 use crate::say;
 use crate::token;
 use crate::token::Look;
@@ -190,24 +191,15 @@ fn open_again(argument: usize) -> i32 {
     fd
 }
 
-// As many words as the longest file can have.
-fn room() -> [u64; 233596] {
-    [0; 233596]
-}
-
-// The line of a word of the file, 0 where it can't be told: the line at which a reading with room for the words before it stops.
+// The line of a word of the file, 0 where it can't be told.
 pub fn line_of(argument: usize, place: usize) -> u64 {
-    let mut words = room();
-    if place > 233596 {
-        return 0;
-    }
     let fd = open_again(argument);
     if fd < 0 {
         return 0;
     }
-    let scan = read_all(fd, &mut words[0..place]);
+    let line = lines::line_at(fd, place);
     libc::close(fd);
-    if scan.wrong == TOO_MANY { scan.line } else { 0 }
+    line
 }
 
 // Which of these bytes a text has: a carriage return, a line feed, a #.

@@ -18,7 +18,7 @@ pub struct Look {
 }
 
 // Is the byte one that ends a token: white space, or a comment's begin?
-fn ends(byte: u8) -> bool {
+pub fn ends(byte: u8) -> bool {
     (byte == b'#') | (byte == b' ') | ((9 <= byte) & (byte <= 13))
 }
 
