@@ -93,23 +93,40 @@ fn check_whole(circuit: &[u64], s: Shape) {
     commands::check(circuit, s, &mut witness, &mut built);
 }
 
-// An accepted circuit's.
-fn accepted(command: u64, circuit: &[u64], s: Shape) {
-    say::out(b"reading the log\n");
-    let half = s.column_words <= HALF;
+// Runs a command in the smallest rooms that do, of the first so many sizes, the smaller before the larger; answers whether one did.
+// That it calls itself keeps the compiler from putting the rooms of all sizes into one frame.
+fn in_rooms(command: u64, circuit: &[u64], s: Shape, sizes: u64) -> bool {
+    if sizes == 0 {
+        return false;
+    }
+    if in_rooms(command, circuit, s, sizes - 1) {
+        return true;
+    }
+    if (sizes == 1) & (s.column_words > HALF) {
+        return false;
+    }
     if command == BUILD {
-        if half {
+        if sizes == 1 {
             build_half(circuit, s);
         } else {
             build_whole(circuit, s);
         }
-        return;
+        return true;
     }
-    if half {
+    if sizes == 1 {
         check_half(circuit, s);
     } else {
         check_whole(circuit, s);
     }
+    true
+}
+
+// How many sizes there are to try.
+fn sizes(words: usize) -> u64 {
+    if words <= HALF {
+        return 1;
+    }
+    2
 }
 
 // Asks the questions.
@@ -120,11 +137,12 @@ fn asked(command: u64, circuit: &[u64]) {
     }
     say::out(b"asking\n");
     let s = shape_of(circuit);
-    if s.no == 0 {
-        accepted(command, circuit, s);
+    if s.no != 0 {
+        refusal(circuit, s.no);
         return;
     }
-    refusal(circuit, s.no);
+    say::out(b"reading the log\n");
+    in_rooms(command, circuit, s, sizes(s.column_words));
 }
 
 // Reads the circuit, which argument 2 names.
