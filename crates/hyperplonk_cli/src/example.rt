@@ -1,7 +1,12 @@
 // A small log of its own, k = 3: readings looked up in an approved table that lists a row twice, and two settings copied from
 // the wearer's sheet to the knee.
+use crate::cuts::cuts_of;
+use crate::readings::tell;
+use crate::shape::shape_of;
+use crate::verdict::verdict;
 use contents::word;
 use messages::say;
+use unlisted::find;
 
 // Polynomials: 0 the approved table, 1 the readings, 2 the sheet's settings, 3 the knee's. The lookup is polynomial 1 in 0; the
 // cycles are (2, row 1), (3, row 3) and (2, row 2), (3, row 5).
@@ -88,13 +93,16 @@ fn sum_up<'a>(
     say::out(b"row sum of the composed expression: number ");
     say::number(sum.number);
     say::line(b", sum ", sum.sum);
+    verdict(libc::STDOUT_FILENO, sum.sum, cuts_of(shape_of(circuit)));
 }
 
+// Builds a log and shows its columns, if asked; then its sum and the verdict.
 fn run_on<'a>(
     circuit: &'a [u64],
     witness: &'a [u64],
     challenges: &'a [u64],
     with_alpha: &'a [u64],
+    shown: bool,
 ) {
     let instance = [0u64; 0];
     let mut columns = [0u64; 56];
@@ -114,17 +122,41 @@ fn run_on<'a>(
     say::out(b", nodes ");
     say::number(built.nodes as u64);
     say::line(b", z columns ", built.z_columns as u64);
-    show(circuit, witness, &columns);
+    if built.number != 0 {
+        let readings = find(circuit, &instance, witness, challenges, &mut columns);
+        tell(libc::STDOUT_FILENO, readings);
+        return;
+    }
+    if shown {
+        show(circuit, witness, &columns);
+    }
     sum_up(circuit, witness, &columns, &nodes, with_alpha);
+}
+
+// Another value at a place, if there is such a place.
+fn change(words: &mut [u64], at: usize, value: u64) {
+    if at < words.len() {
+        words[at] = value;
+    }
+}
+
+// The log with one word of its witness changed.
+fn run_changed<'a>(circuit: &'a [u64], at: usize, value: u64) {
+    let mut witness = [0u64; 24];
+    fill_witness(&mut witness);
+    change(&mut witness, at, value);
+    let beta_gamma = [1000003, 777];
+    let with_alpha = [1000003, 777, 31337];
+    run_on(circuit, &witness, &beta_gamma, &with_alpha, at == 24);
 }
 
 pub fn run() {
     let mut circuit = [0u64; 51];
-    let mut witness = [0u64; 24];
     fill_circuit(&mut circuit);
-    fill_witness(&mut witness);
-    let beta_gamma = [1000003, 777];
-    let with_alpha = [1000003, 777, 31337];
     say::out(b"A log of 8 rows: k is 3.\n");
-    run_on(&circuit, &witness, &beta_gamma, &with_alpha);
+    run_changed(&circuit, 24, 0);
+    say::out(b"\nThe same log with a wrong copy: the knee has 36 at row 3, the sheet 37.\n");
+    run_changed(&circuit, 19, 36);
+    say::out(b"\nThe same log with a reading of 5 at row 1, which the table does not list.\n");
+    run_changed(&circuit, 1, 5);
 }

@@ -1,4 +1,7 @@
 // What circuit words have and ask for, in words; and for refused ones which question was answered no, and where.
+use crate::cuts;
+use crate::cuts::cuts_of;
+use crate::rooms::HALF;
 use crate::shape::Shape;
 use crate::shape::shape_of;
 use messages::refusal::refusal;
@@ -24,6 +27,21 @@ fn copied(s: Shape) {
     say::out(b"\n");
 }
 
+// Whether the copied columns are cut alike, and the stack that build and check need.
+fn cut_and_stack(s: Shape) {
+    let c = cuts_of(s);
+    if cuts::differ(c) {
+        cuts::tell(libc::STDOUT_FILENO, c);
+    } else {
+        say::out(b"both cuts of the copied columns are alike\n");
+    }
+    if s.column_words <= HALF {
+        say::out(b"stack needed: 2 MiB\n");
+    } else {
+        say::out(b"stack needed: 3 MiB\n");
+    }
+}
+
 // What an accepted circuit asks for.
 fn needs(s: Shape) {
     say::line(b"D: ", std::num::wrapping_add_u64(s.part as u64, 1));
@@ -43,6 +61,7 @@ pub fn explain(circuit: &[u64]) {
     }
     if s.no == 0 {
         needs(s);
+        cut_and_stack(s);
         say::out(b"questions 1 to 11 are answered yes\n");
     } else {
         refusal(circuit, s.no);

@@ -1,21 +1,6 @@
 // Files of words, written; the crate texts reads them.
-// Opens the file that an argument names, to be written from its start; says why it can't be.
-pub fn open_out(argument: usize) -> i32 {
-    let mut path = io::buffer();
-    let n = os::arg(argument, &mut path);
-    if os::errno() != 0 {
-        os::fail(b"the file's name");
-        return -1;
-    }
-    let fd = os::open_overwrite(&path[..n]);
-    if fd < 0 {
-        os::fail(&path[..n]);
-    }
-    fd
-}
-
 // Puts a text into a line from a place on, as far as it goes in, and answers the place after it.
-fn put(line: &mut [u8], at: usize, text: &[u8]) -> usize {
+pub fn put(line: &mut [u8], at: usize, text: &[u8]) -> usize {
     let mut to = at;
     let mut i: usize = 0;
     while i < text.len() {
@@ -29,15 +14,20 @@ fn put(line: &mut [u8], at: usize, text: &[u8]) -> usize {
     to
 }
 
-// Puts a number, after a blank where it is not the first of the line.
-fn put_number(line: &mut [u8], at: usize, n: u64) -> usize {
+// Puts a number's digits.
+pub fn put_digits(line: &mut [u8], at: usize, n: u64) -> usize {
     let mut text = [0u8; 20];
     let k = io::decimal(n, &mut text);
+    put(line, at, &text[..k])
+}
+
+// Puts a number, after a blank where it is not the first of the line.
+fn put_number(line: &mut [u8], at: usize, n: u64) -> usize {
     if at == 0 {
-        return put(line, at, &text[..k]);
+        return put_digits(line, at, n);
     }
     let from = put(line, at, b" ");
-    put(line, from, &text[..k])
+    put_digits(line, from, n)
 }
 
 // Puts so many words, and the line's end.

@@ -1,84 +1,93 @@
 // The command-line program, for the bench: it builds the columns and nodes of a log over files, runs the row sum on what was
-// built, and says in words what a circuit has, or why it is refused. With no argument it runs on a small log of its own.
-// A message goes to standard error; run, beside src/, makes an exit status of it.
+// built, gives its verdict, and says in words what a circuit has, or why it is refused. With no argument it runs on a small log
+// of its own. A message goes to standard error; run, beside src/, makes an exit status of it.
 mod commands;
+mod cuts;
 mod example;
 mod explain;
 mod files;
+mod output;
+mod readings;
+mod rooms;
 mod shape;
 mod usage;
+mod verdict;
 mod write_out;
 
 use check::same;
+use rooms::BUILD;
+use rooms::CHECK;
+use rooms::EXPLAIN;
+use rooms::over_files;
 
-// The commands, and what is none.
-const OTHER: u64 = 0;
+// What is no command over files.
+const HELP: u64 = 4;
 
-const EXPLAIN: u64 = 1;
+const VERSION: u64 = 5;
 
-const BUILD: u64 = 2;
+const UNKNOWN: u64 = 0;
 
-const CHECK: u64 = 3;
+fn is_help(name: &[u8]) -> bool {
+    same(name, b"--help") | same(name, b"-h") | same(name, b"help")
+}
 
-// The command that the first argument names, if as many arguments follow as it takes.
-fn command(arguments: usize) -> u64 {
-    let mut name = [0u8; 16];
-    let n = os::arg(1, &mut name);
-    if same(&name[..n], b"explain") & (arguments == 3) {
+// The command of this name.
+fn command_of(name: &[u8]) -> u64 {
+    if same(name, b"explain") {
         return EXPLAIN;
     }
-    if same(&name[..n], b"build") & (arguments == 7) {
+    if same(name, b"build") {
         return BUILD;
     }
-    if same(&name[..n], b"check") & (arguments == 7) {
+    if same(name, b"check") {
         return CHECK;
     }
-    OTHER
+    if same(name, b"--version") {
+        return VERSION;
+    }
+    if is_help(name) {
+        return HELP;
+    }
+    UNKNOWN
 }
 
-// The sizes are those of document 01's limits: 8 instance columns of 1023 values and 32 witness columns of 1024; 184 columns
-// of 1024 words and 11,295 nodes; a file of what was built has both.
-fn circuit_room() -> [u64; 60000] {
-    [0; 60000]
+// How many arguments a command takes.
+fn wanted(command: u64) -> usize {
+    match command {
+        EXPLAIN => 1,
+        BUILD => 5,
+        CHECK => 5,
+        _ => 0,
+    }
 }
 
-fn instance_room() -> [u64; 8184] {
-    [0; 8184]
+// Is argument 2 one that asks for help?
+fn asks_help() -> bool {
+    let mut name = [0u8; 8];
+    let n = os::arg(2, &mut name);
+    same(&name[..n], b"--help") | same(&name[..n], b"-h")
 }
 
-fn witness_room() -> [u64; 32768] {
-    [0; 32768]
-}
-
-fn column_room() -> [u64; 233596] {
-    [0; 233596]
-}
-
-fn node_room() -> [u64; 45180] {
-    [0; 45180]
-}
-
-fn over_files(command: u64) {
-    let mut circuit = circuit_room();
-    let mut instance = instance_room();
-    let mut witness = witness_room();
-    let mut columns = column_room();
-    let mut nodes = node_room();
-    if command == EXPLAIN {
-        commands::explain(&mut circuit);
+// Runs the command of this name, which so many arguments follow.
+fn run(name: &[u8], given: usize) {
+    let command = command_of(name);
+    if command == UNKNOWN {
+        usage::unknown(name);
         return;
     }
-    if command == BUILD {
-        commands::build(
-            &mut circuit,
-            &mut instance,
-            &mut witness,
-            &mut columns,
-            &mut nodes,
-        );
+    if (command == HELP) | asks_help() {
+        usage::help();
         return;
     }
-    commands::check(&mut circuit, &mut witness, &mut columns);
+    if given != wanted(command) {
+        usage::miscounted(name, given, wanted(command));
+        return;
+    }
+    if command == VERSION {
+        usage::version();
+        return;
+    }
+    over_files(command);
 }
 
 fn main() {
@@ -87,10 +96,7 @@ fn main() {
         example::run();
         return;
     }
-    let command = command(arguments);
-    if command == OTHER {
-        usage::usage();
-        return;
-    }
-    over_files(command);
+    let mut name = io::buffer();
+    let n = os::arg(1, &mut name);
+    run(&name[..n], arguments - 2);
 }

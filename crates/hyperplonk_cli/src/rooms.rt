@@ -1,0 +1,159 @@
+// The rooms for the words of the files, by need, since they stand on the stack: for circuits of up to 96 columns of 1,024 words,
+// and for all. The sizes are those of document 01's limits: 8 instance columns of 1023 values and 32 witness columns of 1024; 184
+// columns of 1024 words and 4,190 nodes; a file of what was built has both.
+use crate::commands;
+use crate::explain;
+use crate::shape::Shape;
+use crate::shape::shape_of;
+use messages::refusal::refusal;
+use messages::say;
+use texts::files::read;
+
+// The commands over files.
+pub const EXPLAIN: u64 = 1;
+
+pub const BUILD: u64 = 2;
+
+pub const CHECK: u64 = 3;
+
+// The column words up to which the smaller rooms do.
+pub const HALF: usize = 98304;
+
+fn circuit_room() -> [u64; 60000] {
+    [0; 60000]
+}
+
+fn instance_room() -> [u64; 8184] {
+    [0; 8184]
+}
+
+fn witness_room() -> [u64; 32768] {
+    [0; 32768]
+}
+
+fn half_room() -> [u64; 98304] {
+    [0; 98304]
+}
+
+fn column_room() -> [u64; 188416] {
+    [0; 188416]
+}
+
+fn node_room() -> [u64; 16760] {
+    [0; 16760]
+}
+
+fn half_built_room() -> [u64; 115064] {
+    [0; 115064]
+}
+
+fn built_room() -> [u64; 205176] {
+    [0; 205176]
+}
+
+fn build_half(circuit: &[u64], s: Shape) {
+    let mut instance = instance_room();
+    let mut witness = witness_room();
+    let mut columns = half_room();
+    let mut nodes = node_room();
+    commands::build(
+        circuit,
+        s,
+        &mut instance,
+        &mut witness,
+        &mut columns,
+        &mut nodes,
+    );
+}
+
+fn build_whole(circuit: &[u64], s: Shape) {
+    let mut instance = instance_room();
+    let mut witness = witness_room();
+    let mut columns = column_room();
+    let mut nodes = node_room();
+    commands::build(
+        circuit,
+        s,
+        &mut instance,
+        &mut witness,
+        &mut columns,
+        &mut nodes,
+    );
+}
+
+fn check_half(circuit: &[u64], s: Shape) {
+    let mut witness = witness_room();
+    let mut built = half_built_room();
+    commands::check(circuit, s, &mut witness, &mut built);
+}
+
+fn check_whole(circuit: &[u64], s: Shape) {
+    let mut witness = witness_room();
+    let mut built = built_room();
+    commands::check(circuit, s, &mut witness, &mut built);
+}
+
+// Runs a command in the smallest rooms that do, of the first so many sizes, the smaller before the larger; answers whether one did.
+// That it calls itself keeps the compiler from putting the rooms of all sizes into one frame.
+fn in_rooms(command: u64, circuit: &[u64], s: Shape, sizes: u64) -> bool {
+    if sizes == 0 {
+        return false;
+    }
+    if in_rooms(command, circuit, s, sizes - 1) {
+        return true;
+    }
+    if (sizes == 1) & (s.column_words > HALF) {
+        return false;
+    }
+    if command == BUILD {
+        if sizes == 1 {
+            build_half(circuit, s);
+        } else {
+            build_whole(circuit, s);
+        }
+        return true;
+    }
+    if sizes == 1 {
+        check_half(circuit, s);
+    } else {
+        check_whole(circuit, s);
+    }
+    true
+}
+
+// How many sizes there are to try.
+fn sizes(words: usize) -> u64 {
+    if words <= HALF {
+        return 1;
+    }
+    2
+}
+
+// Asks the questions.
+fn asked(command: u64, circuit: &[u64]) {
+    if command == EXPLAIN {
+        explain::explain(circuit);
+        return;
+    }
+    say::out(b"asking\n");
+    let s = shape_of(circuit);
+    if s.no != 0 {
+        refusal(circuit, s.no);
+        return;
+    }
+    say::out(b"reading the log\n");
+    in_rooms(command, circuit, s, sizes(s.column_words));
+}
+
+// Reads the circuit, which argument 2 names.
+pub fn over_files(command: u64) {
+    let mut circuit = circuit_room();
+    if command != EXPLAIN {
+        say::out(b"reading the circuit\n");
+    }
+    let got = read(2, &mut circuit);
+    let n = got.count;
+    if got.good {
+        asked(command, &circuit[0..n]);
+    }
+}
