@@ -21,7 +21,7 @@ use Rattle.prover.specs.Columns.{userEnvironment, inputAt, tableAt, countAt, lo
 use Rattle.calls.specs.Build.{logOf, columnWords, checkBuild, buildOf}
 use Rattle.calls.specs.RowSum.{rowSumOf}
 use Rattle.calls.specs.Meaning.{Each, EachRow, EachLookup, ZeroConstraints, EqualCells, NoZeroInput, NoZeroTable, NoZeroFactor, Premises}
-use Rattle.calls.specs.Papers.{fraction, paperH, sharedM, totalOf}
+use Rattle.calls.specs.Papers.{fraction, paperH, sharedM, totalOf, SharedHolds}
 
 -- what a lookup's list of pairs has past its end
 abbrev pub noPair : Pair
@@ -158,6 +158,8 @@ module _ (g : Log 𝔾) (left : List ℕ) (j : ℕ) where
         ≡ sumRows 𝔾 rows (λ b. fraction 𝔾 (el (m b)) (𝔾 .add (g .γ) (table b)))
     -- the words of h are the paper's sums of fractions with the words of m: 1/(γ + input) − m/(γ + table)
     pub h-is : (b : ℕ) → b < rows → el (h b) ≡ paperH 𝔾 (g .γ) input table (λ r. el (m r)) b
+    -- and with the paper's shared multiplicities in place of m: Σ 1/(γ + input) = Σ m/(γ + table), and Σ h = 0
+    pub shared : SharedHolds 𝔾 el rows input table (g .γ)
     -- the words are the counts of `lookup_m_poly` themselves: none reaches p
     pub whole : (b : ℕ) → b < rows → m b ≡ countAt 𝔾 g lookup b
 

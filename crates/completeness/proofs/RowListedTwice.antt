@@ -31,7 +31,7 @@ use Rattle.calls.proofs.Embeds.{embeds}
 use Rattle.completeness.proofs.Passed.{yes-all, k-small}
 use Rattle.completeness.proofs.Asked.{lending}
 use Rattle.completeness.proofs.Counts.{covered-each, counts-sum, h-sums}
-use Rattle.completeness.proofs.Habock.{counts-turn, same-totals, is-habock-h, habock-identity}
+use Rattle.completeness.proofs.Habock.{counts-turn, same-totals, is-habock-h, habock-identity, shared-identity}
 use Rattle.completeness.proofs.GoodLog.{asked-yes, covered-yes, zero-when}
 
 module _ (g : Log 𝔾) where
@@ -183,6 +183,7 @@ module _ (ws instances witness challenges columns nodes : List ℕ) (z : buildOf
               (λ b. fraction 𝔾 (el (counts b)) (𝔾 .add (log .γ) (tableAt 𝔾 log pairs b))) (rowsOf c)
               (λ b h. ap (λ (n : ℕ). fraction 𝔾 (el n) (𝔾 .add (log .γ) (tableAt 𝔾 log pairs b))) (whole' b h)));
           h-is = λ b h. h-whole b h ∙ h-fractions b h;
+          shared = shared-identity 𝔾 el (rowsOf c) (inputAt 𝔾 log pairs) (tableAt 𝔾 log pairs) (log .γ) embeds covered-here char;
           whole = whole;
         }
 
