@@ -1,7 +1,9 @@
 -- What the searches ask for, of accepted circuit words. Assumes nothing.
 use mathlib.Core.Path.{_≡_, sym, ap, _∙_, subst}
+use mathlib.Core.Logic.{_≢_, ⊎-elim}
 use mathlib.Core.List.{List}
-use Prim.Native.Nat.{ℕ, _^_, _≤_, _<_}
+use Prim.Native.Nat.{ℕ, _+_, _^_, _≤_, _<_}
+use native.Mathlib.Nat.{eq-or-lt-of-le}
 use native.Mathlib.Omega.{arith}
 use lib.ListN.{length, getD, take}
 use lib.Seq.{length-take-le}
@@ -35,3 +37,15 @@ module _ (ws : List ℕ) (a : Accepted ws) (l : Layout) (e : l ≡ layoutOf ws) 
         subst Small (sym e) (given ws a .small),
         record { positive = omega arith; small = omega arith; inside = subst (λ (n : ℕ). row < n) rows-are h; placed = r },
       )
+
+-- no word before place i equals a value, and that at i does not
+pub one-more : (d : List ℕ) (table value i : ℕ) → ((b : ℕ) → b < i → getD d (table + b) 0 ≢ value)
+    → getD d (table + i) 0 ≢ value
+    → (b : ℕ)
+    → b < i + 1
+    → getD d (table + b) 0 ≢ value
+one-more d table value i before here b h =
+    let low : b ≤ i = omega arith in
+    ⊎-elim (λ (e : b ≡ i) (q : getD d (table + b) 0 ≡ value). here (ap (λ (n : ℕ). getD d (table + n) 0) (sym e) ∙ q))
+    (λ (l : b < i). before b l)
+    (eq-or-lt-of-le low)

@@ -15,29 +15,38 @@ use stages::instance_columns;
 use stages::layout_of;
 use value::value;
 ghost use mathlib.Core.Path.{_≡_};
-ghost use mathlib.Core.Bool.{true};
-ghost use Prim.Native.Nat.{_≤_};
-ghost use lib.ListN.{length, take};
+ghost use mathlib.Core.Logic.{_≢_};
+ghost use mathlib.Core.Bool.{true, false};
+ghost use Prim.Native.Nat.{ℕ, _+_, _≤_, _<_};
+ghost use lib.ListN.{length, getD, take};
 ghost use Rattle.expression.specs.Reader.{Small};
 ghost use Rattle.expression.specs.Point.{Placed};
 ghost use Rattle.backend.specs.Circuit.{circuitOf, numCopied, copied as copiedOf};
 ghost use Rattle.calls.specs.Build.{columnWords, q12};
 ghost use Rattle.prepare.specs.Prepared.{Accepted};
+ghost use Rattle.unlisted.specs.Missing.{Missing};
 
-// `count` is how many there are in all; the rest is of the first, and 0 where there is none. The first `width` values are its.
+// `count` is how many there are in all; the rest is of the first, and 0 where there is none. The first `width` values are its; its
+// lookup's compressed input starts at word `input` of the column buffer and has `rows` words.
 pub struct Unlisted {
     pub count: u64,
     pub lookup: usize,
+    pub input: usize,
+    pub rows: usize,
     pub row: usize,
     pub place: usize,
     pub width: usize,
     pub values: [u64; 8],
 }
 
-fn none() -> Unlisted {
+fn none() -> Unlisted
+    ensures { λ r. ⌜ r .count ≡ 0 ⌝ }
+{
     Unlisted {
         count: 0,
         lookup: 0,
+        input: 0,
+        rows: 0,
         row: 0,
         place: 0,
         width: 0,
@@ -49,6 +58,7 @@ fn none() -> Unlisted {
 struct Seen {
     count: u64,
     lookup: usize,
+    input: usize,
     row: usize,
 }
 
@@ -66,10 +76,13 @@ fn times_rows(n: usize, k: u64) -> usize {
 }
 
 // Is the value one of so many words from a place on?
-fn is_listed(columns: &[u64], table: usize, rows: usize, value: u64) -> bool {
+fn is_listed(columns: &[u64], table: usize, rows: usize, value: u64) -> bool
+    requires { ⌜ table + rows ≤ length (now columns) ⌝ }
+    ensures { λ r. ⌜ (r ≡ false → (i : ℕ) → i < rows → getD (now (columns .entry)) (table + i) 0 ≢ value) ⌝ }
+{
     let mut i: usize = 0;
     while i < rows {
-        if word(columns, after(table, i)) == value {
+        if columns[table + i] == value {
             return true;
         }
         i += 1;
@@ -77,18 +90,38 @@ fn is_listed(columns: &[u64], table: usize, rows: usize, value: u64) -> bool {
     false
 }
 
+// Does the word of a row equal no word of the next column? No where the buffer has no such columns.
+fn is_missing(columns: &[u64], input: usize, rows: usize, row: usize) -> bool
+    ensures { λ r. ⌜ (r ≡ true → Missing (now (columns .entry)) input rows row) ⌝ }
+{
+    let n = columns.len();
+    if input > n {
+        return false;
+    }
+    if rows > (n - input) / 2 {
+        return false;
+    }
+    if row >= rows {
+        return false;
+    }
+    let x = columns[input + row];
+    !is_listed(columns, input + rows, rows, x)
+}
+
 // One more.
-fn noted(seen: Seen, lookup: usize, row: usize) -> Seen {
+fn noted(seen: Seen, lookup: usize, input: usize, row: usize) -> Seen {
     if seen.count == 0 {
         return Seen {
             count: 1,
             lookup: lookup,
+            input: input,
             row: row,
         };
     }
     Seen {
         count: std::num::wrapping_add_u64(seen.count, 1),
         lookup: seen.lookup,
+        input: seen.input,
         row: seen.row,
     }
 }
@@ -101,11 +134,10 @@ fn see_row(
     rows: usize,
     row: usize,
 ) -> Seen {
-    let x = word(columns, after(input, row));
-    if is_listed(columns, after(input, rows), rows, x) {
-        return seen;
+    if is_missing(columns, input, rows, row) {
+        return noted(seen, lookup, input, row);
     }
-    noted(seen, lookup, row)
+    seen
 }
 
 // The readings of one lookup, whose compressed input starts at a word, the compressed table behind it.
@@ -124,6 +156,7 @@ fn see_all(columns: &[u64], lookups: usize, compressed: usize, rows: usize) -> S
     let mut seen = Seen {
         count: 0,
         lookup: 0,
+        input: 0,
         row: 0,
     };
     let mut input = compressed;
@@ -244,6 +277,8 @@ fn first_at<'a>(
     Unlisted {
         count: seen.count,
         lookup: seen.lookup,
+        input: seen.input,
+        rows: layout.rows,
         row: seen.row,
         place: point.place,
         width: width,
@@ -324,8 +359,7 @@ fn filled<'a>(
     first_of(circuit, witness, columns, challenges, seen)
 }
 
-// Of words for which build answered 15. The instance and the compressed columns are written to the column buffer.
-pub fn find<'a>(
+fn sought<'a>(
     circuit: &'a [u64],
     instance: &[u64],
     witness: &'a [u64],
@@ -349,4 +383,22 @@ pub fn find<'a>(
         copied.count,
         of,
     )
+}
+
+// Of words for which build answered 15. The instance and the compressed columns are written to the column buffer. A reading that is
+// named stands in no row of its table.
+pub fn find<'a>(
+    circuit: &'a [u64],
+    instance: &[u64],
+    witness: &'a [u64],
+    challenges: &'a [u64],
+    columns: &mut [u64],
+) -> Unlisted
+    ensures { λ r. ⌜ (r .count ≢ 0 → Missing (now (columns .exit)) (r .input) (r .rows) (r .row)) ⌝ }
+{
+    let u = sought(circuit, instance, witness, challenges, columns);
+    if is_missing(columns, u.input, u.rows, u.row) {
+        return u;
+    }
+    none()
 }

@@ -1,26 +1,37 @@
--- `is_listed` is safe and ends. The measure is the rows left. Assumes nothing.
-use Prim.Native.Nat.{_-_}
+-- `is_listed` meets its contract: no word before the loop's place equals the value. Assumes nothing.
+use mathlib.Core.Logic.{_≢_}
+use Prim.Native.Nat.{ℕ, _+_, _-_, _≤_, _<_}
+use native.Mathlib.Omega.{arith}
+use lib.ListN.{getD}
+use lib.Dec.{T}
+use mathlib.Core.Path.{subst}
 use borrow.Author.Needs.{needs}
+use Rattle.unlisted.proofs.Asked.{one-more}
 use Rattle.unlisted.proofs.is_listed.Statement.{statement}
 use Rattle.unlisted.proofs.is_listed.Tie as tie
+use Rattle.unlisted.proofs.is_listed.Reads as reads
+use Rattle.unlisted.proofs.is_listed.Lts as lts
 
 abbrev Inv-loop : tie.InvT-loop
-Inv-loop columns table rows value i₀ i = Unit {0}
+Inv-loop columns table rows value i₀ i = (i ≤ rows) × ((b : ℕ) → b < i → getD columns (table + b) 0 ≢ value)
 
 abbrev μ-loop : tie.MeasureT-loop
 μ-loop columns table rows value i₀ i = rows - i
 
 loop-holds : tie.Need-loop-holds Inv-loop μ-loop
-loop-holds c = search needs
+loop-holds c = (omega arith, λ b h. absurd (let z : b < 0 = h in omega arith))
 
-after-requires : tie.Need-after-requires Inv-loop μ-loop
-after-requires c κs = search needs
+add-if1 : tie.Need-add-if1 Inv-loop μ-loop
+add-if1 c = search needs
 
-word-requires : tie.Need-word-requires Inv-loop μ-loop
-word-requires c κs = search needs
+mul-if1 : tie.Need-mul-if1 Inv-loop μ-loop
+mul-if1 c = search needs
+
+shared-slice-read-if1 : tie.Need-shared-slice-read-if1 Inv-loop μ-loop
+shared-slice-read-if1 c = search needs
 
 returns : tie.Need-returns Inv-loop μ-loop
-returns c = search needs
+returns c = λ e i h q. subst T e tt
 
 add-i : tie.Need-add-i Inv-loop μ-loop
 add-i c = search needs
@@ -29,10 +40,12 @@ loop-less : tie.Need-loop-less Inv-loop μ-loop
 loop-less c = search needs
 
 loop-again : tie.Need-loop-again Inv-loop μ-loop
-loop-again c = search needs
+loop-again c =
+    let s = c .before .before .before in
+    (omega arith, one-more (s .before .args .columns .now) (s .before .args .table) (s .before .args .value) (s .loop .i) (s .loop .inv .1) (c .if1 .left))
 
 returns-2 : tie.Need-returns-2 Inv-loop μ-loop
-returns-2 c = search needs
+returns-2 c = λ e i h. c .before .loop .inv .1 i (omega (arith, h))
 
 pub is-listed-spec : {M : Type 1} → statement M
 is-listed-spec =
@@ -41,8 +54,9 @@ is-listed-spec =
     Inv-loop
     μ-loop
     loop-holds
-    after-requires
-    word-requires
+    add-if1
+    mul-if1
+    shared-slice-read-if1
     returns
     add-i
     loop-less
