@@ -1,17 +1,22 @@
-// The field type: an element of the Goldilocks field, below the modulus where `new` made it.
+// The field type. A field value is held as a word, any word that is its number modulo p: `from_u64` takes the word as it is, each
+// operation reduces what it must, and `to_u64` gives the number below p. `word` promises no more than some word of the element.
 use field::add_u64;
 use field::invert_u64;
 use field::mul_u64;
 use field::neg_u64;
 use field::pow_u64;
+use field::reduce_u64;
 use field::sub_u64;
 ghost use mathlib.Core.Path.{_≡_};
-ghost use Rattle.field.specs.Field.{addP, negP, subP, mulP, powP, invP};
+ghost use Prim.Native.Nat.{_<_};
+ghost use lib.ListN.{length, getD};
+ghost use Rattle.field.specs.Algebra.{pow};
+ghost use Rattle.field.specs.Field.{𝔾, el, val};
 ghost use Rattle.goldilocks.specs.Parse.{parsed};
+ghost use Rattle.goldilocks.specs.Element.{elem, isZero};
 
 const MODULUS: u64 = 18446744069414584321;
 
-// An element, held as its number.
 pub struct Goldilocks(u64);
 
 pub enum Parsed {
@@ -24,6 +29,20 @@ impl Goldilocks {
 
     pub const ONE: Goldilocks = Goldilocks(1);
 
+    // 0, by the constant.
+    pub fn zero() -> Goldilocks
+        ensures { λ r. ⌜ elem r ≡ 𝔾 .zero ⌝ }
+    {
+        Goldilocks::ZERO
+    }
+
+    // 1, by the constant.
+    pub fn one() -> Goldilocks
+        ensures { λ r. ⌜ elem r ≡ 𝔾 .one ⌝ }
+    {
+        Goldilocks::ONE
+    }
+
     // The element of a number below p.
     pub fn new(x: u64) -> Parsed
         ensures { λ r. ⌜ r ≡ parsed x ⌝ }
@@ -35,51 +54,79 @@ impl Goldilocks {
         }
     }
 
-    // The element's number.
-    pub fn value(self) -> u64
-        ensures { λ r. ⌜ r ≡ self .0 ⌝ }
+    // The element of any word.
+    pub fn from_u64(x: u64) -> Goldilocks
+        ensures { λ r. ⌜ elem r ≡ el x ⌝ }
+    {
+        Goldilocks(x)
+    }
+
+    // The element of a word of a slice.
+    pub fn at(words: &[u64], i: usize) -> Goldilocks
+        requires { ⌜ i < length (now words) ⌝ }
+        ensures { λ r. ⌜ elem r ≡ el (getD (now (words .entry)) i 0) ⌝ }
+    {
+        Goldilocks(words[i])
+    }
+
+    // The element's number, below p.
+    pub fn to_u64(self) -> u64
+        ensures { λ r. ⌜ r ≡ val (elem self) ⌝ }
+    {
+        reduce_u64(self.0)
+    }
+
+    // A word of the element, not always below p.
+    pub fn word(self) -> u64
+        ensures { λ r. ⌜ el r ≡ elem self ⌝ }
     {
         self.0
     }
 
+    pub fn is_zero(self) -> bool
+        ensures { λ r. ⌜ r ≡ isZero (elem self) ⌝ }
+    {
+        reduce_u64(self.0) == 0
+    }
+
     // self + b.
     pub fn add(self, b: Goldilocks) -> Goldilocks
-        ensures { λ r. ⌜ r .0 ≡ addP (self .0) (b .0) ⌝ }
+        ensures { λ r. ⌜ elem r ≡ 𝔾 .add (elem self) (elem b) ⌝ }
     {
         Goldilocks(add_u64(self.0, b.0))
     }
 
     // self - b.
     pub fn sub(self, b: Goldilocks) -> Goldilocks
-        ensures { λ r. ⌜ r .0 ≡ subP (self .0) (b .0) ⌝ }
+        ensures { λ r. ⌜ elem r ≡ 𝔾 .add (elem self) (𝔾 .neg (elem b)) ⌝ }
     {
         Goldilocks(sub_u64(self.0, b.0))
     }
 
     // -self.
     pub fn neg(self) -> Goldilocks
-        ensures { λ r. ⌜ r .0 ≡ negP (self .0) ⌝ }
+        ensures { λ r. ⌜ elem r ≡ 𝔾 .neg (elem self) ⌝ }
     {
         Goldilocks(neg_u64(self.0))
     }
 
     // self * b.
     pub fn mul(self, b: Goldilocks) -> Goldilocks
-        ensures { λ r. ⌜ r .0 ≡ mulP (self .0) (b .0) ⌝ }
+        ensures { λ r. ⌜ elem r ≡ 𝔾 .mul (elem self) (elem b) ⌝ }
     {
         Goldilocks(mul_u64(self.0, b.0))
     }
 
     // self to the power e.
     pub fn pow(self, e: u64) -> Goldilocks
-        ensures { λ r. ⌜ r .0 ≡ powP (self .0) e ⌝ }
+        ensures { λ r. ⌜ elem r ≡ pow 𝔾 (elem self) e ⌝ }
     {
         Goldilocks(pow_u64(self.0, e))
     }
 
     // The inverse, and 0 for 0.
     pub fn inverse(self) -> Goldilocks
-        ensures { λ r. ⌜ r .0 ≡ invP (self .0) ⌝ }
+        ensures { λ r. ⌜ elem r ≡ 𝔾 .inv (elem self) ⌝ }
     {
         Goldilocks(invert_u64(self.0))
     }

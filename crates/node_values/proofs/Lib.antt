@@ -1,2 +1,0 @@
-mod LowerNodes
-mod Chained
