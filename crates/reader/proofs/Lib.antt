@@ -1,2 +1,3 @@
+pub mod Above
 pub mod Handed
 pub mod Told
