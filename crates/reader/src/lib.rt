@@ -14,7 +14,7 @@ use contents::word;
 ghost use mathlib.Core.Path.{_≡_};
 ghost use Prim.Native.Nat.{_<_};
 ghost use lib.ListN.{getD};
-ghost use Rattle.backend.specs.Circuit.{Section, sectionAt, bodyOf, wordK, circuitOf, numNodes};
+ghost use Rattle.backend.specs.Circuit.{Section, sectionAt, bodyOf, wordK};
 ghost use Rattle.backend.specs.Laid.{Laid};
 
 // The words of the section at a place of the contents.
@@ -126,7 +126,47 @@ impl<'a> Circuit<'a> {
     }
 }
 
-// The node words of a circuit. Its parameter is a plain slice, so that its callers are covered.
+// The same over the circuit words, a plain slice: a caller of these has no reader of its own, and is covered.
+
+// "Word 0 is k."
+pub fn k_of(circuit: &[u64]) -> u64
+    ensures { λ r. ⌜ r ≡ wordK (now (circuit .entry)) ⌝ }
+{
+    Circuit::new(circuit).k()
+}
+
+// "Word 1 is 0 for no maximum degree, else that degree + 1."
+pub fn stated_of(circuit: &[u64]) -> u64
+    ensures { λ r. ⌜ r ≡ getD (now (circuit .entry)) 1 0 ⌝ }
+{
+    Circuit::new(circuit).stated()
+}
+
+// "instance lengths"
+pub fn instances_of<'a>(circuit: &'a [u64]) -> &'a [u64]
+    requires { ⌜ Laid (now circuit) ⌝ }
+    ensures { λ r. ⌜ now r ≡ bodyOf (now (circuit .entry)) Section.instances ⌝ }
+{
+    Circuit::new(circuit).instances()
+}
+
+// "preprocess columns (2^k words each)"
+pub fn preprocess_of<'a>(circuit: &'a [u64]) -> &'a [u64]
+    requires { ⌜ Laid (now circuit) ⌝ }
+    ensures { λ r. ⌜ now r ≡ bodyOf (now (circuit .entry)) Section.preprocess ⌝ }
+{
+    Circuit::new(circuit).preprocess()
+}
+
+// "rounds (witness columns, challenges)"
+pub fn rounds_of<'a>(circuit: &'a [u64]) -> &'a [u64]
+    requires { ⌜ Laid (now circuit) ⌝ }
+    ensures { λ r. ⌜ now r ≡ bodyOf (now (circuit .entry)) Section.rounds ⌝ }
+{
+    Circuit::new(circuit).rounds()
+}
+
+// "nodes (4 words)"
 pub fn nodes_of<'a>(circuit: &'a [u64]) -> &'a [u64]
     requires { ⌜ Laid (now circuit) ⌝ }
     ensures { λ r. ⌜ now r ≡ bodyOf (now (circuit .entry)) Section.nodes ⌝ }
@@ -134,10 +174,42 @@ pub fn nodes_of<'a>(circuit: &'a [u64]) -> &'a [u64]
     Circuit::new(circuit).nodes()
 }
 
-// How many nodes a circuit has.
-pub fn num_nodes(circuit: &[u64]) -> usize
+// "constraint roots"
+pub fn constraints_of<'a>(circuit: &'a [u64]) -> &'a [u64]
     requires { ⌜ Laid (now circuit) ⌝ }
-    ensures { λ r. ⌜ r ≡ numNodes (circuitOf (now (circuit .entry))) ⌝ }
+    ensures { λ r. ⌜ now r ≡ bodyOf (now (circuit .entry)) Section.constraints ⌝ }
 {
-    nodes_of(circuit).len() / 4
+    Circuit::new(circuit).constraints()
+}
+
+// "lookup widths"
+pub fn widths_of<'a>(circuit: &'a [u64]) -> &'a [u64]
+    requires { ⌜ Laid (now circuit) ⌝ }
+    ensures { λ r. ⌜ now r ≡ bodyOf (now (circuit .entry)) Section.widths ⌝ }
+{
+    Circuit::new(circuit).widths()
+}
+
+// "lookup pairs (input root, table root)"
+pub fn pairs_of<'a>(circuit: &'a [u64]) -> &'a [u64]
+    requires { ⌜ Laid (now circuit) ⌝ }
+    ensures { λ r. ⌜ now r ≡ bodyOf (now (circuit .entry)) Section.pairs ⌝ }
+{
+    Circuit::new(circuit).pairs()
+}
+
+// "cycle lengths"
+pub fn lengths_of<'a>(circuit: &'a [u64]) -> &'a [u64]
+    requires { ⌜ Laid (now circuit) ⌝ }
+    ensures { λ r. ⌜ now r ≡ bodyOf (now (circuit .entry)) Section.lengths ⌝ }
+{
+    Circuit::new(circuit).lengths()
+}
+
+// "cells (polynomial, row)"
+pub fn cells_of<'a>(circuit: &'a [u64]) -> &'a [u64]
+    requires { ⌜ Laid (now circuit) ⌝ }
+    ensures { λ r. ⌜ now r ≡ bodyOf (now (circuit .entry)) Section.cells ⌝ }
+{
+    Circuit::new(circuit).cells()
 }

@@ -5,7 +5,7 @@ use prog.Memory.{Memory}
 use prog.Routine.{Routine}
 use prog.Wp.{Heap}
 use ghost.Atoms.{Atoms}
-use contract.Monad.{Fun, fact}
+use contract.Monad.{Fun}
 use contract.Running.{givenOf}
 use Rattle.backend.specs.Circuit.{Section}
 use Rattle.reader.proofs.Above.{Gives, section, section-typed, above}
