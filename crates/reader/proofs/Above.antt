@@ -19,7 +19,7 @@ use base.Fml.{Lft, Share, Fml, ftrue, flft}
 use prog.Memory.{Memory}
 use prog.Model.{Model}
 use prog.Routine.{Name, Routine, Env}
-use prog.Wp.{Heap, Calls, Loops, WpFn, Tables, Closed}
+use prog.Wp.{Heap, Calls, Loops, WpFn, Closed}
 use ghost.Atoms.{Atoms, sem}
 use contract.Lifetimes.{Lfts, Shares}
 use contract.Monad.{Fun, fact}
