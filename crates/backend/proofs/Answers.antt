@@ -5,7 +5,7 @@ use mathlib.Core.List.{List, _++_, map}
 use Prim.Native.Nat.{ℕ, suc, _-_, _/_, _^_}
 use native.Mathlib.Nat.{mul-div-cancel}
 use native.Mathlib.Omega.{arith}
-use lib.ListN.{length, getD, take, drop}
+use lib.ListN.{length, getD, drop}
 use borrow.Author.Tests.{not-true, not-false}
 use Rattle.util.specs.Lists.{column, total, split, firstNo}
 use Rattle.util.proofs.First.{first-none, first-next, first-number, first-yes, first-append, first-refused}
@@ -15,8 +15,7 @@ use Rattle.backend.specs.Layout.{laidOut, nodesInRange}
 use Rattle.backend.specs.Questions.{q1, q2, q3, q4, q3-bodies, q4-bodies, q5, q6, q7, q8, q9, q10, cyclesGood, q11, layoutQuestions, bodyQuestions, circuitQuestions}
 use Rattle.backend.specs.Degrees.{degreesFit}
 use Rattle.backend.specs.Laid.{Laid, Counted}
-use Rattle.backend.specs.declared.Part.{Part}
-use Rattle.backend.proofs.Sections.{Placed, body-part, body-length, laid}
+use Rattle.backend.proofs.Sections.{body-length, laid}
 use Rattle.backend.proofs.Numbers.{counted}
 use Rattle.backend.proofs.Degree.{ten-is}
 
@@ -75,38 +74,30 @@ all-laid ws h =
 
 -- ---- 7, 8 and 11
 
-pub seven : (ws : List ℕ) (n c p : Part) → Placed ws 3 n → Placed ws 4 c → Placed ws 6 p → (r : Bool)
-    → r ≡ laidOut (take (n .end - n .start) (drop (n .start) ws))
-    (take (c .end - c .start) (drop (c .start) ws) ++ take (p .end - p .start) (drop (p .start) ws))
-    → r ≡ q7 (circuitOf ws)
+pub seven : (ws n c p : List ℕ) → n ≡ bodyOf ws Section.nodes → c ≡ bodyOf ws Section.constraints → p ≡ bodyOf ws Section.pairs → (r : Bool)
+    → r ≡ laidOut n (c ++ p) → r ≡ q7 (circuitOf ws)
 unfolding q7 circuitOf
-seven ws n c p a b d r e = e ∙ ap₂ laidOut (body-part ws 3 n a) (ap₂ _++_ (body-part ws 4 c b) (body-part ws 6 p d))
+seven ws n c p a b d r e = e ∙ ap₂ laidOut a (ap₂ _++_ b d)
 
-pub eight : (ws : List ℕ) (n : Part) → Placed ws 3 n → (polys user : ℕ) (r : Bool) → polys ≡ numPoly (circuitOf ws) → user ≡ numUser (circuitOf ws)
-    → r ≡ nodesInRange polys user (getD ws 0 0) (take (n .end - n .start) (drop (n .start) ws)) → r ≡ q8 (circuitOf ws)
+pub eight : (ws n : List ℕ) → n ≡ bodyOf ws Section.nodes → (polys user : ℕ) (r : Bool) → polys ≡ numPoly (circuitOf ws) → user ≡ numUser (circuitOf ws)
+    → r ≡ nodesInRange polys user (getD ws 0 0) n → r ≡ q8 (circuitOf ws)
 unfolding q8 circuitOf
 eight ws n a polys user r p u e =
-    e ∙ ap₂ (λ (polys : ℕ) (user : ℕ). nodesInRange polys user (getD ws 0 0) (take (n .end - n .start) (drop (n .start) ws))) p u
-    ∙ ap (nodesInRange (numPoly (circuitOf ws)) (numUser (circuitOf ws)) (getD ws 0 0)) (body-part ws 3 n a)
+    e ∙ ap₂ (λ (polys : ℕ) (user : ℕ). nodesInRange polys user (getD ws 0 0) n) p u
+    ∙ ap (nodesInRange (numPoly (circuitOf ws)) (numUser (circuitOf ws)) (getD ws 0 0)) a
 
 cell-count : (ws : List ℕ) → Laid ws → length (bodyOf ws Section.cells) / 2 ≡ entries ws Section.cells
 cell-count ws a = ap (λ (n : ℕ). n / 2) (body-length ws a Section.cells) ∙ mul-div-cancel (entries ws Section.cells) (omega arith)
 
 -- the cells are as many as the lengths sum to
-pub cells-enough : (ws : List ℕ) (l c : Part) → Laid ws → Counted ws → Placed ws 7 l → Placed ws 8 c
-    → total (take (l .end - l .start) (drop (l .start) ws)) ≡ length (take (c .end - c .start) (drop (c .start) ws)) / 2
-cells-enough ws l c a k p q =
-    ap total (body-part ws 7 l p) ∙ sym (k .cells-are)
-    ∙ sym (ap (λ (ns : List ℕ). length ns / 2) (body-part ws 8 c q) ∙ cell-count ws a)
+pub cells-enough : (ws l c : List ℕ) → Laid ws → Counted ws → l ≡ bodyOf ws Section.lengths → c ≡ bodyOf ws Section.cells → total l ≡ length c / 2
+cells-enough ws l c a k p q = ap total p ∙ sym (k .cells-are) ∙ sym (ap (λ (ns : List ℕ). length ns / 2) q ∙ cell-count ws a)
 
-pub eleven : (ws : List ℕ) (l c : Part) → Laid ws → Placed ws 7 l → Placed ws 8 c → (polys rows : ℕ) (r : Bool) → polys ≡ numPoly (circuitOf ws)
-    → rows ≡ 2 ^ wordK ws
-    → r ≡ cyclesGood polys rows (split (take (l .end - l .start) (drop (l .start) ws)) (cellsOf (take (c .end - c .start) (drop (c .start) ws))))
-    → r ≡ q11 (circuitOf ws)
+pub eleven : (ws l c : List ℕ) → Laid ws → l ≡ bodyOf ws Section.lengths → c ≡ bodyOf ws Section.cells → (polys rows : ℕ) (r : Bool)
+    → polys ≡ numPoly (circuitOf ws) → rows ≡ 2 ^ wordK ws → r ≡ cyclesGood polys rows (split l (cellsOf c)) → r ≡ q11 (circuitOf ws)
 unfolding q11 circuitOf
 eleven ws l c a p q polys rows r m n e =
-    e
-    ∙ ap₂ (λ (lengths : List ℕ) (cells : List ℕ). cyclesGood polys rows (split lengths (cellsOf cells))) (body-part ws 7 l p) (body-part ws 8 c q)
+    e ∙ ap₂ (λ (lengths : List ℕ) (cells : List ℕ). cyclesGood polys rows (split lengths (cellsOf cells))) p q
     ∙ ap₂ (λ (polys : ℕ) (rows : ℕ). cyclesGood polys rows (split (bodyOf ws Section.lengths) (cellsOf (bodyOf ws Section.cells)))) m n
     ∙ ap (λ (n : ℕ). cyclesGood (numPoly (circuitOf ws)) (2 ^ wordK ws) (split (bodyOf ws Section.lengths) (column (cellAt (bodyOf ws Section.cells)) n)))
     (cell-count ws a)
@@ -117,21 +108,13 @@ pair-count : (ws : List ℕ) → Laid ws → length (bodyOf ws Section.pairs) / 
 pair-count ws a = ap (λ (n : ℕ). n / 2) (body-length ws a Section.pairs) ∙ mul-div-cancel (entries ws Section.pairs) (omega arith)
 
 -- the pairs are as many as the widths sum to
-pub pairs-enough : (ws : List ℕ) (w p : Part) → Laid ws → Counted ws → Placed ws 5 w → Placed ws 6 p
-    → total (take (w .end - w .start) (drop (w .start) ws)) ≡ length (take (p .end - p .start) (drop (p .start) ws)) / 2
-pairs-enough ws w p a k d e =
-    ap total (body-part ws 5 w d) ∙ sym (k .pairs-are)
-    ∙ sym (ap (λ (ns : List ℕ). length ns / 2) (body-part ws 6 p e) ∙ pair-count ws a)
+pub pairs-enough : (ws w p : List ℕ) → Laid ws → Counted ws → w ≡ bodyOf ws Section.widths → p ≡ bodyOf ws Section.pairs → total w ≡ length p / 2
+pairs-enough ws w p a k d e = ap total d ∙ sym (k .pairs-are) ∙ sym (ap (λ (ns : List ℕ). length ns / 2) e ∙ pair-count ws a)
 
-pub ten : (ws : List ℕ) (n c w p : Part) → Laid ws → Placed ws 3 n → Placed ws 4 c → Placed ws 5 w → Placed ws 6 p → (r : Bool)
-    → r ≡ degreesFit (statedOf (getD ws 1 0))
-    (map (exprOf (take (n .end - n .start) (drop (n .start) ws))) (take (c .end - c .start) (drop (c .start) ws)))
-    (split (take (w .end - w .start) (drop (w .start) ws))
-    (pairsOf (take (n .end - n .start) (drop (n .start) ws)) (take (p .end - p .start) (drop (p .start) ws))))
-    → r ≡ q10 (circuitOf ws)
+pub ten : (ws n c w p : List ℕ) → Laid ws → n ≡ bodyOf ws Section.nodes → c ≡ bodyOf ws Section.constraints → w ≡ bodyOf ws Section.widths
+    → p ≡ bodyOf ws Section.pairs → (r : Bool) → r ≡ degreesFit (statedOf (getD ws 1 0)) (map (exprOf n) c) (split w (pairsOf n p)) → r ≡ q10 (circuitOf ws)
 unfolding circuitOf
-ten ws n c w p a x y z q r e =
-    e ∙ rw (body-part ws 3 n x, body-part ws 4 c y, body-part ws 5 w z, body-part ws 6 p q, pair-count ws a) (sym (ten-is (circuitOf ws)))
+ten ws n c w p a x y z q r e = e ∙ rw (x, y, z, q, pair-count ws a) (sym (ten-is (circuitOf ws)))
 
 -- ---- 5 to 11, in their order
 

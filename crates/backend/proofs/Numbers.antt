@@ -2,9 +2,9 @@
 use mathlib.Core.Path.{_≡_, refl, sym, ap, ap₂, _∙_}
 use mathlib.Core.Bool.{Bool, true, false, not, _&&_, _||_}
 use mathlib.Core.List.{List, [], _∷_, map}
-use Prim.Native.Nat.{ℕ, suc, _+_, _-_, _*_, _%_, _^_, _≤_, _<_, min}
+use Prim.Native.Nat.{ℕ, suc, _+_, _-_, _*_, _/_, _%_, _^_, _≤_, _<_, min}
 use native.Mathlib.Omega.{arith, min-cases}
-use native.Mathlib.Nat.{one-mul, mul-one, add-zero, mul-le-mul-right, min-eq-left}
+use native.Mathlib.Nat.{one-mul, mul-one, add-zero, mul-div-cancel, min-eq-left}
 use lib.ListN.{length, getD, take, drop, length-map, length-drop}
 use lib.Seq.{take-all, length-take-le}
 use lib.Dec.{eqb, leb, ltb, leb·suc-suc}
@@ -19,13 +19,11 @@ use Rattle.util.proofs.Columns.{column-length, column-cong, column-of, map-colu
 use Rattle.util.proofs.Runs.{take-column}
 use Rattle.util.proofs.Walks.{all-map, all-same, all-parts}
 use Rattle.expression.specs.Nodes.{wordOf, exprOf}
-use Rattle.backend.specs.Circuit.{Section, sectionAt, entry, entries, wordK, bodyOf, word, wordEach, Round, roundAt, Pair, pairAt, circuitOf, numWitness, numUser, numPoly}
+use Rattle.backend.specs.Circuit.{Section, entry, entries, wordK, bodyOf, word, wordEach, Round, roundAt, Pair, pairAt, circuitOf, numWitness, numUser, numPoly}
 use Rattle.backend.specs.Layout.{kindIs}
 use Rattle.backend.specs.Questions.{q3-bodies, q4-bodies, roundsGood, small, smallValue, valuesSmall, q5, q6, q9}
-use Rattle.backend.specs.Laid.{Laid, Counted, partOf, infoOf}
-use Rattle.backend.specs.declared.Part.{Part}
-use Rattle.backend.specs.declared.Info.{Info}
-use Rattle.backend.proofs.Sections.{Placed, body-part, body-length, part-length}
+use Rattle.backend.specs.Laid.{Laid, Counted}
+use Rattle.backend.proofs.Sections.{body-length}
 
 -- ---- a section's words, entry by entry
 
@@ -40,57 +38,41 @@ each-one body =
 
 -- ---- sums
 
--- a function of a section's part and its count, taken for the body and its entries
-module _ (ws : List ℕ) (p : Part) (s : ℕ) (q : Placed ws s p) where
-  of-section : {A : Type 0} (f : List ℕ → ℕ → A) → f (take (p .end - p .start) (drop (p .start) ws)) (p .count) ≡ f (bodyOf ws (sectionAt s)) (entries ws (sectionAt s))
-  of-section f = ap₂ f (body-part ws s p q) (ap (λ (p : Part). p .count) (q .0))
+-- of a section of one word an entry
+pub single-sum : (body words : List ℕ) → words ≡ body → (limit r : ℕ) → r ≡ min (total (wordEach words 1 0 (length words))) limit
+    → r ≡ min (total body) limit
+single-sum body words is limit r e = e ∙ ap (λ (ns : List ℕ). min (total ns) limit) (each-one words ∙ is)
 
-module _ (ws : List ℕ) (l : Laid ws) (p : Part) where
-  -- the entries lie in the part
-  pub entries-fit : (s : ℕ) → Placed ws s p → (size : ℕ) → entry (wordK ws) (sectionAt s) ≡ size
-      → p .count * size ≤ length (take (p .end - p .start) (drop (p .start) ws))
-  entries-fit s q size e =
-      let n : length (take (p .end - p .start) (drop (p .start) ws)) ≡ p .count * size = part-length ws s p l q ∙ ap (λ (e : ℕ). p .count * e) e in
-      omega arith
+-- the words of the rounds, two a round
+module _ (ws : List ℕ) (l : Laid ws) (words : List ℕ) (is : words ≡ bodyOf ws Section.rounds) where
+  round-count : length words / 2 ≡ entries ws Section.rounds
+  round-count =
+      ap (λ (ns : List ℕ). length ns / 2) is ∙ ap (λ (n : ℕ). n / 2) (body-length ws l Section.rounds)
+      ∙ mul-div-cancel (entries ws Section.rounds) (omega arith)
 
   -- there is a round
-  pub some-rounds : Placed ws 2 p → 1 ≤ p .count
-  some-rounds q = let e : p .count ≡ entries ws Section.rounds = ap (λ (p : Part). p .count) (q .0) in let h = l .some-rounds in omega arith
+  pub some-rounds : 1 ≤ length words / 2
+  some-rounds = let e = round-count in let h = l .some-rounds in omega arith
 
-  pub witness-sum : Placed ws 2 p → (limit r : ℕ) → r ≡ min (total (wordEach (take (p .end - p .start) (drop (p .start) ws)) 2 0 (p .count))) limit
-      → r ≡ min (numWitness (circuitOf ws)) limit
+  -- a function of the words and of their half, taken for the body and its entries
+  of-rounds : {A : Type 0} (f : List ℕ → ℕ → A) → f words (length words / 2) ≡ f (bodyOf ws Section.rounds) (entries ws Section.rounds)
+  of-rounds f = ap₂ f is round-count
+
+  pub witness-sum : (limit r : ℕ) → r ≡ min (total (wordEach words 2 0 (length words / 2))) limit → r ≡ min (numWitness (circuitOf ws)) limit
   unfolding numWitness circuitOf
-  witness-sum q limit r e =
+  witness-sum limit r e =
       e
       ∙ ap (λ (ns : List ℕ). min (total ns) limit)
-      (of-section ws p 2 q (λ body n. wordEach body 2 0 n) ∙ each-first (bodyOf ws Section.rounds) 2 (entries ws Section.rounds)
+      (of-rounds (λ body n. wordEach body 2 0 n) ∙ each-first (bodyOf ws Section.rounds) 2 (entries ws Section.rounds)
       ∙ sym (map-column (λ (r : Round). r .witness) (roundAt (bodyOf ws Section.rounds)) (entries ws Section.rounds)))
 
-  pub user-sum : Placed ws 2 p → (limit r : ℕ) → r ≡ min (total (wordEach (take (p .end - p .start) (drop (p .start) ws)) 2 1 (p .count))) limit
-      → r ≡ min (numUser (circuitOf ws)) limit
+  pub user-sum : (limit r : ℕ) → r ≡ min (total (wordEach words 2 1 (length words / 2))) limit → r ≡ min (numUser (circuitOf ws)) limit
   unfolding numUser circuitOf
-  user-sum q limit r e =
+  user-sum limit r e =
       e
       ∙ ap (λ (ns : List ℕ). min (total ns) limit)
-      (of-section ws p 2 q (λ body n. wordEach body 2 1 n)
+      (of-rounds (λ body n. wordEach body 2 1 n)
       ∙ sym (map-column (λ (r : Round). r .challenges) (roundAt (bodyOf ws Section.rounds)) (entries ws Section.rounds)))
-
-  -- sections of one word an entry
-  part-each : (s : ℕ) → Placed ws s p → entry (wordK ws) (sectionAt s) ≡ 1
-      → wordEach (take (p .end - p .start) (drop (p .start) ws)) 1 0 (p .count) ≡ bodyOf ws (sectionAt s)
-  part-each s q e =
-      of-section ws p s q (λ body n. wordEach body 1 0 n)
-      ∙ ap (wordEach (bodyOf ws (sectionAt s)) 1 0)
-      (sym (body-length ws l (sectionAt s) ∙ ap (λ (e : ℕ). entries ws (sectionAt s) * e) e ∙ mul-one (entries ws (sectionAt s))))
-      ∙ each-one (bodyOf ws (sectionAt s))
-
-  pub plain-sum : (s : ℕ) → Placed ws s p → entry (wordK ws) (sectionAt s) ≡ 1 → (limit r : ℕ)
-      → r ≡ min (total (wordEach (take (p .end - p .start) (drop (p .start) ws)) 1 0 (p .count))) limit
-      → r ≡ min (total (bodyOf ws (sectionAt s))) limit
-  plain-sum s q e limit r h = h ∙ ap (λ (ns : List ℕ). min (total ns) limit) (part-each s q e)
-
-pub fewer-fit : (n len size : ℕ) → n * size ≤ len → (n - 1) * size ≤ len
-fewer-fit n len size h = let m : (n - 1) * size ≤ n * size = mul-le-mul-right size (omega arith) in omega arith
 
 -- as many words as entries
 single-length : (ws : List ℕ) → Laid ws → (s : Section) → entry (wordK ws) s ≡ 1 → length (bodyOf ws s) ≡ entries ws s
@@ -101,10 +83,10 @@ single-length ws l s e = body-length ws l s ∙ ap (λ (e : ℕ). entries ws s *
 below-leb : (w m : ℕ) → ltb w (suc m) ≡ leb w m
 below-leb w m = leb·suc-suc w m
 
-pub narrow-widths : (ws : List ℕ) (p : Part) → Placed ws 5 p → (r : Bool) → r ≡ allOf (λ w. ltb w 9) (take (p .end - p .start) (drop (p .start) ws))
+pub narrow-widths : (ws words : List ℕ) → words ≡ bodyOf ws Section.widths → (r : Bool) → r ≡ allOf (λ w. ltb w 9) words
     → r ≡ allOf (λ w. leb w 8) (bodyOf ws Section.widths)
-narrow-widths ws p q r e =
-    e ∙ ap (allOf (λ (w : ℕ). ltb w 9)) (body-part ws 5 p q)
+narrow-widths ws words is r e =
+    e ∙ ap (allOf (λ (w : ℕ). ltb w 9)) is
     ∙ all-same (λ (w : ℕ). ltb w 9) (λ (w : ℕ). leb w 8) (λ w. below-leb w 8) (bodyOf ws Section.widths)
 
 -- what 4 compares with, and what it counts, when the sum stops one past it
@@ -160,22 +142,21 @@ counted ws three four =
 
 -- ---- 5
 
-pub rounds-tested : (ws : List ℕ) (p : Part) → Placed ws 2 p → (w u : Bool)
-    → w ≡ allOf (ltb 0) (wordEach (take (p .end - p .start) (drop (p .start) ws)) 2 0 (p .count))
-    → u ≡ allOf (ltb 0) (wordEach (take (p .end - p .start) (drop (p .start) ws)) 2 1 (p .count - 1))
+pub rounds-tested : (ws : List ℕ) → Laid ws → (words : List ℕ) → words ≡ bodyOf ws Section.rounds → (w u : Bool)
+    → w ≡ allOf (ltb 0) (wordEach words 2 0 (length words / 2)) → u ≡ allOf (ltb 0) (wordEach words 2 1 (length words / 2 - 1))
     → (w && u) ≡ roundsGood (circuitOf ws .rounds)
 unfolding circuitOf
-rounds-tested ws p q w u a b =
+rounds-tested ws l words is w u a b =
     let body : List ℕ = bodyOf ws Section.rounds in
     let n : ℕ = entries ws Section.rounds in
     ap₂ _&&_
     (a
     ∙ ap (allOf (ltb 0))
-    (of-section ws p 2 q (λ body n. wordEach body 2 0 n) ∙ each-first body 2 n ∙ sym (map-column (λ (r : Round). r .witness) (roundAt body) n))
+    (of-rounds ws l words is (λ body n. wordEach body 2 0 n) ∙ each-first body 2 n ∙ sym (map-column (λ (r : Round). r .witness) (roundAt body) n))
     ∙ all-map (ltb 0) (λ (r : Round). r .witness) (column (roundAt body) n))
     (b
     ∙ ap (allOf (ltb 0))
-    (of-section ws p 2 q (λ body n. wordEach body 2 1 (n - 1)) ∙ sym (map-column (λ (r : Round). r .challenges) (roundAt body) (n - 1)))
+    (of-rounds ws l words is (λ body n. wordEach body 2 1 (n - 1)) ∙ sym (map-column (λ (r : Round). r .challenges) (roundAt body) (n - 1)))
     ∙ all-map (ltb 0) (λ (r : Round). r .challenges) (column (roundAt body) (n - 1))
     ∙ ap (allOf (λ (r : Round). ltb 0 (r .challenges)))
     (sym (ap (λ (m : ℕ). take (m - 1) (column (roundAt body) n)) (column-length (roundAt body) n) ∙ take-column (roundAt body) (n - 1) n (omega arith))))
@@ -183,13 +164,12 @@ rounds-tested ws p q w u a b =
 below-rows : (n rows : ℕ) → 0 < rows → ltb n rows ≡ leb n (rows - 1)
 below-rows n rows h = let e : rows ≡ suc (rows - 1) = omega arith in ap (ltb n) e ∙ leb·suc-suc n (rows - 1)
 
-pub five : (ws : List ℕ) (p : Part) → Placed ws 0 p → (rows : ℕ) (good short : Bool) → good ≡ roundsGood (circuitOf ws .rounds)
-    → rows ≡ 2 ^ wordK ws → short ≡ allOf (λ w. ltb w rows) (take (p .end - p .start) (drop (p .start) ws)) → (good && short) ≡ q5 (circuitOf ws)
+pub five : (ws words : List ℕ) → words ≡ bodyOf ws Section.instances → (rows : ℕ) (good short : Bool) → good ≡ roundsGood (circuitOf ws .rounds)
+    → rows ≡ 2 ^ wordK ws → short ≡ allOf (λ w. ltb w rows) words → (good && short) ≡ q5 (circuitOf ws)
 unfolding q5 circuitOf
-five ws p q rows good short a b e =
+five ws words is rows good short a b e =
     ap₂ _&&_ a
-    (e ∙ ap (allOf (λ (w : ℕ). ltb w rows)) (body-part ws 0 p q)
-    ∙ ap (λ (rows : ℕ). allOf (λ (w : ℕ). ltb w rows) (bodyOf ws Section.instances)) b
+    (e ∙ ap₂ (λ (rows : ℕ) (ns : List ℕ). allOf (λ (w : ℕ). ltb w rows) ns) b is
     ∙ all-same (λ (w : ℕ). ltb w (2 ^ wordK ws)) (λ (w : ℕ). leb w (2 ^ wordK ws - 1)) (λ w. below-rows w (2 ^ wordK ws) (pow-pos (wordK ws)))
     (bodyOf ws Section.instances))
 
@@ -218,17 +198,16 @@ module _ (nodes : List ℕ) (i : ℕ) where
       → smallValue nodes i ≡ true
   value-small e = small-or-none (kindIs nodes 1 i) (kindIs nodes 10 i) (wordOf nodes i 3) (rw kind-of at e)
 
-pub six : (ws : List ℕ) (p s : Part) → Laid ws → Placed ws 1 p → Placed ws 3 s → (given values : Bool)
-    → given ≡ allOf small (take (p .end - p .start) (drop (p .start) ws))
-    → values ≡ valuesSmall (take (s .end - s .start) (drop (s .start) ws)) → (given && values) ≡ q6 (circuitOf ws)
+pub six : (ws : List ℕ) → Laid ws → (preprocess nodes : List ℕ) → preprocess ≡ bodyOf ws Section.preprocess → nodes ≡ bodyOf ws Section.nodes
+    → (given values : Bool) → given ≡ allOf small preprocess → values ≡ valuesSmall nodes → (given && values) ≡ q6 (circuitOf ws)
 unfolding q6 circuitOf
-six ws p s l q r given values a b =
+six ws l preprocess nodes p n given values a b =
     let body : List ℕ = bodyOf ws Section.preprocess in
     let len : length body ≡ entries ws Section.preprocess * 2 ^ wordK ws = body-length ws l Section.preprocess in
     ap₂ _&&_
-    (a ∙ ap (allOf small) (body-part ws 1 p q ∙ sym (take-all (entries ws Section.preprocess * 2 ^ wordK ws) body (omega arith)))
+    (a ∙ ap (allOf small) (p ∙ sym (take-all (entries ws Section.preprocess * 2 ^ wordK ws) body (omega arith)))
     ∙ sym (all-parts small (2 ^ wordK ws) body (entries ws Section.preprocess)))
-    (b ∙ ap valuesSmall (body-part ws 3 s r))
+    (b ∙ ap valuesSmall n)
 
 -- ---- 9
 
@@ -240,11 +219,11 @@ part-lengths (n ∷ ns) xs h =
     ap₂ (λ (m : ℕ) (ms : List ℕ). m ∷ ms) (length-take-le n xs (omega arith))
     (part-lengths ns (drop n xs) (let d = length-drop n xs in omega arith))
 
-pub nine : (ws : List ℕ) (p : Part) → Laid ws → Counted ws → Placed ws 5 p → (wide : Bool)
-    → wide ≡ allOf (ltb 0) (wordEach (take (p .end - p .start) (drop (p .start) ws)) 1 0 (p .count))
+pub nine : (ws : List ℕ) → Laid ws → Counted ws → (words : List ℕ) → words ≡ bodyOf ws Section.widths → (wide : Bool)
+    → wide ≡ allOf (ltb 0) (wordEach words 1 0 (length words))
     → (wide && (ltb 0 (getD ws 11 0) || ltb 0 (getD ws 13 0) || ltb 0 (getD ws 17 0))) ≡ q9 (circuitOf ws)
 unfolding q9 circuitOf
-nine ws p l k q wide a =
+nine ws l k words is wide a =
     let widths : List ℕ = bodyOf ws Section.widths in
     let pairs : List Pair = column (pairAt (bodyOf ws Section.nodes) (bodyOf ws Section.pairs)) (entries ws Section.pairs) in
     let enough : total widths ≤ length pairs =
@@ -253,7 +232,7 @@ nine ws p l k q wide a =
     omega arith)
     in
     ap₂ _&&_
-    (a ∙ ap (allOf (ltb 0)) (part-each ws l p 5 q refl ∙ sym (part-lengths widths pairs enough)) ∙ all-map (ltb 0) (λ (l : List Pair). length l) (split widths pairs))
+    (a ∙ ap (allOf (ltb 0)) (each-one words ∙ is ∙ sym (part-lengths widths pairs enough)) ∙ all-map (ltb 0) (λ (l : List Pair). length l) (split widths pairs))
     (ap₂ _||_
     (ap₂ _||_
     (ap (ltb 0) (sym (length-map (bodyOf ws Section.constraints) (exprOf (bodyOf ws Section.nodes)) ∙ single-length ws l Section.constraints refl)))
@@ -277,30 +256,3 @@ polys ws w l e =
     ap₂ _+_
     (ap₂ _+_ (sym (single-length ws l Section.instances refl)) (sym (column-length _ (entries ws Section.preprocess))))
     e
-
-pub info-is : (ws : List ℕ) (rows witness user polys : ℕ) (instances preprocess rounds nodes constraints widths pairs lengths cells : Part)
-    → rows ≡ 2 ^ wordK ws → instances ≡ partOf ws Section.instances → preprocess ≡ partOf ws Section.preprocess → rounds ≡ partOf ws Section.rounds
-    → nodes ≡ partOf ws Section.nodes → constraints ≡ partOf ws Section.constraints → widths ≡ partOf ws Section.widths
-    → pairs ≡ partOf ws Section.pairs → lengths ≡ partOf ws Section.lengths → cells ≡ partOf ws Section.cells
-    → witness ≡ numWitness (circuitOf ws) → user ≡ numUser (circuitOf ws) → polys ≡ numPoly (circuitOf ws)
-    → _≡_ {A = Info}
-    (record {
-      k = getD ws 0 0;
-      rows = rows;
-      instances = instances;
-      preprocess = preprocess;
-      rounds = rounds;
-      nodes = nodes;
-      constraints = constraints;
-      widths = widths;
-      pairs = pairs;
-      lengths = lengths;
-      cells = cells;
-      witness = witness;
-      user = user;
-      polys = polys;
-    })
-    (infoOf ws)
-unfolding infoOf
-info-is ws rows witness user polys instances preprocess rounds nodes constraints widths pairs lengths cells a b c d e f g h i j k l m =
-    rw (a, b, c, d, e, f, g, h, i, j, k, l, m)

@@ -334,10 +334,3 @@ unfolding bodyOf
 body-length ws l s =
     length-take (wordsIn ws s) (drop (startOf ws s) ws)
     ∙ (let q = length-drop (startOf ws s) ws in let i = end-inside ws l s in omega arith)
-
--- the entries of a section fill the part
-pub part-length : (ws : List ℕ) (s : ℕ) (p : Part) → Laid ws → Placed ws s p
-    → length (take (p .end - p .start) (drop (p .start) ws)) ≡ p .count * entry (wordK ws) (sectionAt s)
-part-length ws s p l q =
-    ap length (body-part ws s p q) ∙ body-length ws l (sectionAt s)
-    ∙ ap (λ (p : Part). p .count * entry (wordK ws) (sectionAt s)) (sym (q .0))

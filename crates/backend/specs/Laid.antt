@@ -1,13 +1,12 @@
 -- What yes to questions 1 to 4 tells: where the sections lie, and their limits. Assumes nothing.
 use mathlib.Core.Path.{_≡_}
 use mathlib.Core.List.{List}
-use Prim.Native.Nat.{ℕ, _+_, _^_, _≤_}
+use Prim.Native.Nat.{ℕ, _+_, _≤_}
 use lib.ListN.{length, getD}
-use Rattle.backend.specs.Circuit.{Section, contents, wordK, startOf, entries, wordsIn, bodyOf, circuitOf, numWitness, numUser, numPoly}
+use Rattle.backend.specs.Circuit.{Section, contents, wordK, startOf, entries, wordsIn, bodyOf, circuitOf, numWitness, numUser}
 use Rattle.util.specs.Lists.{total, All}
 use Rattle.backend.specs.Questions.{largestK}
 use Rattle.backend.specs.declared.Part.{Part}
-use Rattle.backend.specs.declared.Info.{Info}
 
 -- the word after the last of a section
 abbrev pub endOf : List ℕ → Section → ℕ
@@ -51,23 +50,3 @@ pub record Counted (ws : List ℕ) : Type 0 where
   pub few-in-cycles : total (bodyOf ws Section.lengths) ≤ 4096
   pub pairs-are : entries ws Section.pairs ≡ total (bodyOf ws Section.widths)
   pub cells-are : entries ws Section.cells ≡ total (bodyOf ws Section.lengths)
-
--- the numbers of a circuit
-unfoldable pub infoOf : List ℕ → Info
-infoOf ws =
-    record {
-      k = wordK ws;
-      rows = 2 ^ wordK ws;
-      instances = partOf ws Section.instances;
-      preprocess = partOf ws Section.preprocess;
-      rounds = partOf ws Section.rounds;
-      nodes = partOf ws Section.nodes;
-      constraints = partOf ws Section.constraints;
-      widths = partOf ws Section.widths;
-      pairs = partOf ws Section.pairs;
-      lengths = partOf ws Section.lengths;
-      cells = partOf ws Section.cells;
-      witness = numWitness (circuitOf ws);
-      user = numUser (circuitOf ws);
-      polys = numPoly (circuitOf ws);
-    }

@@ -1,20 +1,10 @@
 // The numbers of a circuit, from its bodies.
-use backend::Info;
-use contents::CELLS;
-use contents::CONSTRAINTS;
-use contents::INSTANCES;
-use contents::LENGTHS;
-use contents::NODES;
-use contents::PAIRS;
-use contents::PREPROCESS;
-use contents::ROUNDS;
-use contents::WIDTHS;
-use contents::section;
+use reader::rounds_of;
 use words::total_to;
 ghost use mathlib.Core.Path.{_≡_};
 ghost use Prim.Native.Nat.{_^_, min};
 ghost use Rattle.backend.specs.Circuit.{wordK, circuitOf, numWitness, numUser, numPoly};
-ghost use Rattle.backend.specs.Laid.{Laid, Counted, infoOf};
+ghost use Rattle.backend.specs.Laid.{Laid, Counted};
 
 // Rows: 2^k.
 pub fn rows(circuit: &[u64]) -> u64
@@ -30,10 +20,8 @@ pub fn witness_to(circuit: &[u64], limit: u64) -> u64
     requires { ⌜ Laid (now circuit) ⌝ }
     ensures { λ r. ⌜ r ≡ min (numWitness (circuitOf (now (circuit .entry)))) limit ⌝ }
 {
-    let rounds = section(circuit, ROUNDS);
-    let start = rounds.start;
-    let end = rounds.end;
-    total_to(&circuit[start..end], 2, 0, rounds.count, limit)
+    let rounds = rounds_of(circuit);
+    total_to(rounds, 2, 0, rounds.len() / 2, limit)
 }
 
 // User challenges in all, the limit where they are more.
@@ -41,10 +29,8 @@ pub fn user_to(circuit: &[u64], limit: u64) -> u64
     requires { ⌜ Laid (now circuit) ⌝ }
     ensures { λ r. ⌜ r ≡ min (numUser (circuitOf (now (circuit .entry)))) limit ⌝ }
 {
-    let rounds = section(circuit, ROUNDS);
-    let start = rounds.start;
-    let end = rounds.end;
-    total_to(&circuit[start..end], 2, 1, rounds.count, limit)
+    let rounds = rounds_of(circuit);
+    total_to(rounds, 2, 1, rounds.len() / 2, limit)
 }
 
 // Witness columns in all.
@@ -70,41 +56,4 @@ pub fn num_poly(circuit: &[u64]) -> u64
 {
     let witness = num_witness(circuit);
     circuit[3] + circuit[5] + witness
-}
-
-// All of them.
-pub fn circuit_info(circuit: &[u64]) -> Info
-    requires { ⌜ Laid (now circuit) × Counted (now circuit) ⌝ }
-    ensures { λ r. ⌜ r ≡ infoOf (now (circuit .entry)) ⌝ }
-{
-    let k = circuit[0];
-    let rows = rows(circuit);
-    let instances = section(circuit, INSTANCES);
-    let preprocess = section(circuit, PREPROCESS);
-    let rounds = section(circuit, ROUNDS);
-    let nodes = section(circuit, NODES);
-    let constraints = section(circuit, CONSTRAINTS);
-    let widths = section(circuit, WIDTHS);
-    let pairs = section(circuit, PAIRS);
-    let lengths = section(circuit, LENGTHS);
-    let cells = section(circuit, CELLS);
-    let witness = num_witness(circuit);
-    let user = num_user(circuit);
-    let polys = num_poly(circuit);
-    Info {
-        k: k,
-        rows: rows as usize,
-        instances: instances,
-        preprocess: preprocess,
-        rounds: rounds,
-        nodes: nodes,
-        constraints: constraints,
-        widths: widths,
-        pairs: pairs,
-        lengths: lengths,
-        cells: cells,
-        witness: witness as usize,
-        user: user as usize,
-        polys: polys as usize,
-    }
 }

@@ -1,10 +1,9 @@
 // Question 10, the limits of the degrees, put to the sections of circuit words.
-use contents::CONSTRAINTS;
-use contents::NODES;
-use contents::PAIRS;
-use contents::WIDTHS;
-use contents::section;
 use degrees::degrees_fit;
+use reader::constraints_of;
+use reader::nodes_of;
+use reader::pairs_of;
+use reader::widths_of;
 ghost use mathlib.Core.Path.{_≡_};
 ghost use mathlib.Core.Bool.{true};
 ghost use Rattle.backend.specs.Circuit.{circuitOf};
@@ -17,23 +16,9 @@ pub fn question_10(circuit: &[u64]) -> bool
     ensures { λ r. ⌜ r ≡ q10 (circuitOf (now (circuit .entry))) ⌝ }
 {
     let stated = circuit[1];
-    let nodes = section(circuit, NODES);
-    let users = section(circuit, CONSTRAINTS);
-    let widths = section(circuit, WIDTHS);
-    let lookups = section(circuit, PAIRS);
-    let nodes_start = nodes.start;
-    let nodes_end = nodes.end;
-    let users_start = users.start;
-    let users_end = users.end;
-    let widths_start = widths.start;
-    let widths_end = widths.end;
-    let lookups_start = lookups.start;
-    let lookups_end = lookups.end;
-    degrees_fit(
-        &circuit[nodes_start..nodes_end],
-        &circuit[users_start..users_end],
-        &circuit[widths_start..widths_end],
-        &circuit[lookups_start..lookups_end],
-        stated,
-    )
+    let nodes = nodes_of(circuit);
+    let users = constraints_of(circuit);
+    let widths = widths_of(circuit);
+    let pairs = pairs_of(circuit);
+    degrees_fit(nodes, users, widths, pairs, stated)
 }

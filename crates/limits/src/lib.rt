@@ -1,9 +1,8 @@
 // 3 and then 4 put to the bodies.
 use bodies::user_to;
 use bodies::witness_to;
-use contents::LENGTHS;
-use contents::WIDTHS;
-use contents::section;
+use reader::lengths_of;
+use reader::widths_of;
 use words::all_below;
 use words::total_to;
 ghost use mathlib.Core.Path.{_≡_};
@@ -19,10 +18,8 @@ fn widths_to(circuit: &[u64], limit: u64) -> u64
     requires { ⌜ Laid (now circuit) ⌝ }
     ensures { λ r. ⌜ r ≡ min (total (bodyOf (now (circuit .entry)) Section.widths)) limit ⌝ }
 {
-    let widths = section(circuit, WIDTHS);
-    let start = widths.start;
-    let end = widths.end;
-    total_to(&circuit[start..end], 1, 0, widths.count, limit)
+    let widths = widths_of(circuit);
+    total_to(widths, 1, 0, widths.len(), limit)
 }
 
 // The sum of the cycle lengths, the limit where it is more.
@@ -30,10 +27,8 @@ fn lengths_to(circuit: &[u64], limit: u64) -> u64
     requires { ⌜ Laid (now circuit) ⌝ }
     ensures { λ r. ⌜ r ≡ min (total (bodyOf (now (circuit .entry)) Section.lengths)) limit ⌝ }
 {
-    let lengths = section(circuit, LENGTHS);
-    let start = lengths.start;
-    let end = lengths.end;
-    total_to(&circuit[start..end], 1, 0, lengths.count, limit)
+    let lengths = lengths_of(circuit);
+    total_to(lengths, 1, 0, lengths.len(), limit)
 }
 
 // "width 0–8"
@@ -41,10 +36,7 @@ fn widths_narrow(circuit: &[u64]) -> bool
     requires { ⌜ Laid (now circuit) ⌝ }
     ensures { λ r. ⌜ r ≡ allOf (λ w. leb w 8) (bodyOf (now (circuit .entry)) Section.widths) ⌝ }
 {
-    let widths = section(circuit, WIDTHS);
-    let start = widths.start;
-    let end = widths.end;
-    all_below(&circuit[start..end], 9)
+    all_below(widths_of(circuit), 9)
 }
 
 // 3, put to the bodies.

@@ -1,11 +1,10 @@
 // Questions 5, 6 and 9.
 use bodies::rows;
-use contents::INSTANCES;
-use contents::NODES;
-use contents::PREPROCESS;
-use contents::ROUNDS;
-use contents::WIDTHS;
-use contents::section;
+use reader::instances_of;
+use reader::nodes_of;
+use reader::preprocess_of;
+use reader::rounds_of;
+use reader::widths_of;
 use words::all_below;
 use words::all_positive;
 ghost use mathlib.Core.Path.{_≡_};
@@ -21,11 +20,10 @@ fn rounds_good(circuit: &[u64]) -> bool
     requires { ⌜ Laid (now circuit) ⌝ }
     ensures { λ r. ⌜ r ≡ roundsGood (circuitOf (now (circuit .entry)) .rounds) ⌝ }
 {
-    let rounds = section(circuit, ROUNDS);
-    let start = rounds.start;
-    let end = rounds.end;
-    let witness = all_positive(&circuit[start..end], 2, 0, rounds.count);
-    let user = all_positive(&circuit[start..end], 2, 1, rounds.count - 1);
+    let rounds = rounds_of(circuit);
+    let count = rounds.len() / 2;
+    let witness = all_positive(rounds, 2, 0, count);
+    let user = all_positive(rounds, 2, 1, count - 1);
     witness & user
 }
 
@@ -36,10 +34,7 @@ pub fn question_5(circuit: &[u64]) -> bool
 {
     let good = rounds_good(circuit);
     let rows = rows(circuit);
-    let instances = section(circuit, INSTANCES);
-    let start = instances.start;
-    let end = instances.end;
-    let short = all_below(&circuit[start..end], rows);
+    let short = all_below(instances_of(circuit), rows);
     good & short
 }
 
@@ -67,14 +62,8 @@ pub fn question_6(circuit: &[u64]) -> bool
     requires { ⌜ Laid (now circuit) ⌝ }
     ensures { λ r. ⌜ r ≡ q6 (circuitOf (now (circuit .entry))) ⌝ }
 {
-    let preprocess = section(circuit, PREPROCESS);
-    let start = preprocess.start;
-    let end = preprocess.end;
-    let given = all_below(&circuit[start..end], MODULUS);
-    let nodes = section(circuit, NODES);
-    let first = nodes.start;
-    let last = nodes.end;
-    let values = values_small(&circuit[first..last]);
+    let given = all_below(preprocess_of(circuit), MODULUS);
+    let values = values_small(nodes_of(circuit));
     given & values
 }
 
@@ -83,10 +72,8 @@ pub fn question_9(circuit: &[u64]) -> bool
     requires { ⌜ Laid (now circuit) × Counted (now circuit) ⌝ }
     ensures { λ r. ⌜ r ≡ q9 (circuitOf (now (circuit .entry))) ⌝ }
 {
-    let widths = section(circuit, WIDTHS);
-    let start = widths.start;
-    let end = widths.end;
-    let wide = all_positive(&circuit[start..end], 1, 0, widths.count);
+    let widths = widths_of(circuit);
+    let wide = all_positive(widths, 1, 0, widths.len());
     let constraints = circuit[11];
     let lookups = circuit[13];
     let cycles = circuit[17];

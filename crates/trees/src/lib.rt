@@ -2,15 +2,14 @@
 use bodies::num_poly;
 use bodies::num_user;
 use bodies::rows;
-use contents::CELLS;
-use contents::CONSTRAINTS;
-use contents::LENGTHS;
-use contents::NODES;
-use contents::PAIRS;
-use contents::section;
 use cycles::cycles_good;
 use layout::laid_out;
 use layout::nodes_in_range;
+use reader::cells_of;
+use reader::constraints_of;
+use reader::lengths_of;
+use reader::nodes_of;
+use reader::pairs_of;
 ghost use mathlib.Core.Path.{_≡_};
 ghost use Rattle.backend.specs.Circuit.{circuitOf};
 ghost use Rattle.backend.specs.Questions.{q7, q8, q11};
@@ -21,20 +20,10 @@ pub fn question_7(circuit: &[u64]) -> bool
     requires { ⌜ Laid (now circuit) ⌝ }
     ensures { λ r. ⌜ r ≡ q7 (circuitOf (now (circuit .entry))) ⌝ }
 {
-    let nodes = section(circuit, NODES);
-    let constraints = section(circuit, CONSTRAINTS);
-    let pairs = section(circuit, PAIRS);
-    let nodes_start = nodes.start;
-    let nodes_end = nodes.end;
-    let constraints_start = constraints.start;
-    let constraints_end = constraints.end;
-    let pairs_start = pairs.start;
-    let pairs_end = pairs.end;
-    laid_out(
-        &circuit[nodes_start..nodes_end],
-        &circuit[constraints_start..constraints_end],
-        &circuit[pairs_start..pairs_end],
-    )
+    let nodes = nodes_of(circuit);
+    let constraints = constraints_of(circuit);
+    let pairs = pairs_of(circuit);
+    laid_out(nodes, constraints, pairs)
 }
 
 // Question 8.
@@ -45,10 +34,7 @@ pub fn question_8(circuit: &[u64]) -> bool
     let polys = num_poly(circuit);
     let user = num_user(circuit);
     let k = circuit[0];
-    let nodes = section(circuit, NODES);
-    let start = nodes.start;
-    let end = nodes.end;
-    nodes_in_range(&circuit[start..end], polys, user, k)
+    nodes_in_range(nodes_of(circuit), polys, user, k)
 }
 
 // Question 11.
@@ -58,16 +44,7 @@ pub fn question_11(circuit: &[u64]) -> bool
 {
     let polys = num_poly(circuit);
     let rows = rows(circuit);
-    let lengths = section(circuit, LENGTHS);
-    let cells = section(circuit, CELLS);
-    let lengths_start = lengths.start;
-    let lengths_end = lengths.end;
-    let cells_start = cells.start;
-    let cells_end = cells.end;
-    cycles_good(
-        &circuit[lengths_start..lengths_end],
-        &circuit[cells_start..cells_end],
-        polys,
-        rows,
-    )
+    let lengths = lengths_of(circuit);
+    let cells = cells_of(circuit);
+    cycles_good(lengths, cells, polys, rows)
 }

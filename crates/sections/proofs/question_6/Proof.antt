@@ -1,79 +1,30 @@
+-- The preprocess words and the nodes' values below p are question 6. Assumes nothing.
 use Rattle.backend.proofs.Numbers.{six}
 use borrow.Author.Needs.{needs}
 use Rattle.sections.proofs.question_6.Statement.{statement}
 use Rattle.sections.proofs.question_6.Tie as tie
-use Rattle.sections.proofs.question_6.Reads as reads
-use Rattle.sections.proofs.question_6.Lts as lts
-use Rattle.sections.proofs.values_small.Reads as values-small-reads
-use Rattle.contents.proofs.section.Reads as section-reads
-use Rattle.words.proofs.all_below.Reads as all-below-reads
 
--- src/lib.rt:169:9
-section-requires : tie.Need-section-requires
-section-requires c κs = search needs
+preprocess-of-requires : tie.Need-preprocess-of-requires
+preprocess-of-requires c κs = search needs
 
--- src/lib.rt:172:27
-mul-all-below : tie.Need-mul-all-below
-mul-all-below c = search needs
-
--- src/lib.rt:172:27
-sub-all-below : tie.Need-sub-all-below
-sub-all-below c = search needs
-
--- src/lib.rt:172:27
-part-all-below-start : tie.Need-part-all-below-start
-part-all-below-start c = search needs
-
--- src/lib.rt:172:27
-part-all-below-end : tie.Need-part-all-below-end
-part-all-below-end c = search needs
-
--- src/lib.rt:172:9
 all-below-requires : tie.Need-all-below-requires
 all-below-requires c κs = search needs
 
--- src/lib.rt:173:9
-section-requires-2 : tie.Need-section-requires-2
-section-requires-2 c κs = search needs
+nodes-of-requires : tie.Need-nodes-of-requires
+nodes-of-requires c κs = search needs
 
--- src/lib.rt:176:31
-mul-values-small : tie.Need-mul-values-small
-mul-values-small c = search needs
-
--- src/lib.rt:176:31
-sub-values-small : tie.Need-sub-values-small
-sub-values-small c = search needs
-
--- src/lib.rt:176:31
-part-values-small-start : tie.Need-part-values-small-start
-part-values-small-start c = search needs
-
--- src/lib.rt:176:31
-part-values-small-end : tie.Need-part-values-small-end
-part-values-small-end c = search needs
-
--- src/lib.rt:176:9
 values-small-requires : tie.Need-values-small-requires
 values-small-requires c κs = search needs
 
--- src/lib.rt:165:1
 returns : tie.Need-returns
-returns c = six (c .before .before .before .before .before .before .before .args .circuit .now) (c .before .before .before .before .before .section .result) (c .before .before .section2 .result) (c .before .before .before .before .before .before .before .pre) (c .before .before .before .before .before .section .ensures) (c .before .before .section2 .ensures) _ _ (c .before .before .before .all-below .ensures) (c .values-small .ensures)
+returns c = six _ (c .before .before .before .before .before .pre) _ _ (c .before .before .before .preprocess-of .ensures) (c .before .nodes-of .ensures) _ _ (c .before .before .all-below .ensures) (c .values-small .ensures)
 
 pub question-6-spec : {M : Type 1} → statement M
 question-6-spec =
     tie.close
     (tie.spec
-    section-requires
-    mul-all-below
-    sub-all-below
-    part-all-below-start
-    part-all-below-end
+    preprocess-of-requires
     all-below-requires
-    section-requires-2
-    mul-values-small
-    sub-values-small
-    part-values-small-start
-    part-values-small-end
+    nodes-of-requires
     values-small-requires
     returns)
