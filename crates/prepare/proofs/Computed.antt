@@ -20,11 +20,11 @@ use Rattle.backend.specs.Circuit.{Section, wordK, bodyOf, wordEach, cellAt, cel
 use Rattle.backend.specs.Constraints.{maxDegree}
 use Rattle.backend.specs.Degrees.{largestDegree, degreesFit}
 use Rattle.backend.specs.Layout.{laidOut}
+use Rattle.backend.specs.Questions.{q7}
 use Rattle.backend.specs.declared.Part.{Part}
 use Rattle.backend.proofs.Sections.{Placed, body-part}
 use Rattle.backend.proofs.Numbers.{plain-sum, not-past}
-use Rattle.backend.proofs.Answers.{seven, pairs-enough, ten}
-use Rattle.backend.proofs.Degree.{d-is}
+use Rattle.backend.proofs.Degree.{ten-is, d-is}
 use Rattle.preprocessor.specs.Compose.{numZ, composedNodes}
 use Rattle.preprocessor.specs.Count.{most}
 use Rattle.preprocessor.specs.Pieces.{numbersOf, Words, PiecesOf}
@@ -60,15 +60,34 @@ module _ (ws : List ℕ) (a : Accepted ws) where
       let t = known.cells-total ws a in
       omega arith)
 
-  pub copied-from : (p : Part) → Placed ws 8 p → (polys : ℕ) → polys ≡ numPoly (circuitOf ws) → (xs : List ℕ)
-      → xs ≡ copiedIn polys (cellsOf (take (p .end - p .start) (drop (p .start) ws)))
+  pub copied-from : (cells : List ℕ) → cells ≡ bodyOf ws Section.cells → (polys : ℕ) → polys ≡ numPoly (circuitOf ws) → (xs : List ℕ)
+      → xs ≡ copiedIn polys (cellsOf cells)
       → xs ≡ copied (circuitOf ws)
   unfolding copied
-  copied-from p q polys e xs h =
-      h ∙ ap₂ (λ (n : ℕ) (body : List ℕ). copiedIn n (cellsOf body)) e (body-part ws 8 p q)
-      ∙ ap (copiedIn (numPoly (circuitOf ws))) (sym cells-all)
+  copied-from cells q polys e xs h =
+      h ∙ ap₂ (λ (n : ℕ) (body : List ℕ). copiedIn n (cellsOf body)) e q ∙ ap (copiedIn (numPoly (circuitOf ws))) (sym cells-all)
 
   -- ---- D
+  module _ (nodes roots widths pairs : List ℕ) (x : nodes ≡ bodyOf ws Section.nodes) (y : roots ≡ bodyOf ws Section.constraints)
+      (z : widths ≡ bodyOf ws Section.widths)
+      (q : pairs ≡ bodyOf ws Section.pairs) where
+    pub degree-asked : (laidOut nodes (roots ++ pairs) ≡ true)
+        × ((total widths ≡ length pairs / 2)
+        × (degreesFit (statedOf (getD ws 1 0)) (map (exprOf nodes) roots) (split widths (pairsOf nodes pairs)) ≡ true))
+    unfolding q7 circuitOf
+    degree-asked = (
+      rw (x, y, q) (known.answers ws a .seven),
+      (
+        rw (z, q) (known.pairs-total ws a ∙ sym (known.pairs-half ws a)),
+        rw (x, y, z, q, known.pairs-half ws a) (sym (ten-is (circuitOf ws)) ∙ known.answers ws a .ten),
+      ),
+    )
+
+    pub degree-from : (r : ℕ) → r ≡ largestDegree (statedOf (getD ws 1 0)) (map (exprOf nodes) roots) (split widths (pairsOf nodes pairs))
+        → r ≡ maxDegree (circuitOf ws)
+    unfolding circuitOf
+    degree-from r e = e ∙ rw (x, y, z, q, known.pairs-half ws a) (sym (d-is (circuitOf ws)))
+
   module _ (n c w p : Part) (x : Placed ws 3 n) (y : Placed ws 4 c) (z : Placed ws 5 w) (q : Placed ws 6 p) where
     abbrev nodes : List ℕ
     nodes = take (n .end - n .start) (drop (n .start) ws)
@@ -81,25 +100,6 @@ module _ (ws : List ℕ) (a : Accepted ws) where
 
     abbrev pairs : List ℕ
     pairs = take (p .end - p .start) (drop (p .start) ws)
-
-    pub degree-asked : (laidOut nodes (roots ++ pairs) ≡ true)
-        × ((total widths ≡ length pairs / 2)
-        × (degreesFit (statedOf (getD ws 1 0)) (map (exprOf nodes) roots) (split widths (pairsOf nodes pairs)) ≡ true))
-    degree-asked = (
-      seven ws n c p x y q _ refl ∙ known.answers ws a .seven,
-      (
-        pairs-enough ws w p (known.laid-of ws a) (known.counted-of ws a) z q,
-        ten ws n c w p (known.laid-of ws a) x y z q _ refl ∙ known.answers ws a .ten,
-      ),
-    )
-
-    pub degree-from : (r : ℕ) → r ≡ largestDegree (statedOf (getD ws 1 0)) (map (exprOf nodes) roots) (split widths (pairsOf nodes pairs))
-        → r ≡ maxDegree (circuitOf ws)
-    unfolding circuitOf
-    degree-from r e =
-        e
-        ∙ rw (body-part ws 3 n x, body-part ws 4 c y, body-part ws 5 w z, body-part ws 6 p q, known.pairs-half ws a)
-        (sym (d-is (circuitOf ws)))
 
     -- ---- the words that are handed on
     module _ (v : Numbers) (e : v ≡ numbersOf (circuitOf ws)) where

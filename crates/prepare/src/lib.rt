@@ -3,16 +3,15 @@
 use bodies::num_poly;
 use bodies::num_user;
 use bodies::rows;
-use contents::CELLS;
-use contents::CONSTRAINTS;
-use contents::NODES;
-use contents::PAIRS;
-use contents::WIDTHS;
-use contents::section;
 use copied::Copied;
 use copied::copied_columns;
 use degrees::max_degree;
 use preprocessor::Numbers;
+use reader::cells_of;
+use reader::constraints_of;
+use reader::nodes_of;
+use reader::pairs_of;
+use reader::widths_of;
 ghost use mathlib.Core.Path.{_≡_};
 ghost use Prim.Native.Nat.{_≤_};
 ghost use lib.ListN.{take};
@@ -28,10 +27,8 @@ pub fn copied_of(circuit: &[u64]) -> Copied
     ensures { λ r. ⌜ (r .count ≤ 72) × (take (r .count) (r .of) ≡ def.copied (circuitOf (now (circuit .entry)))) ⌝ }
 {
     let polys = num_poly(circuit);
-    let cells = section(circuit, CELLS);
-    let start = cells.start;
-    let end = cells.end;
-    copied_columns(&circuit[start..end], polys as usize)
+    let cells = cells_of(circuit);
+    copied_columns(cells, polys as usize)
 }
 
 // Rust `max_degree`, D.
@@ -40,25 +37,11 @@ pub fn degree_of(circuit: &[u64]) -> usize
     ensures { λ r. ⌜ r ≡ maxDegree (circuitOf (now (circuit .entry))) ⌝ }
 {
     let stated = circuit[1];
-    let nodes = section(circuit, NODES);
-    let users = section(circuit, CONSTRAINTS);
-    let widths = section(circuit, WIDTHS);
-    let lookups = section(circuit, PAIRS);
-    let nodes_start = nodes.start;
-    let nodes_end = nodes.end;
-    let users_start = users.start;
-    let users_end = users.end;
-    let widths_start = widths.start;
-    let widths_end = widths.end;
-    let lookups_start = lookups.start;
-    let lookups_end = lookups.end;
-    let degree = max_degree(
-        &circuit[nodes_start..nodes_end],
-        &circuit[users_start..users_end],
-        &circuit[widths_start..widths_end],
-        &circuit[lookups_start..lookups_end],
-        stated,
-    );
+    let nodes = nodes_of(circuit);
+    let users = constraints_of(circuit);
+    let widths = widths_of(circuit);
+    let lookups = pairs_of(circuit);
+    let degree = max_degree(nodes, users, widths, lookups, stated);
     degree as usize
 }
 
