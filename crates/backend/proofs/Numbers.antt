@@ -32,7 +32,7 @@ each-first : (body : List ℕ) (size n : ℕ) → wordEach body size 0 n ≡ col
 each-first body size n = column-cong _ _ n (λ i _. ap (word body) (add-zero (i * size)))
 
 -- entries of one word
-each-one : (body : List ℕ) → wordEach body 1 0 (length body) ≡ body
+pub each-one : (body : List ℕ) → wordEach body 1 0 (length body) ≡ body
 each-one body =
     column-cong _ (λ i. getD body i 0) (length body) (λ i _. ap (word body) (add-zero (i * 1) ∙ mul-one i)) ∙ column-of body 0
 

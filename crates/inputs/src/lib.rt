@@ -2,8 +2,7 @@
 use bodies::num_user;
 use bodies::num_witness;
 use bodies::rows;
-use contents::INSTANCES;
-use contents::section;
+use reader::instances_of;
 use words::all_below;
 use words::total_to;
 ghost use mathlib.Core.Path.{_≡_};
@@ -20,10 +19,8 @@ fn instance_words(circuit: &[u64]) -> u64
     requires { ⌜ Accepted (now circuit) ⌝ }
     ensures { λ r. ⌜ r ≡ total (circuitOf (now (circuit .entry)) .instances) ⌝ }
 {
-    let instances = section(circuit, INSTANCES);
-    let start = instances.start;
-    let end = instances.end;
-    total_to(&circuit[start..end], 1, 0, instances.count, 8192)
+    let instances = instances_of(circuit);
+    total_to(instances, 1, 0, instances.len(), 8192)
 }
 
 // Question 12.

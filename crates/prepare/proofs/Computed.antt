@@ -23,7 +23,7 @@ use Rattle.backend.specs.Layout.{laidOut}
 use Rattle.backend.specs.Questions.{q7}
 use Rattle.backend.specs.declared.Part.{Part}
 use Rattle.backend.proofs.Sections.{Placed, body-part}
-use Rattle.backend.proofs.Numbers.{plain-sum, not-past}
+use Rattle.backend.proofs.Numbers.{each-one, not-past}
 use Rattle.backend.proofs.Degree.{ten-is, d-is}
 use Rattle.preprocessor.specs.Compose.{numZ, composedNodes}
 use Rattle.preprocessor.specs.Count.{most}
@@ -168,12 +168,12 @@ module _ (ws : List ℕ) (a : Accepted ws) where
       let n = known.few-instances ws a in
       omega arith
 
-  pub instances-from : (p : Part) → Placed ws 0 p → (r : ℕ)
-      → r ≡ min (total (wordEach (take (p .end - p .start) (drop (p .start) ws)) 1 0 (p .count))) 8192
+  pub instances-from : (lengths : List ℕ) → lengths ≡ bodyOf ws Section.instances → (r : ℕ)
+      → r ≡ min (total (wordEach lengths 1 0 (length lengths))) 8192
       → r ≡ total (circuitOf ws .instances)
   unfolding circuitOf
-  instances-from p q r e =
-      not-past (total (bodyOf ws Section.instances)) 8192 r (plain-sum ws (known.laid-of ws a) p 0 q refl 8192 r e) instances-most
+  instances-from lengths q r e =
+      not-past (total (bodyOf ws Section.instances)) 8192 r (e ∙ ap (λ (ns : List ℕ). min (total ns) 8192) (each-one lengths ∙ q)) instances-most
 
   pub witness-fit : (columns rows : ℕ) → columns ≡ numWitness (circuitOf ws) → rows ≡ 2 ^ wordK ws → columns * rows ≤ 32768
   witness-fit columns rows c r =
