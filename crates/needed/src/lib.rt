@@ -1,10 +1,9 @@
 // How many words the columns and the nodes of accepted circuit words need, and question 14, whether the buffers have them.
-use contents::CONSTRAINTS;
-use contents::NODES;
-use contents::PAIRS;
-use contents::WIDTHS;
-use contents::section;
 use preprocessor::Numbers;
+use reader::constraints_of;
+use reader::nodes_of;
+use reader::pairs_of;
+use reader::widths_of;
 ghost use mathlib.Core.Path.{_≡_};
 ghost use mathlib.Core.List.{List};
 ghost use Prim.Native.Nat.{ℕ, _<_, _^_, min};
@@ -30,25 +29,11 @@ pub fn composed_nodes(circuit: &[u64], v: Numbers) -> u64
     requires { ⌜ Accepted (now circuit) × (v ≡ numbersOf (circuitOf (now circuit))) ⌝ }
     ensures { λ r. ⌜ r ≡ min most (composedNodes (circuitOf (now (circuit .entry)))) ⌝ }
 {
-    let user = section(circuit, NODES);
-    let roots = section(circuit, CONSTRAINTS);
-    let widths = section(circuit, WIDTHS);
-    let pairs = section(circuit, PAIRS);
-    let user_start = user.start;
-    let user_end = user.end;
-    let roots_start = roots.start;
-    let roots_end = roots.end;
-    let widths_start = widths.start;
-    let widths_end = widths.end;
-    let pairs_start = pairs.start;
-    let pairs_end = pairs.end;
-    count::composed_nodes(
-        &circuit[user_start..user_end],
-        &circuit[roots_start..roots_end],
-        &circuit[widths_start..widths_end],
-        &circuit[pairs_start..pairs_end],
-        v,
-    )
+    let user = nodes_of(circuit);
+    let roots = constraints_of(circuit);
+    let widths = widths_of(circuit);
+    let pairs = pairs_of(circuit);
+    count::composed_nodes(user, roots, widths, pairs, v)
 }
 
 // Question 14, of buffers of so many words.

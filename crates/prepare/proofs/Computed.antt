@@ -1,11 +1,11 @@
 -- What the functions compute from accepted circuit words is what the definitions say. Assumes nothing.
-use mathlib.Core.Path.{_≡_, refl, sym, ap, ap₂, _∙_}
+use mathlib.Core.Path.{_≡_, sym, ap, ap₂, _∙_}
 use mathlib.Core.Bool.{Bool, true, _&&_}
 use mathlib.Core.List.{List, [], _∷_, _++_, map}
 use Prim.Native.Nat.{ℕ, _+_, _-_, _*_, _/_, _^_, _≤_, _<_, min}
 use native.Mathlib.Omega.{arith}
 use native.Mathlib.Nat.{mul-le-mul}
-use lib.ListN.{length, getD, take, drop}
+use lib.ListN.{length, getD}
 use lib.Dec.{eqb, leb, ltb}
 use lib.Seq.{take-all}
 use borrow.Author.Tests.{le-leb, leb-true}
@@ -21,8 +21,6 @@ use Rattle.backend.specs.Constraints.{maxDegree}
 use Rattle.backend.specs.Degrees.{largestDegree, degreesFit}
 use Rattle.backend.specs.Layout.{laidOut}
 use Rattle.backend.specs.Questions.{q7}
-use Rattle.backend.specs.declared.Part.{Part}
-use Rattle.backend.proofs.Sections.{Placed, body-part}
 use Rattle.backend.proofs.Numbers.{each-one, not-past}
 use Rattle.backend.proofs.Degree.{ten-is, d-is}
 use Rattle.preprocessor.specs.Compose.{numZ, composedNodes}
@@ -88,26 +86,13 @@ module _ (ws : List ℕ) (a : Accepted ws) where
     unfolding circuitOf
     degree-from r e = e ∙ rw (x, y, z, q, known.pairs-half ws a) (sym (d-is (circuitOf ws)))
 
-  module _ (n c w p : Part) (x : Placed ws 3 n) (y : Placed ws 4 c) (z : Placed ws 5 w) (q : Placed ws 6 p) where
-    abbrev nodes : List ℕ
-    nodes = take (n .end - n .start) (drop (n .start) ws)
-
-    abbrev roots : List ℕ
-    roots = take (c .end - c .start) (drop (c .start) ws)
-
-    abbrev widths : List ℕ
-    widths = take (w .end - w .start) (drop (w .start) ws)
-
-    abbrev pairs : List ℕ
-    pairs = take (p .end - p .start) (drop (p .start) ws)
-
     -- ---- the words that are handed on
     module _ (v : Numbers) (e : v ≡ numbersOf (circuitOf ws)) where
       pub words-from : Words v nodes roots widths pairs
-      words-from = rw (e, body-part ws 3 n x, body-part ws 4 c y, body-part ws 5 w z, body-part ws 6 p q) (known.words ws a)
+      words-from = rw (e, x, y, z, q) (known.words ws a)
 
       pub pieces-from : PiecesOf (circuitOf ws) v (copied (circuitOf ws)) nodes roots widths pairs
-      pieces-from = rw (e, body-part ws 3 n x, body-part ws 4 c y, body-part ws 5 w z, body-part ws 6 p q) (known.pieces ws a)
+      pieces-from = rw (e, x, y, z, q) (known.pieces ws a)
 
   -- ---- the numbers
   pub lookups-are : getD ws 13 0 ≡ numLookups (circuitOf ws)
