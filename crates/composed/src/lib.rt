@@ -1,11 +1,10 @@
 // The node words of accepted circuit words' composed expression: written, whole or in a window, and compared with lent ones.
 use compose::compose;
-use contents::CONSTRAINTS;
-use contents::NODES;
-use contents::PAIRS;
-use contents::WIDTHS;
-use contents::section;
 use preprocessor::Numbers;
+use reader::constraints_of;
+use reader::nodes_of;
+use reader::pairs_of;
+use reader::widths_of;
 ghost use mathlib.Core.Path.{_≡_};
 ghost use Prim.Native.Nat.{_+_, _-_, _*_, _≤_, _<_};
 ghost use lib.ListN.{length, take, drop};
@@ -27,28 +26,11 @@ pub fn compose_nodes(
     requires { ⌜ Prepared (now circuit) (now copied) v × (composedNodes (circuitOf (now circuit)) * 4 ≤ mostWords) ⌝ }
     ensures { λ r. ⌜ Composed from (circuitOf (now (circuit .entry))) (now (nodes .entry)) (now (nodes .exit)) r ⌝ }
 {
-    let user = section(circuit, NODES);
-    let roots = section(circuit, CONSTRAINTS);
-    let widths = section(circuit, WIDTHS);
-    let pairs = section(circuit, PAIRS);
-    let user_start = user.start;
-    let user_end = user.end;
-    let roots_start = roots.start;
-    let roots_end = roots.end;
-    let widths_start = widths.start;
-    let widths_end = widths.end;
-    let pairs_start = pairs.start;
-    let pairs_end = pairs.end;
-    compose(
-        copied,
-        &circuit[user_start..user_end],
-        &circuit[roots_start..roots_end],
-        &circuit[widths_start..widths_end],
-        &circuit[pairs_start..pairs_end],
-        nodes,
-        from,
-        v,
-    )
+    let user = nodes_of(circuit);
+    let roots = constraints_of(circuit);
+    let widths = widths_of(circuit);
+    let pairs = pairs_of(circuit);
+    compose(copied, user, roots, widths, pairs, nodes, from, v)
 }
 
 // Are the words the same?
