@@ -3,19 +3,18 @@ use bodies::num_user;
 use bodies::num_witness;
 use bodies::rows;
 use compressed::lookup_compressed_polys;
-use contents::CELLS;
-use contents::INSTANCES;
-use contents::LENGTHS;
-use contents::NODES;
-use contents::PAIRS;
-use contents::WIDTHS;
-use contents::section;
 use expression::poly::Layout;
 use instance::instance_polys;
 use node::index;
 use node::word_at;
 use permutation::permutation_polys;
 use permutation_z::permutation_z_polys;
+use reader::cells_of;
+use reader::instances_of;
+use reader::lengths_of;
+use reader::nodes_of;
+use reader::pairs_of;
+use reader::widths_of;
 ghost use mathlib.Core.Path.{_≡_};
 ghost use Prim.Native.Nat.{_+_, _*_, _^_, _≤_};
 ghost use lib.ListN.{length};
@@ -53,10 +52,8 @@ pub fn instance_columns(circuit: &[u64], instance: &[u64], columns: &mut [u64])
     ensures { λ _. ⌜ now (columns .exit) ≡ over (now (columns .entry)) 0 (instanceWords (now (circuit .entry)) (now (instance .entry))) ⌝ }
 {
     let k = index(word_at(circuit, 0));
-    let lengths = section(circuit, INSTANCES);
-    let start = lengths.start;
-    let end = lengths.end;
-    instance_polys(k, &circuit[start..end], instance, columns);
+    let lengths = instances_of(circuit);
+    instance_polys(k, lengths, instance, columns);
 }
 
 // The permutation columns, behind the instance columns. `copied` are the copied columns.
@@ -66,20 +63,9 @@ pub fn permutation_columns(circuit: &[u64], copied: &[u64], columns: &mut [u64])
 {
     let layout = layout_of(circuit);
     let at = layout.instances * layout.rows;
-    let lengths = section(circuit, LENGTHS);
-    let cells = section(circuit, CELLS);
-    let lengths_start = lengths.start;
-    let lengths_end = lengths.end;
-    let cells_start = cells.start;
-    let cells_end = cells.end;
-    permutation_polys(
-        layout.rows,
-        copied,
-        &circuit[lengths_start..lengths_end],
-        &circuit[cells_start..cells_end],
-        columns,
-        at,
-    );
+    let lengths = lengths_of(circuit);
+    let cells = cells_of(circuit);
+    permutation_polys(layout.rows, copied, lengths, cells, columns, at);
 }
 
 // The compressed columns of the lookups, from word `to` on, over the user's challenges.
@@ -96,25 +82,19 @@ fn compressed_from<'a>(
     requires { ⌜ Accepted (now circuit) × (layout ≡ layoutOf (now circuit)) × (k ≡ circuitOf (now circuit) .k) × (numInstance (circuitOf (now circuit)) * 2 ^ k ≤ to) × (to + numLookups (circuitOf (now circuit)) * (2 ^ k + 2 ^ k) ≤ length (now columns)) ⌝ }
     ensures { λ _. ⌜ now (columns .exit) ≡ over (now (columns .entry)) to (wordsOf (2 ^ k) (compressedPolysIn 𝔾 (lentEnvironment (now (circuit .entry)) (now (witness .entry)) (now (columns .entry)) (now (user .entry)) layout k) (el beta) (circuitOf (now (circuit .entry)) .lookups))) ⌝ }
 {
-    let nodes = section(circuit, NODES);
-    let widths = section(circuit, WIDTHS);
-    let pairs = section(circuit, PAIRS);
-    let nodes_start = nodes.start;
-    let nodes_end = nodes.end;
-    let widths_start = widths.start;
-    let widths_end = widths.end;
-    let pairs_start = pairs.start;
-    let pairs_end = pairs.end;
+    let nodes = nodes_of(circuit);
+    let widths = widths_of(circuit);
+    let pairs = pairs_of(circuit);
     lookup_compressed_polys(
-        &circuit[nodes_start..nodes_end],
+        nodes,
         circuit,
         witness,
         columns,
         user,
         layout,
         k,
-        &circuit[widths_start..widths_end],
-        &circuit[pairs_start..pairs_end],
+        widths,
+        pairs,
         beta,
         to,
     );
