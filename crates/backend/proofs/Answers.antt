@@ -112,9 +112,9 @@ pub pairs-enough : (ws w p : List ℕ) → Laid ws → Counted ws → w ≡ body
 pairs-enough ws w p a k d e = ap total d ∙ sym (k .pairs-are) ∙ sym (ap (λ (ns : List ℕ). length ns / 2) e ∙ pair-count ws a)
 
 pub ten : (ws n c w p : List ℕ) → Laid ws → n ≡ bodyOf ws Section.nodes → c ≡ bodyOf ws Section.constraints → w ≡ bodyOf ws Section.widths
-    → p ≡ bodyOf ws Section.pairs → (r : Bool) → r ≡ degreesFit (statedOf (getD ws 1 0)) (map (exprOf n) c) (split w (pairsOf n p)) → r ≡ q10 (circuitOf ws)
+    → p ≡ bodyOf ws Section.pairs → (s : ℕ) → s ≡ getD ws 1 0 → (r : Bool) → r ≡ degreesFit (statedOf s) (map (exprOf n) c) (split w (pairsOf n p)) → r ≡ q10 (circuitOf ws)
 unfolding circuitOf
-ten ws n c w p a x y z q r e = e ∙ rw (x, y, z, q, pair-count ws a) (sym (ten-is (circuitOf ws)))
+ten ws n c w p a x y z q s t r e = e ∙ rw (x, y, z, q, t, pair-count ws a) (sym (ten-is (circuitOf ws)))
 
 -- ---- 5 to 11, in their order
 

@@ -1,4 +1,5 @@
 // The numbers of a circuit, from its bodies.
+use reader::k_of;
 use reader::rounds_of;
 use words::total_to;
 ghost use mathlib.Core.Path.{_≡_};
@@ -11,7 +12,7 @@ pub fn rows(circuit: &[u64]) -> u64
     requires { ⌜ Laid (now circuit) ⌝ }
     ensures { λ r. ⌜ r ≡ 2 ^ wordK (now (circuit .entry)) ⌝ }
 {
-    let k = circuit[0];
+    let k = k_of(circuit);
     1 << k
 }
 

@@ -3,6 +3,7 @@ use degrees::degrees_fit;
 use reader::constraints_of;
 use reader::nodes_of;
 use reader::pairs_of;
+use reader::stated_of;
 use reader::widths_of;
 ghost use mathlib.Core.Path.{_≡_};
 ghost use mathlib.Core.Bool.{true};
@@ -15,7 +16,7 @@ pub fn question_10(circuit: &[u64]) -> bool
     requires { ⌜ Laid (now circuit) × (Counted (now circuit) × (q7 (circuitOf (now circuit)) ≡ true)) ⌝ }
     ensures { λ r. ⌜ r ≡ q10 (circuitOf (now (circuit .entry))) ⌝ }
 {
-    let stated = circuit[1];
+    let stated = stated_of(circuit);
     let nodes = nodes_of(circuit);
     let users = constraints_of(circuit);
     let widths = widths_of(circuit);

@@ -69,22 +69,22 @@ module _ (ws : List ℕ) (a : Accepted ws) where
   module _ (nodes roots widths pairs : List ℕ) (x : nodes ≡ bodyOf ws Section.nodes) (y : roots ≡ bodyOf ws Section.constraints)
       (z : widths ≡ bodyOf ws Section.widths)
       (q : pairs ≡ bodyOf ws Section.pairs) where
-    pub degree-asked : (laidOut nodes (roots ++ pairs) ≡ true)
+    pub degree-asked : (s : ℕ) → s ≡ getD ws 1 0 → (laidOut nodes (roots ++ pairs) ≡ true)
         × ((total widths ≡ length pairs / 2)
-        × (degreesFit (statedOf (getD ws 1 0)) (map (exprOf nodes) roots) (split widths (pairsOf nodes pairs)) ≡ true))
+        × (degreesFit (statedOf s) (map (exprOf nodes) roots) (split widths (pairsOf nodes pairs)) ≡ true))
     unfolding q7 circuitOf
-    degree-asked = (
+    degree-asked s t = (
       rw (x, y, q) (known.answers ws a .seven),
       (
         rw (z, q) (known.pairs-total ws a ∙ sym (known.pairs-half ws a)),
-        rw (x, y, z, q, known.pairs-half ws a) (sym (ten-is (circuitOf ws)) ∙ known.answers ws a .ten),
+        rw (x, y, z, q, t, known.pairs-half ws a) (sym (ten-is (circuitOf ws)) ∙ known.answers ws a .ten),
       ),
     )
 
-    pub degree-from : (r : ℕ) → r ≡ largestDegree (statedOf (getD ws 1 0)) (map (exprOf nodes) roots) (split widths (pairsOf nodes pairs))
+    pub degree-from : (s : ℕ) → s ≡ getD ws 1 0 → (r : ℕ) → r ≡ largestDegree (statedOf s) (map (exprOf nodes) roots) (split widths (pairsOf nodes pairs))
         → r ≡ maxDegree (circuitOf ws)
     unfolding circuitOf
-    degree-from r e = e ∙ rw (x, y, z, q, known.pairs-half ws a) (sym (d-is (circuitOf ws)))
+    degree-from s t r e = e ∙ rw (x, y, z, q, t, known.pairs-half ws a) (sym (d-is (circuitOf ws)))
 
     -- ---- the words that are handed on
     module _ (v : Numbers) (e : v ≡ numbersOf (circuitOf ws)) where

@@ -11,6 +11,7 @@ use reader::cells_of;
 use reader::constraints_of;
 use reader::nodes_of;
 use reader::pairs_of;
+use reader::stated_of;
 use reader::widths_of;
 ghost use mathlib.Core.Path.{_≡_};
 ghost use Prim.Native.Nat.{_≤_};
@@ -36,7 +37,7 @@ pub fn degree_of(circuit: &[u64]) -> usize
     requires { ⌜ Accepted (now circuit) ⌝ }
     ensures { λ r. ⌜ r ≡ maxDegree (circuitOf (now (circuit .entry))) ⌝ }
 {
-    let stated = circuit[1];
+    let stated = stated_of(circuit);
     let nodes = nodes_of(circuit);
     let users = constraints_of(circuit);
     let widths = widths_of(circuit);

@@ -1,21 +1,19 @@
+-- 1 moved by k places is 2^k, for k of circuit words. Assumes nothing.
+use mathlib.Core.Path.{ap, _∙_}
+use Prim.Native.Nat.{ℕ, _*_, _^_, _%_}
 use Rattle.backend.proofs.Numbers.{below-64, rows-are}
 use borrow.Author.Needs.{needs}
 use Rattle.bodies.proofs.rows.Statement.{statement}
 use Rattle.bodies.proofs.rows.Tie as tie
-use Rattle.bodies.proofs.rows.Reads as reads
-use Rattle.bodies.proofs.rows.Lts as lts
 
--- src/lib.rt:35:13
-shared-slice-read-k : tie.Need-shared-slice-read-k
-shared-slice-read-k c = search needs
+k-of-requires : tie.Need-k-of-requires
+k-of-requires c κs = search needs
 
--- src/lib.rt:36:5
 shl-result : tie.Need-shl-result
 shl-result c = search needs
 
--- src/lib.rt:31:1
 returns : tie.Need-returns
-returns c = rows-are _ (below-64 _ (c .before .pre))
+returns c = ap (λ (k : ℕ). 1 * 2 ^ k % 2 ^ 64) (c .k-of .ensures) ∙ rows-are _ (below-64 _ (c .before .before .pre))
 
 pub rows-spec : {M : Type 1} → statement M
-rows-spec = tie.close (tie.spec shared-slice-read-k shl-result returns)
+rows-spec = tie.close (tie.spec k-of-requires shl-result returns)

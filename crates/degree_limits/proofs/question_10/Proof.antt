@@ -5,8 +5,8 @@ use borrow.Author.Needs.{needs}
 use Rattle.degree_limits.proofs.question_10.Statement.{statement}
 use Rattle.degree_limits.proofs.question_10.Tie as tie
 
-shared-slice-read-stated : tie.Need-shared-slice-read-stated
-shared-slice-read-stated c = search needs
+stated-of-requires : tie.Need-stated-of-requires
+stated-of-requires c κs = search needs
 
 nodes-of-requires : tie.Need-nodes-of-requires
 nodes-of-requires c κs = search needs
@@ -24,13 +24,13 @@ degrees-fit-requires : tie.Need-degrees-fit-requires
 degrees-fit-requires c κs = (seven _ _ _ _ (c .before .before .before .nodes-of .ensures) (c .before .before .constraints-of .ensures) (c .pairs-of .ensures) _ refl ∙ c .before .before .before .before .before .before .pre .1 .1, pairs-enough _ _ _ (c .before .before .before .before .before .before .pre .0) (c .before .before .before .before .before .before .pre .1 .0) (c .before .widths-of .ensures) (c .pairs-of .ensures))
 
 returns : tie.Need-returns
-returns c = ten _ _ _ _ _ (c .before .before .before .before .before .before .before .pre .0) (c .before .before .before .before .nodes-of .ensures) (c .before .before .before .constraints-of .ensures) (c .before .before .widths-of .ensures) (c .before .pairs-of .ensures) _ (c .degrees-fit .ensures)
+returns c = ten _ _ _ _ _ (c .before .before .before .before .before .before .before .pre .0) (c .before .before .before .before .nodes-of .ensures) (c .before .before .before .constraints-of .ensures) (c .before .before .widths-of .ensures) (c .before .pairs-of .ensures) _ (c .before .before .before .before .before .stated-of .ensures) _ (c .degrees-fit .ensures)
 
 pub question-10-spec : {M : Type 1} → statement M
 question-10-spec =
     tie.close
     (tie.spec
-    shared-slice-read-stated
+    stated-of-requires
     nodes-of-requires
     constraints-of-requires
     widths-of-requires

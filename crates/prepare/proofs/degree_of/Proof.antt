@@ -1,12 +1,12 @@
 -- `degree_of` meets its contract. Assumes nothing.
-use native.Mathlib.Omega.{arith}
+use borrow.Author.Needs.{needs}
 use Rattle.prepare.proofs.Accepted.{laid-of}
 use Rattle.prepare.proofs.Computed.{degree-asked, degree-from}
 use Rattle.prepare.proofs.degree_of.Statement.{statement}
 use Rattle.prepare.proofs.degree_of.Tie as tie
 
-shared-slice-read-stated : tie.Need-shared-slice-read-stated
-shared-slice-read-stated c = omega (arith, laid-of (c .before .before .args .circuit .now) (c .before .before .pre) .long)
+stated-of-requires : tie.Need-stated-of-requires
+stated-of-requires c κs = search needs
 
 nodes-of-requires : tie.Need-nodes-of-requires
 nodes-of-requires c κs = laid-of (c .before .before .args .circuit .now) (c .before .before .pre)
@@ -23,18 +23,18 @@ pairs-of-requires c κs = laid-of (c .before .before .before .before .before .ar
 max-degree-requires : tie.Need-max-degree-requires
 max-degree-requires c κs =
     let s = c .before .before .before .before .before .before in
-    degree-asked (s .args .circuit .now) (s .pre) _ _ _ _ (c .before .before .before .nodes-of .ensures) (c .before .before .constraints-of .ensures) (c .before .widths-of .ensures) (c .pairs-of .ensures)
+    degree-asked (s .args .circuit .now) (s .pre) _ _ _ _ (c .before .before .before .nodes-of .ensures) (c .before .before .constraints-of .ensures) (c .before .widths-of .ensures) (c .pairs-of .ensures) _ (c .before .before .before .before .stated-of .ensures)
 
 returns : tie.Need-returns
 returns c =
     let s = c .before .before .before .before .before .before .before in
-    degree-from (s .args .circuit .now) (s .pre) _ _ _ _ (c .before .before .before .before .nodes-of .ensures) (c .before .before .before .constraints-of .ensures) (c .before .before .widths-of .ensures) (c .before .pairs-of .ensures) _ (c .max-degree .ensures)
+    degree-from (s .args .circuit .now) (s .pre) _ _ _ _ (c .before .before .before .before .nodes-of .ensures) (c .before .before .before .constraints-of .ensures) (c .before .before .widths-of .ensures) (c .before .pairs-of .ensures) _ (c .before .before .before .before .before .stated-of .ensures) _ (c .max-degree .ensures)
 
 pub degree-of-spec : {M : Type 1} → statement M
 degree-of-spec =
     tie.close
     (tie.spec
-    shared-slice-read-stated
+    stated-of-requires
     nodes-of-requires
     constraints-of-requires
     widths-of-requires
