@@ -22,7 +22,7 @@ use Rattle.prepare.specs.Prepared.{Accepted}
 use Rattle.prepare.proofs.Accepted as known
 use Rattle.row_sum.specs.Sum.{sumLayout, Summable}
 use Rattle.row_sum.proofs.Polys.{point-value}
-use Rattle.row_sum.proofs.Rows.{firstRows, added-all}
+use Rattle.row_sum.proofs.Rows.{Added, added-all}
 
 pub some-nodes : (ws : List ℕ) → 0 < composedNodes (circuitOf ws)
 unfolding composedNodes
@@ -97,7 +97,7 @@ module _ (ws nodes y : List ℕ) (l : Layout) (k : ℕ) (s : Summable ws nodes y
         (exprOf nodes (length nodes / 4 - 1))
         ∙ ap (λ (n : ℕ). valueAt 𝔾 (lentEnvironment ws witness columns challenges y) (exprOf nodes n) (p .row)) root-is
 
-    pub sum-is : (sum : 𝔾 .F) (t : ℕ) → sum ≡ firstRows k rootValue t → t ≡ 2 ^ k → sum ≡ sumOf ws witness columns nodes challenges y
+    pub sum-is : (sum : 𝔾 .F) (t : ℕ) → Added k rootValue sum t → t ≡ 2 ^ k → sum ≡ sumOf ws witness columns nodes challenges y
     unfolding sumOf
     sum-is sum t a e =
         added-all k rootValue k-low k-high sum t a e ∙ ap (λ (k : ℕ). sumRows 𝔾 (2 ^ k) rootValue) (s .k-is)
