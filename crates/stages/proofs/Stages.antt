@@ -283,12 +283,12 @@ module _ (ws : List ℕ) (a : Accepted ws) where
         rw (zs-at l is (length names) lookups n em, same, ez) room,
       )
 
-  pub z-written : (l : Layout) (k parts lookups user beta gamma : ℕ) (names witness challenges d new : List ℕ) → l ≡ layoutOf ws
+  pub z-written : (l : Layout) (k parts lookups user : ℕ) (beta gamma : 𝔾 .F) (names witness challenges d new : List ℕ) → l ≡ layoutOf ws
       → k ≡ wordK ws → lookups ≡ getD ws 13 0 → names ≡ copied (circuitOf ws) → parts ≡ numZ (circuitOf ws) → user ≡ numUser (circuitOf ws)
-      → beta ≡ getD challenges user 0 → gamma ≡ getD challenges (user + 1) 0
+      → beta ≡ el (getD challenges user 0) → gamma ≡ el (getD challenges (user + 1) 0)
       → new
       ≡ over d ((l .instances + length names + lookups * 4) * l .rows)
-      (wordsOf (2 ^ k) (column (zOf 𝔾 (lentRatio l ws witness d names (el beta) (el gamma)) k (length names) parts) parts))
+      (wordsOf (2 ^ k) (column (zOf 𝔾 (lentRatio l ws witness d names beta gamma) k (length names) parts) parts))
       → new
       ≡ over d (zsAt (circuitOf ws))
       (wordsOf (rowsOf (circuitOf ws))
@@ -302,13 +302,13 @@ module _ (ws : List ℕ) (a : Accepted ws) where
       (numZ (circuitOf ws))))
   z-written l k parts lookups user beta gamma names witness challenges d new is ek em en ez eu eb eg h =
       let c : Circuit = circuitOf ws in
-      let write : ℕ → Layout → ℕ → List ℕ → ℕ → ℕ → ℕ → List ℕ = λ to l k names parts beta gamma.
-      over d to (wordsOf (2 ^ k) (column (zOf 𝔾 (lentRatio l ws witness d names (el beta) (el gamma)) k (length names) parts) parts)) in
+      let write : ℕ → Layout → ℕ → List ℕ → ℕ → 𝔾 .F → 𝔾 .F → List ℕ = λ to l k names parts beta gamma.
+      over d to (wordsOf (2 ^ k) (column (zOf 𝔾 (lentRatio l ws witness d names beta gamma) k (length names) parts) parts)) in
       h
       ∙ ap₂ (λ (to k : ℕ). write to l k names parts beta gamma) (zs-at l is (length names) lookups (ap length en) em)
       (ek ∙ sym (accepted.k-is ws a))
       ∙ ap₂ (λ (l : Layout) (names : List ℕ). write (zsAt c) l (c .k) names parts beta gamma) is en
       ∙ ap (λ (parts : ℕ). write (zsAt c) (layoutOf ws) (c .k) (copied c) parts beta gamma) ez
-      ∙ ap₂ (λ (beta gamma : ℕ). write (zsAt c) (layoutOf ws) (c .k) (copied c) (numZ c) beta gamma)
-      (eb ∙ ap (λ (user : ℕ). getD challenges user 0) eu)
-      (eg ∙ ap (λ (user : ℕ). getD challenges (user + 1) 0) eu)
+      ∙ ap₂ (λ (beta gamma : 𝔾 .F). write (zsAt c) (layoutOf ws) (c .k) (copied c) (numZ c) beta gamma)
+      (eb ∙ ap (λ (user : ℕ). el (getD challenges user 0)) eu)
+      (eg ∙ ap (λ (user : ℕ). el (getD challenges (user + 1) 0)) eu)

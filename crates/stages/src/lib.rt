@@ -11,6 +11,7 @@ use contents::PAIRS;
 use contents::WIDTHS;
 use contents::section;
 use expression::poly::Layout;
+use goldilocks::Goldilocks;
 use instance::instance_polys;
 use node::index;
 use node::word_at;
@@ -165,8 +166,8 @@ pub fn z_columns(
     let k = index(word_at(circuit, 0));
     let layout = layout_of(circuit);
     let user = index(num_user(circuit));
-    let beta = word_at(challenges, user);
-    let gamma = word_at(challenges, user + 1);
+    let beta = Goldilocks::from_u64(word_at(challenges, user));
+    let gamma = Goldilocks::from_u64(word_at(challenges, user + 1));
     let lookups = index(word_at(circuit, 13));
     let to = (layout.instances + copied.len() + lookups * 4) * layout.rows;
     permutation_z_polys(
