@@ -210,18 +210,18 @@ module _ (ws : List ℕ) (a : Accepted ws) where
         omega arith),
   )
 
-  pub compressed-written : (l : Layout) (k to beta : ℕ) (nodes widths pairs witness user d new : List ℕ)
+  pub compressed-written : (l : Layout) (k to : ℕ) (β : 𝔾 .F) (nodes widths pairs witness user d new : List ℕ)
       → nodes ≡ bodyOf ws Section.nodes → widths ≡ bodyOf ws Section.widths → pairs ≡ bodyOf ws Section.pairs
       → new
       ≡ over d to
       (wordsOf (2 ^ k)
-      (compressedPolysIn 𝔾 (lentEnvironment ws witness d user l k) (el beta) (split widths (pairsOf nodes pairs))))
+      (compressedPolysIn 𝔾 (lentEnvironment ws witness d user l k) β (split widths (pairsOf nodes pairs))))
       → new
       ≡ over d to
-      (wordsOf (2 ^ k) (compressedPolysIn 𝔾 (lentEnvironment ws witness d user l k) (el beta) (circuitOf ws .lookups)))
-  compressed-written l k to beta nodes widths pairs witness user d new en ew ep h =
+      (wordsOf (2 ^ k) (compressedPolysIn 𝔾 (lentEnvironment ws witness d user l k) β (circuitOf ws .lookups)))
+  compressed-written l k to β nodes widths pairs witness user d new en ew ep h =
       h
-      ∙ ap (λ ls. over d to (wordsOf (2 ^ k) (compressedPolysIn 𝔾 (lentEnvironment ws witness d user l k) (el beta) ls)))
+      ∙ ap (λ ls. over d to (wordsOf (2 ^ k) (compressedPolysIn 𝔾 (lentEnvironment ws witness d user l k) β ls)))
       (ap₂ split ew (ap₂ pairsOf en ep) ∙ lookups-are ws (accepted.pairs-length ws a))
 
   pub compressed-room : (l : Layout) (k n : ℕ) (columns : List ℕ) → l ≡ layoutOf ws → k ≡ wordK ws → n ≡ numCopied (circuitOf ws)
@@ -239,12 +239,11 @@ module _ (ws : List ℕ) (a : Accepted ws) where
             omega arith),
       )
 
-  pub compressed-all : (l : Layout) (k n user beta : ℕ) (witness challenges d new : List ℕ) → l ≡ layoutOf ws → k ≡ wordK ws
-      → n ≡ numCopied (circuitOf ws) → user ≡ numUser (circuitOf ws) → beta ≡ getD challenges user 0
+  pub compressed-all : (l : Layout) (k n user : ℕ) (β : 𝔾 .F) (witness challenges d new : List ℕ) → l ≡ layoutOf ws → k ≡ wordK ws
+      → n ≡ numCopied (circuitOf ws) → user ≡ numUser (circuitOf ws) → β ≡ el (getD challenges user 0)
       → new
       ≡ over d ((l .instances + n) * l .rows)
-      (wordsOf (2 ^ k)
-      (compressedPolysIn 𝔾 (lentEnvironment ws witness d (take (user - 0) challenges) l k) (el beta) (circuitOf ws .lookups)))
+      (wordsOf (2 ^ k) (compressedPolysIn 𝔾 (lentEnvironment ws witness d (take (user - 0) challenges) l k) β (circuitOf ws .lookups)))
       → new
       ≡ over d (compressedAt (circuitOf ws))
       (wordsOf (rowsOf (circuitOf ws))
@@ -252,17 +251,17 @@ module _ (ws : List ℕ) (a : Accepted ws) where
       (lentEnvironment ws witness d (take (numUser (circuitOf ws)) challenges) (layoutOf ws) (circuitOf ws .k))
       (el (getD challenges (numUser (circuitOf ws)) 0))
       (circuitOf ws .lookups)))
-  compressed-all l k n user beta witness challenges d new is ek en eu eb h =
+  compressed-all l k n user β witness challenges d new is ek en eu eb h =
       let c : Circuit = circuitOf ws in
       let to : ℕ = compressedAt c in
-      let write : ℕ → Layout → ℕ → ℕ → List ℕ = λ k l user beta.
-      over d to (wordsOf (2 ^ k) (compressedPolysIn 𝔾 (lentEnvironment ws witness d (take user challenges) l k) (el beta) (c .lookups))) in
+      let write : ℕ → Layout → ℕ → 𝔾 .F → List ℕ = λ k l user β.
+      over d to (wordsOf (2 ^ k) (compressedPolysIn 𝔾 (lentEnvironment ws witness d (take user challenges) l k) β (c .lookups))) in
       h
-      ∙ ap₂ (λ (to m : ℕ). over d to (wordsOf (2 ^ k) (compressedPolysIn 𝔾 (lentEnvironment ws witness d (take m challenges) l k) (el beta) (c .lookups))))
+      ∙ ap₂ (λ (to m : ℕ). over d to (wordsOf (2 ^ k) (compressedPolysIn 𝔾 (lentEnvironment ws witness d (take m challenges) l k) β (c .lookups))))
       (compressed-at l is n en)
       (let q : user - 0 ≡ user = omega arith in q)
-      ∙ ap₂ (λ (k : ℕ) (l : Layout). write k l user beta) (ek ∙ sym (accepted.k-is ws a)) is
-      ∙ ap₂ (λ (user beta : ℕ). write (c .k) (layoutOf ws) user beta) eu (eb ∙ ap (λ (user : ℕ). getD challenges user 0) eu)
+      ∙ ap₂ (λ (k : ℕ) (l : Layout). write k l user β) (ek ∙ sym (accepted.k-is ws a)) is
+      ∙ ap₂ (λ (user : ℕ) (β : 𝔾 .F). write (c .k) (layoutOf ws) user β) eu (eb ∙ ap (λ (user : ℕ). el (getD challenges user 0)) eu)
 
   -- ---- z columns
   pub z-asks : (l : Layout) (k parts lookups : ℕ) (names columns : List ℕ) → l ≡ layoutOf ws → k ≡ wordK ws → lookups ≡ getD ws 13 0
