@@ -1,5 +1,6 @@
 // The stages called alone: "they meet 2, 12, 13, 14 and, for counts, 15".
 use blank_column::rows_of;
+use goldilocks::Goldilocks;
 use lookup_h::h_column;
 use lookup_m::m_column;
 use words::all_below;
@@ -68,7 +69,7 @@ pub fn lookup_h_poly(
     if h.len() < rows {
         return 14;
     }
-    h_column(rows, input, table, m, gamma, h);
+    h_column(rows, input, table, m, Goldilocks::from_u64(gamma), h);
     0
 }
 

@@ -260,23 +260,22 @@ module _ (ws : List ℕ) (a : Accepted ws) (v : Numbers) (e : v ≡ numbersOf (c
         let w' = count-words in
         (omega arith, omega arith, omega arith)
 
-    pub hs-written : (instances witness challenges d d' : List ℕ)
+    pub hs-written : (γ : 𝔾 .F) (instances witness challenges d d' : List ℕ) → γ ≡ el (getD challenges (v .user + 1) 0)
         → take (hsAt (circuitOf ws)) d ≡ wordsOf (rowsOf (circuitOf ws)) (countedPolys 𝔾 (logOf ws instances witness challenges))
-        → d' ≡ over d z (hsFrom d x (v .rows) (el (getD challenges (v .user + 1) 0)) y (v .lookups))
+        → d' ≡ over d z (hsFrom d x (v .rows) γ y (v .lookups))
         → d' ≡ over d (hsAt (circuitOf ws)) (wordsOf (rowsOf (circuitOf ws)) (hPolys 𝔾 (logOf ws instances witness challenges)))
     unfolding logOf
-    hs-written instances witness challenges d d' front eq =
+    hs-written γ instances witness challenges d d' γ-is front eq =
         let log' : Log 𝔾 = logOf ws instances witness challenges in
         let R : ℕ = rowsOf (circuitOf ws) in
         let L : ℕ = numLookups (circuitOf ws) in
         eq
-        ∙ ap₂ (λ (r l : ℕ). over d z (hsFrom d x r (el (getD challenges (v .user + 1) 0)) y l)) (rows-are ws a v e) (lookups-are ws a v e)
-        ∙ ap₂ (λ (x y : ℕ). over d z (hsFrom d x R (el (getD challenges (v .user + 1) 0)) y L)) x-is y-is
-        ∙ ap₂ (λ (z u : ℕ). over d z (hsFrom d (compressedAt (circuitOf ws)) R (el (getD challenges (u + 1) 0)) (countsAt (circuitOf ws)) L)) z-is
-        (user-is ws a v e)
+        ∙ ap₂ (λ (r l : ℕ). over d z (hsFrom d x r γ y l)) (rows-are ws a v e) (lookups-are ws a v e)
+        ∙ ap₂ (λ (x y : ℕ). over d z (hsFrom d x R γ y L)) x-is y-is
+        ∙ ap (λ (z : ℕ). over d z (hsFrom d (compressedAt (circuitOf ws)) R γ (countsAt (circuitOf ws)) L)) z-is
         ∙ ap (over d (hsAt (circuitOf ws)))
         (hs-are log' d (compressedAt (circuitOf ws)) (compressed-counted log' d front) (countsAt (circuitOf ws)) (counts-counted log' d front)
-        (getD challenges (numUser (circuitOf ws) + 1) 0) refl)
+        γ (sym (γ-is ∙ ap (λ (u : ℕ). el (getD challenges (u + 1) 0)) (user-is ws a v e))))
 
   -- ---- the counts, and question 15
   module _ (instances witness challenges d₀ d d' : List ℕ) (answer : Bool)

@@ -1,5 +1,6 @@
 // The columns of a build: the stages one after another on the one column buffer.
 use blank_column::clear;
+use goldilocks::Goldilocks;
 use lookups::lookup_h_polys;
 use lookups::lookup_m_polys;
 use needed::column_words;
@@ -74,7 +75,7 @@ fn last_columns(
 {
     let at = places_of(circuit, v);
     let user = v.user;
-    let gamma = challenges[user + 1];
+    let gamma = Goldilocks::at(challenges, user + 1);
     lookup_h_polys(
         columns,
         v.lookups,

@@ -3,57 +3,63 @@ use bh::next;
 use blank_column::rows_of;
 use expression::poly::Layout;
 use expression::value::Point;
+use goldilocks::Goldilocks;
+use leaves::context;
 use node::index;
-use node::word_at;
 use prover::Roots;
-use value::value;
+use value::lower;
 ghost use mathlib.Core.Path.{_≡_};
 ghost use mathlib.Core.List.{[], _∷_};
 ghost use Prim.Native.Nat.{_+_, _*_, _/_, _%_, _^_, _≤_, _<_};
 ghost use lib.ListN.{length, take, drop};
-ghost use Rattle.field.specs.Field.{𝔾, el, val};
+ghost use Rattle.field.specs.Field.{𝔾, val};
+ghost use Rattle.goldilocks.specs.Element.{elem};
 ghost use Rattle.bh.specs.Rows.{rowAt};
 ghost use Rattle.util.specs.Lists.{column, over, split, total};
 ghost use Rattle.expression.specs.Nodes.{exprOf};
 ghost use Rattle.expression.specs.Value.{valueAt};
 ghost use Rattle.expression.specs.Reader.{Small};
-ghost use Rattle.expression.specs.Point.{Placed, environmentOf};
+ghost use Rattle.expression.specs.Point.{Placed, Ready, pointOf, layoutOf, environmentOf};
+ghost use Rattle.value.specs.Lent.{lent};
 ghost use Rattle.backend.specs.Circuit.{pairsOf};
 ghost use Rattle.backend.specs.Constraints.{inputsOf, tablesOf};
 ghost use Rattle.prover.specs.Words.{wordsOf};
 ghost use Rattle.prover.specs.Lent.{Behind, lentEnvironment, compressedIn, compressedPolysIn, rootsOf};
 
-// The value of the expression at a root, 0 where there is no such node.
-fn value_of_root<'a>(
-    nodes: &'a [u64],
-    circuit: &'a [u64],
-    witness: &'a [u64],
-    columns: &'a [u64],
-    challenges: &'a [u64],
-    layout: Layout,
-    point: Point,
-    root: u64,
-) -> u64
-    requires { ⌜ (length (now nodes) % 4 ≡ 0) × (Small layout × Placed point) ⌝ }
-    ensures { λ r. ⌜ el r ≡ valueAt 𝔾 (environmentOf (now (circuit .entry)) (now (witness .entry)) (now (columns .entry)) (now (challenges .entry)) layout point) (exprOf (now (nodes .entry)) root) (point .row) ⌝ }
+// The value of the expression at a root, 0 where there is no such node. `count` is how many nodes there are.
+fn value_of_root<'a>(s: &[&'a [u64]; 5], c: &[usize; 12], count: usize, root: u64) -> Goldilocks
+    requires { ⌜ (count ≡ length (lent (now s) 0) / 4) × (length (lent (now s) 0) % 4 ≡ 0) × Ready (now c) ⌝ }
+    ensures { λ r. ⌜ elem r ≡ valueAt 𝔾 (environmentOf (lent (now (s .entry)) 1) (lent (now (s .entry)) 2) (lent (now (s .entry)) 3) (lent (now (s .entry)) 4) (layoutOf (now (c .entry))) (pointOf (now (c .entry)))) (exprOf (lent (now (s .entry)) 0) root) (pointOf (now (c .entry)) .row) ⌝ }
 {
-    let n = index(root);
-    if n < nodes.len() / 4 {
-        return value(
-            nodes,
-            circuit,
-            witness,
-            columns,
-            challenges,
-            layout,
-            point,
-            n,
-        );
-    }
-    0
+    Goldilocks::from_u64(lower(s, c, count, root))
 }
 
-// The compressed value at a point.
+// The compressed value at the point of the context.
+fn compressed_over<'a>(
+    s: &[&'a [u64]; 5],
+    c: &[usize; 12],
+    count: usize,
+    pairs: &[u64],
+    roots: Roots,
+    beta: Goldilocks,
+) -> Goldilocks
+    requires { ⌜ (count ≡ length (lent (now s) 0) / 4) × (length (lent (now s) 0) % 4 ≡ 0) × Ready (now c) × ((roots .start + roots .width) * 2 ≤ length (now pairs)) × (roots .side < 2) ⌝ }
+    ensures { λ r. ⌜ elem r ≡ compressedIn 𝔾 (environmentOf (lent (now (s .entry)) 1) (lent (now (s .entry)) 2) (lent (now (s .entry)) 3) (lent (now (s .entry)) 4) (layoutOf (now (c .entry))) (pointOf (now (c .entry)))) (elem beta) (rootsOf (lent (now (s .entry)) 0) (now (pairs .entry)) roots) (pointOf (now (c .entry)) .row) ⌝ }
+{
+    let mut sum = Goldilocks::ZERO;
+    let mut power = Goldilocks::ONE;
+    let mut i: usize = 0;
+    while i < roots.width {
+        let root = pairs[(roots.start + i) * 2 + roots.side];
+        let x = value_of_root(s, c, count, root);
+        sum = sum.add(power.mul(x));
+        power = power.mul(beta);
+        i += 1;
+    }
+    sum
+}
+
+// The compressed value at a point: the context and the slices are made once for all its expressions.
 fn compressed_at<'a>(
     nodes: &'a [u64],
     circuit: &'a [u64],
@@ -64,31 +70,14 @@ fn compressed_at<'a>(
     point: Point,
     pairs: &[u64],
     roots: Roots,
-    beta: u64,
-) -> u64
+    beta: Goldilocks,
+) -> Goldilocks
     requires { ⌜ (length (now nodes) % 4 ≡ 0) × (Small layout × Placed point) × ((roots .start + roots .width) * 2 ≤ length (now pairs)) × (roots .side < 2) ⌝ }
-    ensures { λ r. ⌜ r ≡ val (compressedIn 𝔾 (environmentOf (now (circuit .entry)) (now (witness .entry)) (now (columns .entry)) (now (challenges .entry)) layout point) (el beta) (rootsOf (now (nodes .entry)) (now (pairs .entry)) roots) (point .row)) ⌝ }
+    ensures { λ r. ⌜ elem r ≡ compressedIn 𝔾 (environmentOf (now (circuit .entry)) (now (witness .entry)) (now (columns .entry)) (now (challenges .entry)) layout point) (elem beta) (rootsOf (now (nodes .entry)) (now (pairs .entry)) roots) (point .row) ⌝ }
 {
-    let mut sum: u64 = 0;
-    let mut power: u64 = 1;
-    let mut i: usize = 0;
-    while i < roots.width {
-        let root = pairs[(roots.start + i) * 2 + roots.side];
-        let x = value_of_root(
-            nodes,
-            circuit,
-            witness,
-            columns,
-            challenges,
-            layout,
-            point,
-            root,
-        );
-        sum = field::add_u64(sum, field::mul_u64(power, x));
-        power = field::mul_u64(power, beta);
-        i += 1;
-    }
-    sum
+    let c = context(layout, point);
+    let s = [nodes, circuit, witness, columns, challenges];
+    compressed_over(&s, &c, nodes.len() / 4, pairs, roots, beta)
 }
 
 // The row after the one at a place of the order.
@@ -113,11 +102,11 @@ pub fn lookup_compressed_poly<'a>(
     k: usize,
     pairs: &[u64],
     roots: Roots,
-    beta: u64,
+    beta: Goldilocks,
     to: usize,
 )
     requires { ⌜ Behind k layout (now nodes) (now columns) to (2 ^ k) × ((roots .start + roots .width) * 2 ≤ length (now pairs)) × (roots .side < 2) ⌝ }
-    ensures { λ _. ⌜ now (columns .exit) ≡ over (now (columns .entry)) to (column (λ b. val (compressedIn 𝔾 (lentEnvironment (now (circuit .entry)) (now (witness .entry)) (now (columns .entry)) (now (challenges .entry)) layout k) (el beta) (rootsOf (now (nodes .entry)) (now (pairs .entry)) roots) b)) (2 ^ k)) ⌝ }
+    ensures { λ _. ⌜ now (columns .exit) ≡ over (now (columns .entry)) to (column (λ b. val (compressedIn 𝔾 (lentEnvironment (now (circuit .entry)) (now (witness .entry)) (now (columns .entry)) (now (challenges .entry)) layout k) (elem beta) (rootsOf (now (nodes .entry)) (now (pairs .entry)) roots) b)) (2 ^ k)) ⌝ }
 {
     let rows = rows_of(k);
     let given = layout.instances * rows;
@@ -141,7 +130,7 @@ pub fn lookup_compressed_poly<'a>(
             roots,
             beta,
         );
-        columns[to + row] = x;
+        columns[to + row] = x.to_u64();
         row = row_after(row, place, k);
         place += 1;
     }
@@ -159,11 +148,11 @@ fn compressed_pair<'a>(
     pairs: &[u64],
     start: usize,
     width: usize,
-    beta: u64,
+    beta: Goldilocks,
     to: usize,
 )
     requires { ⌜ Behind k layout (now nodes) (now columns) to (2 ^ k + 2 ^ k) × ((start + width) * 2 ≤ length (now pairs)) ⌝ }
-    ensures { λ _. ⌜ now (columns .exit) ≡ over (now (columns .entry)) to (wordsOf (2 ^ k) (compressedIn 𝔾 (lentEnvironment (now (circuit .entry)) (now (witness .entry)) (now (columns .entry)) (now (challenges .entry)) layout k) (el beta) (inputsOf (take width (drop start (pairsOf (now (nodes .entry)) (now (pairs .entry)))))) ∷ compressedIn 𝔾 (lentEnvironment (now (circuit .entry)) (now (witness .entry)) (now (columns .entry)) (now (challenges .entry)) layout k) (el beta) (tablesOf (take width (drop start (pairsOf (now (nodes .entry)) (now (pairs .entry)))))) ∷ [])) ⌝ }
+    ensures { λ _. ⌜ now (columns .exit) ≡ over (now (columns .entry)) to (wordsOf (2 ^ k) (compressedIn 𝔾 (lentEnvironment (now (circuit .entry)) (now (witness .entry)) (now (columns .entry)) (now (challenges .entry)) layout k) (elem beta) (inputsOf (take width (drop start (pairsOf (now (nodes .entry)) (now (pairs .entry)))))) ∷ compressedIn 𝔾 (lentEnvironment (now (circuit .entry)) (now (witness .entry)) (now (columns .entry)) (now (challenges .entry)) layout k) (elem beta) (tablesOf (take width (drop start (pairsOf (now (nodes .entry)) (now (pairs .entry)))))) ∷ [])) ⌝ }
 {
     lookup_compressed_poly(
         nodes,
@@ -212,11 +201,11 @@ pub fn lookup_compressed_polys<'a>(
     k: usize,
     widths: &[u64],
     pairs: &[u64],
-    beta: u64,
+    beta: Goldilocks,
     to: usize,
 )
     requires { ⌜ Behind k layout (now nodes) (now columns) to (length (now widths) * (2 ^ k + 2 ^ k)) × (total (now widths) * 2 ≤ length (now pairs)) ⌝ }
-    ensures { λ _. ⌜ now (columns .exit) ≡ over (now (columns .entry)) to (wordsOf (2 ^ k) (compressedPolysIn 𝔾 (lentEnvironment (now (circuit .entry)) (now (witness .entry)) (now (columns .entry)) (now (challenges .entry)) layout k) (el beta) (split (now (widths .entry)) (pairsOf (now (nodes .entry)) (now (pairs .entry)))))) ⌝ }
+    ensures { λ _. ⌜ now (columns .exit) ≡ over (now (columns .entry)) to (wordsOf (2 ^ k) (compressedPolysIn 𝔾 (lentEnvironment (now (circuit .entry)) (now (witness .entry)) (now (columns .entry)) (now (challenges .entry)) layout k) (elem beta) (split (now (widths .entry)) (pairsOf (now (nodes .entry)) (now (pairs .entry)))))) ⌝ }
 {
     let rows = rows_of(k);
     let mut start: usize = 0;

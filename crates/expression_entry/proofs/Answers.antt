@@ -9,9 +9,7 @@ use lib.Pow.{pow-mono}
 use lib.Dec.{eqb, ltb, leb}
 use lib.ListN.{length, getD, drop}
 use borrow.Author.Tests.{leb-true, ltb-true, eqb-true, lt-ltb, le-ltb}
-use Rattle.field.specs.Prime.{P}
-use Rattle.field.specs.Field.{𝔾, el, val}
-use Rattle.field.proofs.Elements.{val-el-mod}
+use Rattle.field.specs.Field.{𝔾, val}
 use Rattle.bh.specs.Rows.{placeOf}
 use Rattle.util.specs.Lists.{column, over, allOf, within, written, concat}
 use Rattle.util.proofs.Tests.{false-true, and-left, and-right, and-both, all-each}
@@ -113,15 +111,15 @@ pub nought-on : (a b : ℕ) → a ≡ b → a ≡ 0 + b
 nought-on a b e = e ∙ sym (zero-add b)
 
 -- the word at row b
-pub value-word : (nodes circuit witness columns challenges : List ℕ) (l : Layout) (k : ℕ) (eq : List ℕ) (n b place e x r : ℕ)
+pub value-word : (nodes circuit witness columns challenges : List ℕ) (l : Layout) (k : ℕ) (eq : List ℕ) (n b place e : ℕ) (x : 𝔾 .F) (r : ℕ)
     → place ≡ placeOf k b → e ≡ getD eq b 0
-    → el x
+    → x
     ≡ valueAt 𝔾 (environmentOf circuit witness columns challenges l (record { k = k; row = b; place = place; eq = e })) (exprOf nodes n) b
-    → r ≡ x % P
+    → r ≡ val x
     → r ≡ valueWord nodes circuit witness columns challenges l k eq n b
 unfolding valueWord
 value-word nodes circuit witness columns challenges l k eq n b place e x r p q v m =
-    m ∙ sym (val-el-mod x) ∙ ap val v
+    m ∙ ap val v
     ∙ ap
     (λ (z : ℕ).
     val (valueAt 𝔾 (environmentOf circuit witness columns challenges l (record { k = k; row = b; place = z; eq = e })) (exprOf nodes n) b))

@@ -4,7 +4,6 @@ use compressed::row_after;
 use degree::degree_of;
 use expression::poly::Layout;
 use expression::value::Point;
-use field::reduce_u64;
 use node::index;
 use node::word_at;
 use query::used_queries;
@@ -113,7 +112,7 @@ fn values<'a>(
             },
             n,
         );
-        out[row] = reduce_u64(x);
+        out[row] = x.to_u64();
         row = row_after(row, place, k);
         place += 1;
     }

@@ -86,7 +86,7 @@ impl Goldilocks {
     pub fn is_zero(self) -> bool
         ensures { λ r. ⌜ r ≡ isZero (elem self) ⌝ }
     {
-        reduce_u64(self.0) == 0
+        self.to_u64() == 0
     }
 
     // self + b.

@@ -1,12 +1,9 @@
 // The leaves of an expression at a point, and the field's operations.
 use expression::poly::Layout;
 use expression::value::Point;
-use field::add_u64;
-use field::mul_u64;
-use field::neg_u64;
+use goldilocks::Goldilocks;
 use node::index;
 use node::rotation_of;
-use poly::poly_at;
 use rotation::rotate;
 ghost use mathlib.Core.Path.{_≡_};
 ghost use mathlib.Core.Bool.{cond};
@@ -15,7 +12,7 @@ ghost use lib.Dec.{eqb};
 ghost use Rattle.bh.specs.Rows.{placeOf, rotated, lagrangeRow};
 ghost use Rattle.field.specs.Field.{𝔾, el};
 ghost use Rattle.expression.specs.Nodes.{signed};
-ghost use Rattle.expression.specs.Point.{Ready, pointOf, layoutOf, contextOf, polyValue};
+ghost use Rattle.expression.specs.Point.{Ready, pointOf, layoutOf, contextOf};
 
 // The point and the layout as the walk hands them down: twelve numbers.
 pub fn context(layout: Layout, point: Point) -> [usize; 12]
@@ -43,9 +40,9 @@ pub fn lagrange(word: u64, k: usize, row: usize, place: usize) -> u64
     ensures { λ r. ⌜ el r ≡ cond (eqb row (lagrangeRow k (signed word))) (𝔾 .one) (𝔾 .zero) ⌝ }
 {
     if index(word & ((1 << k) - 1)) == place {
-        return 1;
+        return Goldilocks::ONE.word();
     }
-    0
+    Goldilocks::ZERO.word()
 }
 
 // A number as a word.
@@ -91,37 +88,21 @@ pub fn turned(c: &[usize; 12], rotation: u64) -> usize
     rotate(row, rotation_of(rotation, k), k)
 }
 
-// A query at a point: a polynomial at the row that its rotation leads to.
-pub fn query(
-    circuit: &[u64],
-    witness: &[u64],
-    columns: &[u64],
-    c: &[usize; 12],
-    polynomial: u64,
-    rotation: u64,
-) -> u64
-    requires { ⌜ Ready (now c) ⌝ }
-    ensures { λ r. ⌜ el r ≡ polyValue (now (circuit .entry)) (now (witness .entry)) (now (columns .entry)) (now (c .entry)) polynomial (signed rotation) ⌝ }
-{
-    let row = turned(c, rotation);
-    let layout = layout_of(c);
-    poly_at(circuit, witness, columns, layout, polynomial, row)
-}
-
+// The field's operations on words, each word standing for its element.
 pub fn add(a: u64, b: u64) -> u64
     ensures { λ r. ⌜ el r ≡ 𝔾 .add (el a) (el b) ⌝ }
 {
-    add_u64(a, b)
+    Goldilocks::from_u64(a).add(Goldilocks::from_u64(b)).word()
 }
 
 pub fn mul(a: u64, b: u64) -> u64
     ensures { λ r. ⌜ el r ≡ 𝔾 .mul (el a) (el b) ⌝ }
 {
-    mul_u64(a, b)
+    Goldilocks::from_u64(a).mul(Goldilocks::from_u64(b)).word()
 }
 
 pub fn neg(a: u64) -> u64
     ensures { λ r. ⌜ el r ≡ 𝔾 .neg (el a) ⌝ }
 {
-    neg_u64(a)
+    Goldilocks::from_u64(a).neg().word()
 }

@@ -139,10 +139,10 @@ module _ (g : Log 𝔾) (d : List ℕ) (at : ℕ)
         ∙ el-val (polyOf 𝔾 (mPolys 𝔾 g) j b)
         ∙ ap (λ (p : ℕ → 𝔾 .F). p b) (get-map {B = ℕ → 𝔾 .F} (mAt 𝔾 g) (g .circuit .lookups) j [] (λ r. 𝔾 .zero) l)
 
-    pub hs-are : (gamma : ℕ) → g .γ ≡ el gamma → hsFrom d at rows (el gamma) m n ≡ wordsOf rows (hPolys 𝔾 g)
+    pub hs-are : (γ : 𝔾 .F) → g .γ ≡ γ → hsFrom d at rows γ m n ≡ wordsOf rows (hPolys 𝔾 g)
     unfolding hPolys lookupHAt
-    hs-are gamma γ-is =
-        ap (λ (γ : 𝔾 .F). hsFrom d at rows γ m n) (sym γ-is)
+    hs-are γ γ-is =
+        ap (λ (x : 𝔾 .F). hsFrom d at rows x m n) (sym γ-is)
         ∙ columns-are (g .circuit .lookups) [] rows
         (λ j b. val (hAt 𝔾 (g .γ) (inputFrom d at rows j) (tableFrom d at rows j) (elementsFrom d (m + j * rows)) b)) (lookupHAt 𝔾 g)
         (λ j l b h.

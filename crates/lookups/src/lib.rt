@@ -1,11 +1,12 @@
 // The count and h columns of all lookups, in the one column buffer: lookup j's input starts at word compressed + j * 2 * rows, its
 // table at compressed + (j * 2 + 1) * rows, its counts at m + j * rows, its h at h + j * rows.
+use goldilocks::Goldilocks;
 use lookup_h::lookup_h_poly;
 use lookup_m::lookup_m_poly;
 ghost use mathlib.Core.Path.{_≡_};
 ghost use Prim.Native.Nat.{_+_, _*_, _≤_};
 ghost use lib.ListN.{length, getD};
-ghost use Rattle.field.specs.Field.{el};
+ghost use Rattle.goldilocks.specs.Element.{elem};
 ghost use Rattle.util.specs.Lists.{over};
 ghost use Rattle.prover.specs.Words.{Small};
 ghost use Rattle.lookups.specs.Lookups.{CountsWritten, hsFrom};
@@ -44,11 +45,11 @@ pub fn lookup_h_polys(
     compressed: usize,
     m: usize,
     h: usize,
-    gamma: u64,
+    gamma: Goldilocks,
     rows: usize,
 )
     requires { ⌜ (compressed + lookups * 2 * rows ≤ h) × (m + lookups * rows ≤ h) × (h + lookups * rows ≤ length (now columns)) ⌝ }
-    ensures { λ _. ⌜ now (columns .exit) ≡ over (now (columns .entry)) h (hsFrom (now (columns .entry)) compressed rows (el gamma) m lookups) ⌝ }
+    ensures { λ _. ⌜ now (columns .exit) ≡ over (now (columns .entry)) h (hsFrom (now (columns .entry)) compressed rows (elem gamma) m lookups) ⌝ }
 {
     let mut input = compressed;
     let mut counts = m;

@@ -3,15 +3,13 @@ use mathlib.Core.Path.{_≡_, refl, sym, ap, ap₂, _∙_}
 use mathlib.Core.List.{List, [], _∷_, _++_, map, append-nil, map-append}
 use Prim.Native.Nat.{ℕ, zero, suc, _+_, _*_, _/_, _%_, _^_, _≤_, _<_}
 use native.Mathlib.Nat.{suc-mul, mul-le-mul, mul-assoc}
+use native.Mathlib.Decide.{decLt}
 use native.Mathlib.Numerals.{add-one}
 use native.Mathlib.Omega.{arith}
-use lib.Dec.{lit<}
 use lib.ListN.{length, getD, take, drop, length-drop}
 use lib.Seq.{getD-take, getD-drop, ext-getD, length-take-le}
-use Rattle.field.specs.Prime.{P}
-use Rattle.field.specs.Field.{𝔾, el, val, addP, mulP, val-el, el-zero, el-one, el-add, el-mul}
+use Rattle.field.specs.Field.{𝔾, el, val, el-zero, el-one}
 use Rattle.field.specs.Algebra.{pow, mul-comm}
-use Rattle.field.proofs.Elements.{addP-lt}
 use Rattle.bh.specs.Sums.{upTo}
 use Rattle.util.specs.Lists.{column, concat, over, split, total}
 use Rattle.util.proofs.Columns.{column-length, column-cong, get-column, map-column}
@@ -21,10 +19,11 @@ use Rattle.util.proofs.Parts.{split-more}
 use Rattle.identities.proofs.Totals.{upTo-cong, upTo-suc}
 use Rattle.expression.specs.Expr.{Expr, evaluate}
 use Rattle.expression.specs.Nodes.{wordOf, nodeOf, kindOf, noExpr, noExprs, under, exprOf, itemsOf}
-use Rattle.expression.specs.Value.{Environment, valueOps, valueAt}
-use Rattle.expression.specs.Point.{environmentOf}
+use Rattle.expression.specs.Value.{Environment, valueAt}
+use Rattle.expression.specs.Point.{environmentOf, opsOf, pointOf, layoutOf}
 use Rattle.expression.specs.declared.poly.Layout.{Layout}
 use Rattle.expression.proofs.Fuel.{expr-step}
+use Rattle.expression.proofs.Step.{under-yes, under-no}
 use Rattle.backend.specs.Circuit.{Pair, pairAt, pairsOf}
 use Rattle.backend.specs.Constraints.{inputsOf, tablesOf}
 use Rattle.prover.specs.Columns.{powerSum}
@@ -43,64 +42,62 @@ no-node ws n e h =
     ∙ ap (λ (k : ℕ). nodeOf (kindOf k) (under n noExpr (exprOf ws)) (under n noExprs (itemsOf ws)) (wordOf ws n 1) (wordOf ws n 2) (wordOf ws n 3))
     (get-none ws (n * 4 + 0) 0 (omega arith))
 
-pub no-value : (s : Environment 𝔾) (ws : List ℕ) (n b : ℕ) → length ws % 4 ≡ 0 → length ws / 4 ≤ n
-    → s .el 0 ≡ valueAt 𝔾 s (exprOf ws n) b
-unfolding valueAt valueOps evaluate
-no-value s ws n b e h = sym (ap (λ (x : Expr). valueAt 𝔾 s x b) (no-node ws n e h))
-
-pub root-value : (s : Environment 𝔾) (ws : List ℕ) (n root b w : ℕ) → n ≡ root → el w ≡ valueAt 𝔾 s (exprOf ws n) b
-    → el w ≡ valueAt 𝔾 s (exprOf ws root) b
-root-value s ws n root b w q e = e ∙ ap (λ (x : ℕ). valueAt 𝔾 s (exprOf ws x) b) q
+-- what `lower` ensures, with as many nodes as there are
+pub root-value : (circuit witness columns challenges c ws : List ℕ) (n root : ℕ) → n ≡ length ws / 4 → length ws % 4 ≡ 0 → (x : 𝔾 .F)
+    → x ≡ evaluate (opsOf circuit witness columns challenges c) (under n noExpr (exprOf ws) root)
+    → x ≡ valueAt 𝔾 (environmentOf circuit witness columns challenges (layoutOf c) (pointOf c)) (exprOf ws root) (pointOf c .row)
+unfolding opsOf valueAt
+root-value circuit witness columns challenges c ws n root q e x h =
+    h ∙ ap (evaluate (opsOf circuit witness columns challenges c)) (go (decLt root n))
+  where
+    go : Dec (root < n) → under n noExpr (exprOf ws) root ≡ exprOf ws root
+    go (yes l) = under-yes n noExpr (exprOf ws) root l
+    go (no g) = under-no n noExpr (exprOf ws) root (omega (arith, g)) ∙ sym (no-node ws root e (omega (arith, q, g)))
 
 -- ---- the sum at a row, by a running power and a running sum
 
-module _ (β : ℕ) (x : ℕ → 𝔾 .F) where
+module _ (β : 𝔾 .F) (x : ℕ → 𝔾 .F) where
   abbrev partialSum : ℕ → 𝔾 .F
-  partialSum i = upTo (𝔾 .add) (𝔾 .zero) (λ j. 𝔾 .mul (pow 𝔾 (el β) j) (x j)) i
+  partialSum i = upTo (𝔾 .add) (𝔾 .zero) (λ j. 𝔾 .mul (pow 𝔾 β j) (x j)) i
 
-  pub record Summed (sum power i : ℕ) : Type 0 where
-    pub small : sum < P
-    pub sum-is : el sum ≡ partialSum i
-    pub power-is : el power ≡ pow 𝔾 (el β) i
+  pub record Summed (sum power : 𝔾 .F) (i : ℕ) : Type 0 where
+    pub sum-is : sum ≡ partialSum i
+    pub power-is : power ≡ pow 𝔾 β i
 
-  pub sum-start : Summed 0 1 0
+  pub sum-start : Summed (el 0) (el 1) 0
   unfolding upTo pow
-  sum-start = record { small = lit< tt; sum-is = el-zero; power-is = el-one }
+  sum-start = record { sum-is = el-zero; power-is = el-one }
 
-  pub sum-more : (sum power i w sum' power' : ℕ) → Summed sum power i → el w ≡ x i
-      → sum' ≡ addP sum (mulP power w) → power' ≡ mulP power β → Summed sum' power' (i + 1)
+  pub sum-more : (sum power : 𝔾 .F) (i : ℕ) (v term sum' power' : 𝔾 .F) → Summed sum power i → v ≡ x i
+      → term ≡ 𝔾 .mul power v → sum' ≡ 𝔾 .add sum term → power' ≡ 𝔾 .mul power β → Summed sum' power' (i + 1)
   unfolding pow
-  sum-more sum power i w sum' power' s e p q =
+  sum-more sum power i v term sum' power' s e t p q =
       record {
-        small = rw p (addP-lt sum (mulP power w));
         sum-is =
-            ap el p ∙ el-add sum (mulP power w)
-            ∙ ap₂ (𝔾 .add) (s .sum-is) (el-mul power w ∙ ap₂ (𝔾 .mul) (s .power-is) e)
-            ∙ sym (upTo-suc (𝔾 .add) (𝔾 .zero) (λ j. 𝔾 .mul (pow 𝔾 (el β) j) (x j)) i)
+            p ∙ ap₂ (𝔾 .add) (s .sum-is) (t ∙ ap₂ (𝔾 .mul) (s .power-is) e)
+            ∙ sym (upTo-suc (𝔾 .add) (𝔾 .zero) (λ j. 𝔾 .mul (pow 𝔾 β j) (x j)) i)
             ∙ ap partialSum (sym (add-one i));
         power-is =
-            ap el q ∙ el-mul power β ∙ ap (λ (y : 𝔾 .F). 𝔾 .mul y (el β)) (s .power-is)
-            ∙ mul-comm 𝔾 (pow 𝔾 (el β) i) (el β)
-            ∙ ap (pow 𝔾 (el β)) (sym (add-one i));
+            q ∙ ap (λ (y : 𝔾 .F). 𝔾 .mul y β) (s .power-is)
+            ∙ mul-comm 𝔾 (pow 𝔾 β i) β
+            ∙ ap (pow 𝔾 β) (sym (add-one i));
       }
 
-module _ (s : Environment 𝔾) (β : ℕ) (nodes pairs : List ℕ) (r : Roots) (b : ℕ) where
+module _ (s : Environment 𝔾) (β : 𝔾 .F) (nodes pairs : List ℕ) (r : Roots) (b : ℕ) where
   abbrev pub rootValue : ℕ → 𝔾 .F
   rootValue j = valueAt 𝔾 s (exprOf nodes (getD pairs ((r .start + j) * 2 + r .side) 0)) b
 
-  pub sum-end : (sum power i : ℕ) → Summed β rootValue sum power i → i ≡ r .width
-      → sum ≡ val (compressedIn 𝔾 s (el β) (rootsOf nodes pairs r) b)
+  pub sum-end : (sum power : 𝔾 .F) (i : ℕ) → Summed β rootValue sum power i → i ≡ r .width
+      → sum ≡ compressedIn 𝔾 s β (rootsOf nodes pairs r) b
   unfolding compressedIn rootsOf powerSum
   sum-end sum power i h e =
-      sym (val-el sum (h .small))
-      ∙ ap val
-      (h .sum-is
+      h .sum-is
       ∙ ap (λ (n : ℕ). partialSum β rootValue n) e
-      ∙ upTo-cong (𝔾 .add) (𝔾 .zero) (λ j. 𝔾 .mul (pow 𝔾 (el β) j) (rootValue j))
-      (λ j. 𝔾 .mul (pow 𝔾 (el β) j) (getD (column rootValue (r .width)) j (𝔾 .zero))) (r .width)
-      (λ j l. ap (𝔾 .mul (pow 𝔾 (el β) j)) (sym (get-column rootValue (r .width) j (𝔾 .zero) l)))
-      ∙ ap₂ (λ (xs : List (𝔾 .F)) (n : ℕ). upTo (𝔾 .add) (𝔾 .zero) (λ j. 𝔾 .mul (pow 𝔾 (el β) j) (getD xs j (𝔾 .zero))) n) whole
-      (sym (ap length (sym whole) ∙ column-length rootValue (r .width))))
+      ∙ upTo-cong (𝔾 .add) (𝔾 .zero) (λ j. 𝔾 .mul (pow 𝔾 β j) (rootValue j))
+      (λ j. 𝔾 .mul (pow 𝔾 β j) (getD (column rootValue (r .width)) j (𝔾 .zero))) (r .width)
+      (λ j l. ap (𝔾 .mul (pow 𝔾 β j)) (sym (get-column rootValue (r .width) j (𝔾 .zero) l)))
+      ∙ ap₂ (λ (xs : List (𝔾 .F)) (n : ℕ). upTo (𝔾 .add) (𝔾 .zero) (λ j. 𝔾 .mul (pow 𝔾 β j) (getD xs j (𝔾 .zero))) n) whole
+      (sym (ap length (sym whole) ∙ column-length rootValue (r .width)))
     where
       exprs : List Expr
       exprs = column (λ i. exprOf nodes (getD pairs ((r .start + i) * 2 + r .side) 0)) (r .width)

@@ -4,7 +4,7 @@ use mathlib.Core.List.{List, []}
 use Prim.Native.Nat.{ℕ, _+_, _*_, _^_, _<_}
 use native.Mathlib.Omega.{arith}
 use lib.ListN.{getD, length-map}
-use Rattle.field.specs.Field.{𝔾, el, val, el-val}
+use Rattle.field.specs.Field.{𝔾, el}
 use Rattle.bh.specs.Rows.{rotated}
 use Rattle.bh.proofs.Turn.{rotated-lt}
 use Rattle.util.specs.Lists.{column}
@@ -91,7 +91,7 @@ module _ (ws witness columns : List ℕ) (accepted : Accepted ws) where
 
 -- at a point whose EqXY is that of its row, an expression has the value of that row
 module _ (ws witness columns challenges y : List ℕ) (accepted : Accepted ws) (p : Point) (k-is : p .k ≡ circuitOf ws .k) (small : p .k < 21)
-    (inside : p .row < 2 ^ p .k) (eq-is : p .eq ≡ val (eqAt 𝔾 (p .k) (λ i. el (getD y i 0)) (p .row))) where
+    (inside : p .row < 2 ^ p .k) (eq-is : el (p .eq) ≡ eqAt 𝔾 (p .k) (λ i. el (getD y i 0)) (p .row)) where
   same-rows : 2 ^ wordK ws ≡ 2 ^ p .k
   unfolding circuitOf
   same-rows = ap (λ (n : ℕ). 2 ^ n) (sym k-is)
@@ -105,7 +105,7 @@ module _ (ws witness columns challenges y : List ℕ) (accepted : Accepted ws) (
       (record {
         same-k = k-is;
         same-el = refl;
-        same-eq = λ i u. ap el eq-is ∙ el-val _ ∙ ap (λ (k : ℕ). eqAt 𝔾 k (λ i. el (getD y i 0)) (p .row)) k-is;
+        same-eq = λ i u. eq-is ∙ ap (λ (k : ℕ). eqAt 𝔾 k (λ i. el (getD y i 0)) (p .row)) k-is;
         same-poly = λ q r u.
             same-at 𝔾 (2 ^ wordK ws) _ _ (sum-polys ws witness columns accepted) q (rotated (p .k) (p .row) r)
             (let w = rotated-lt (p .k) (omega arith) (p .row) r inside in let s = same-rows in omega arith)

@@ -4,7 +4,7 @@ use mathlib.Core.List.{List}
 use Prim.Native.Nat.{ℕ, _+_, _-_, _*_, _/_, _^_, _≤_, _<_}
 use native.Mathlib.Omega.{arith}
 use lib.ListN.{length, getD}
-use Rattle.field.specs.Field.{𝔾, el, val}
+use Rattle.field.specs.Field.{𝔾, el}
 use Rattle.bh.specs.Rows.{rowAt}
 use Rattle.expression.specs.Nodes.{exprOf}
 use Rattle.expression.specs.Value.{valueAt}
@@ -86,18 +86,18 @@ module _ (ws nodes y : List ℕ) (l : Layout) (k : ℕ) (s : Summable ws nodes y
     abbrev pub rootValue : ℕ → 𝔾 .F
     rootValue = valueAt 𝔾 (lentEnvironment ws witness columns challenges y) (exprOf nodes (composedNodes (circuitOf ws) - 1))
 
-    pub value-is : (p : Point) (r : ℕ) → p .k ≡ k → Placed p → p .eq ≡ val (eqAt 𝔾 k (λ i. el (getD y i 0)) (p .row))
-        → el r ≡ valueAt 𝔾 (environmentOf ws witness columns challenges l p) (exprOf nodes (length nodes / 4 - 1)) (p .row)
-        → el r ≡ rootValue (p .row)
-    value-is p r same h eq-is e =
+    pub value-is : (p : Point) (x : 𝔾 .F) → p .k ≡ k → Placed p → el (p .eq) ≡ eqAt 𝔾 k (λ i. el (getD y i 0)) (p .row)
+        → x ≡ valueAt 𝔾 (environmentOf ws witness columns challenges l p) (exprOf nodes (length nodes / 4 - 1)) (p .row)
+        → x ≡ rootValue (p .row)
+    value-is p x same h eq-is e =
         e
         ∙ ap (λ (l : Layout). valueAt 𝔾 (environmentOf ws witness columns challenges l p) (exprOf nodes (length nodes / 4 - 1)) (p .row)) (s .layout-is)
         ∙ point-value ws witness columns challenges y (s .accepted) p (same ∙ s .k-is) (h .small) (h .inside)
-        (eq-is ∙ ap (λ (k : ℕ). val (eqAt 𝔾 k (λ i. el (getD y i 0)) (p .row))) (sym same))
+        (eq-is ∙ ap (λ (k : ℕ). eqAt 𝔾 k (λ i. el (getD y i 0)) (p .row)) (sym same))
         (exprOf nodes (length nodes / 4 - 1))
         ∙ ap (λ (n : ℕ). valueAt 𝔾 (lentEnvironment ws witness columns challenges y) (exprOf nodes n) (p .row)) root-is
 
-    pub sum-is : (sum t : ℕ) → Added k rootValue sum t → t ≡ 2 ^ k → sum ≡ val (sumOf ws witness columns nodes challenges y)
+    pub sum-is : (sum : 𝔾 .F) (t : ℕ) → Added k rootValue sum t → t ≡ 2 ^ k → sum ≡ sumOf ws witness columns nodes challenges y
     unfolding sumOf
     sum-is sum t a e =
-        added-all k rootValue k-low k-high sum t a e ∙ ap (λ (k : ℕ). val (sumRows 𝔾 (2 ^ k) rootValue)) (s .k-is)
+        added-all k rootValue k-low k-high sum t a e ∙ ap (λ (k : ℕ). sumRows 𝔾 (2 ^ k) rootValue) (s .k-is)

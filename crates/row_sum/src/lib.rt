@@ -5,6 +5,7 @@ use composed::same_nodes;
 use compressed::row_after;
 use expression::poly::Layout;
 use expression::value::Point;
+use goldilocks::Goldilocks;
 use multilinear::eq_at;
 use needed::column_words;
 use needed::composed_nodes;
@@ -17,7 +18,8 @@ use words::all_below;
 ghost use mathlib.Core.Path.{_≡_};
 ghost use Prim.Native.Nat.{_-_, _^_, _≤_, _<_};
 ghost use lib.ListN.{take};
-ghost use Rattle.field.specs.Field.{𝔾, el, val};
+ghost use Rattle.field.specs.Field.{𝔾};
+ghost use Rattle.goldilocks.specs.Element.{elem};
 ghost use Rattle.bh.specs.Rows.{rowAt};
 ghost use Rattle.expression.specs.Nodes.{exprOf};
 ghost use Rattle.expression.specs.Value.{valueAt};
@@ -130,11 +132,11 @@ fn row_value<'a>(
     k: usize,
     row: usize,
     place: usize,
-) -> u64
+) -> Goldilocks
     requires { ⌜ Summable (now circuit) (now nodes) (now y) layout k × (place < 2 ^ k) × (row ≡ rowAt k place) ⌝ }
-    ensures { λ r. ⌜ el r ≡ valueAt 𝔾 (lentEnvironment (now (circuit .entry)) (now (witness .entry)) (now (columns .entry)) (now (challenges .entry)) (now (y .entry))) (exprOf (now (nodes .entry)) (composedNodes (circuitOf (now (circuit .entry))) - 1)) row ⌝ }
+    ensures { λ r. ⌜ elem r ≡ valueAt 𝔾 (lentEnvironment (now (circuit .entry)) (now (witness .entry)) (now (columns .entry)) (now (challenges .entry)) (now (y .entry))) (exprOf (now (nodes .entry)) (composedNodes (circuitOf (now (circuit .entry))) - 1)) row ⌝ }
 {
-    let eq = eq_at(k, y, row);
+    let eq = eq_at(k, y, row).word();
     let root = nodes.len() / 4 - 1;
     value(
         nodes,
@@ -163,12 +165,12 @@ fn sum_rows<'a>(
     y: &[u64],
     layout: Layout,
     k: usize,
-) -> u64
+) -> Goldilocks
     requires { ⌜ Summable (now circuit) (now nodes) (now y) layout k ⌝ }
-    ensures { λ r. ⌜ r ≡ val (sumOf (now (circuit .entry)) (now (witness .entry)) (now (columns .entry)) (now (nodes .entry)) (now (challenges .entry)) (now (y .entry))) ⌝ }
+    ensures { λ r. ⌜ elem r ≡ sumOf (now (circuit .entry)) (now (witness .entry)) (now (columns .entry)) (now (nodes .entry)) (now (challenges .entry)) (now (y .entry)) ⌝ }
 {
     let rows = rows_of(k);
-    let mut sum: u64 = 0;
+    let mut sum = Goldilocks::ZERO;
     let mut row: usize = 0;
     let mut place: usize = 0;
     while place < rows {
@@ -184,7 +186,7 @@ fn sum_rows<'a>(
             row,
             place,
         );
-        sum = field::add_u64(sum, x);
+        sum = sum.add(x);
         row = row_after(row, place, k);
         place += 1;
     }
@@ -213,7 +215,7 @@ fn sum_prepared<'a>(
     let sum = sum_rows(circuit, witness, columns, nodes, challenges, y, layout, k);
     RowSum {
         number: 0,
-        sum: sum,
+        sum: sum.to_u64(),
     }
 }
 

@@ -210,18 +210,18 @@ module _ (ws : List ℕ) (a : Accepted ws) where
         omega arith),
   )
 
-  pub compressed-written : (l : Layout) (k to beta : ℕ) (nodes widths pairs witness user d new : List ℕ)
+  pub compressed-written : (l : Layout) (k to : ℕ) (β : 𝔾 .F) (nodes widths pairs witness user d new : List ℕ)
       → nodes ≡ bodyOf ws Section.nodes → widths ≡ bodyOf ws Section.widths → pairs ≡ bodyOf ws Section.pairs
       → new
       ≡ over d to
       (wordsOf (2 ^ k)
-      (compressedPolysIn 𝔾 (lentEnvironment ws witness d user l k) (el beta) (split widths (pairsOf nodes pairs))))
+      (compressedPolysIn 𝔾 (lentEnvironment ws witness d user l k) β (split widths (pairsOf nodes pairs))))
       → new
       ≡ over d to
-      (wordsOf (2 ^ k) (compressedPolysIn 𝔾 (lentEnvironment ws witness d user l k) (el beta) (circuitOf ws .lookups)))
-  compressed-written l k to beta nodes widths pairs witness user d new en ew ep h =
+      (wordsOf (2 ^ k) (compressedPolysIn 𝔾 (lentEnvironment ws witness d user l k) β (circuitOf ws .lookups)))
+  compressed-written l k to β nodes widths pairs witness user d new en ew ep h =
       h
-      ∙ ap (λ ls. over d to (wordsOf (2 ^ k) (compressedPolysIn 𝔾 (lentEnvironment ws witness d user l k) (el beta) ls)))
+      ∙ ap (λ ls. over d to (wordsOf (2 ^ k) (compressedPolysIn 𝔾 (lentEnvironment ws witness d user l k) β ls)))
       (ap₂ split ew (ap₂ pairsOf en ep) ∙ lookups-are ws (accepted.pairs-length ws a))
 
   pub compressed-room : (l : Layout) (k n : ℕ) (columns : List ℕ) → l ≡ layoutOf ws → k ≡ wordK ws → n ≡ numCopied (circuitOf ws)
@@ -239,12 +239,11 @@ module _ (ws : List ℕ) (a : Accepted ws) where
             omega arith),
       )
 
-  pub compressed-all : (l : Layout) (k n user beta : ℕ) (witness challenges d new : List ℕ) → l ≡ layoutOf ws → k ≡ wordK ws
-      → n ≡ numCopied (circuitOf ws) → user ≡ numUser (circuitOf ws) → beta ≡ getD challenges user 0
+  pub compressed-all : (l : Layout) (k n user : ℕ) (β : 𝔾 .F) (witness challenges d new : List ℕ) → l ≡ layoutOf ws → k ≡ wordK ws
+      → n ≡ numCopied (circuitOf ws) → user ≡ numUser (circuitOf ws) → β ≡ el (getD challenges user 0)
       → new
       ≡ over d ((l .instances + n) * l .rows)
-      (wordsOf (2 ^ k)
-      (compressedPolysIn 𝔾 (lentEnvironment ws witness d (take (user - 0) challenges) l k) (el beta) (circuitOf ws .lookups)))
+      (wordsOf (2 ^ k) (compressedPolysIn 𝔾 (lentEnvironment ws witness d (take (user - 0) challenges) l k) β (circuitOf ws .lookups)))
       → new
       ≡ over d (compressedAt (circuitOf ws))
       (wordsOf (rowsOf (circuitOf ws))
@@ -252,17 +251,17 @@ module _ (ws : List ℕ) (a : Accepted ws) where
       (lentEnvironment ws witness d (take (numUser (circuitOf ws)) challenges) (layoutOf ws) (circuitOf ws .k))
       (el (getD challenges (numUser (circuitOf ws)) 0))
       (circuitOf ws .lookups)))
-  compressed-all l k n user beta witness challenges d new is ek en eu eb h =
+  compressed-all l k n user β witness challenges d new is ek en eu eb h =
       let c : Circuit = circuitOf ws in
       let to : ℕ = compressedAt c in
-      let write : ℕ → Layout → ℕ → ℕ → List ℕ = λ k l user beta.
-      over d to (wordsOf (2 ^ k) (compressedPolysIn 𝔾 (lentEnvironment ws witness d (take user challenges) l k) (el beta) (c .lookups))) in
+      let write : ℕ → Layout → ℕ → 𝔾 .F → List ℕ = λ k l user β.
+      over d to (wordsOf (2 ^ k) (compressedPolysIn 𝔾 (lentEnvironment ws witness d (take user challenges) l k) β (c .lookups))) in
       h
-      ∙ ap₂ (λ (to m : ℕ). over d to (wordsOf (2 ^ k) (compressedPolysIn 𝔾 (lentEnvironment ws witness d (take m challenges) l k) (el beta) (c .lookups))))
+      ∙ ap₂ (λ (to m : ℕ). over d to (wordsOf (2 ^ k) (compressedPolysIn 𝔾 (lentEnvironment ws witness d (take m challenges) l k) β (c .lookups))))
       (compressed-at l is n en)
       (let q : user - 0 ≡ user = omega arith in q)
-      ∙ ap₂ (λ (k : ℕ) (l : Layout). write k l user beta) (ek ∙ sym (accepted.k-is ws a)) is
-      ∙ ap₂ (λ (user beta : ℕ). write (c .k) (layoutOf ws) user beta) eu (eb ∙ ap (λ (user : ℕ). getD challenges user 0) eu)
+      ∙ ap₂ (λ (k : ℕ) (l : Layout). write k l user β) (ek ∙ sym (accepted.k-is ws a)) is
+      ∙ ap₂ (λ (user : ℕ) (β : 𝔾 .F). write (c .k) (layoutOf ws) user β) eu (eb ∙ ap (λ (user : ℕ). el (getD challenges user 0)) eu)
 
   -- ---- z columns
   pub z-asks : (l : Layout) (k parts lookups : ℕ) (names columns : List ℕ) → l ≡ layoutOf ws → k ≡ wordK ws → lookups ≡ getD ws 13 0
@@ -283,12 +282,12 @@ module _ (ws : List ℕ) (a : Accepted ws) where
         rw (zs-at l is (length names) lookups n em, same, ez) room,
       )
 
-  pub z-written : (l : Layout) (k parts lookups user beta gamma : ℕ) (names witness challenges d new : List ℕ) → l ≡ layoutOf ws
+  pub z-written : (l : Layout) (k parts lookups user : ℕ) (beta gamma : 𝔾 .F) (names witness challenges d new : List ℕ) → l ≡ layoutOf ws
       → k ≡ wordK ws → lookups ≡ getD ws 13 0 → names ≡ copied (circuitOf ws) → parts ≡ numZ (circuitOf ws) → user ≡ numUser (circuitOf ws)
-      → beta ≡ getD challenges user 0 → gamma ≡ getD challenges (user + 1) 0
+      → beta ≡ el (getD challenges user 0) → gamma ≡ el (getD challenges (user + 1) 0)
       → new
       ≡ over d ((l .instances + length names + lookups * 4) * l .rows)
-      (wordsOf (2 ^ k) (column (zOf 𝔾 (lentRatio l ws witness d names (el beta) (el gamma)) k (length names) parts) parts))
+      (wordsOf (2 ^ k) (column (zOf 𝔾 (lentRatio l ws witness d names beta gamma) k (length names) parts) parts))
       → new
       ≡ over d (zsAt (circuitOf ws))
       (wordsOf (rowsOf (circuitOf ws))
@@ -302,13 +301,13 @@ module _ (ws : List ℕ) (a : Accepted ws) where
       (numZ (circuitOf ws))))
   z-written l k parts lookups user beta gamma names witness challenges d new is ek em en ez eu eb eg h =
       let c : Circuit = circuitOf ws in
-      let write : ℕ → Layout → ℕ → List ℕ → ℕ → ℕ → ℕ → List ℕ = λ to l k names parts beta gamma.
-      over d to (wordsOf (2 ^ k) (column (zOf 𝔾 (lentRatio l ws witness d names (el beta) (el gamma)) k (length names) parts) parts)) in
+      let write : ℕ → Layout → ℕ → List ℕ → ℕ → 𝔾 .F → 𝔾 .F → List ℕ = λ to l k names parts beta gamma.
+      over d to (wordsOf (2 ^ k) (column (zOf 𝔾 (lentRatio l ws witness d names beta gamma) k (length names) parts) parts)) in
       h
       ∙ ap₂ (λ (to k : ℕ). write to l k names parts beta gamma) (zs-at l is (length names) lookups (ap length en) em)
       (ek ∙ sym (accepted.k-is ws a))
       ∙ ap₂ (λ (l : Layout) (names : List ℕ). write (zsAt c) l (c .k) names parts beta gamma) is en
       ∙ ap (λ (parts : ℕ). write (zsAt c) (layoutOf ws) (c .k) (copied c) parts beta gamma) ez
-      ∙ ap₂ (λ (beta gamma : ℕ). write (zsAt c) (layoutOf ws) (c .k) (copied c) (numZ c) beta gamma)
-      (eb ∙ ap (λ (user : ℕ). getD challenges user 0) eu)
-      (eg ∙ ap (λ (user : ℕ). getD challenges (user + 1) 0) eu)
+      ∙ ap₂ (λ (beta gamma : 𝔾 .F). write (zsAt c) (layoutOf ws) (c .k) (copied c) (numZ c) beta gamma)
+      (eb ∙ ap (λ (user : ℕ). el (getD challenges user 0)) eu)
+      (eg ∙ ap (λ (user : ℕ). el (getD challenges (user + 1) 0)) eu)

@@ -4,6 +4,7 @@ use bodies::num_witness;
 use bodies::rows;
 use compressed::lookup_compressed_polys;
 use expression::poly::Layout;
+use goldilocks::Goldilocks;
 use instance::instance_polys;
 use node::index;
 use node::word_at;
@@ -18,7 +19,8 @@ use reader::widths_of;
 ghost use mathlib.Core.Path.{_≡_};
 ghost use Prim.Native.Nat.{_+_, _*_, _^_, _≤_};
 ghost use lib.ListN.{length};
-ghost use Rattle.field.specs.Field.{𝔾, el};
+ghost use Rattle.field.specs.Field.{𝔾};
+ghost use Rattle.goldilocks.specs.Element.{elem};
 ghost use Rattle.util.specs.Lists.{over, total};
 ghost use Rattle.backend.specs.Circuit.{Section, bodyOf, circuitOf, rowsOf, numInstance, numUser, numLookups, copied as copiedOf, numCopied};
 ghost use Rattle.preprocessor.specs.Compose.{numZ};
@@ -76,11 +78,11 @@ fn compressed_from<'a>(
     user: &'a [u64],
     layout: Layout,
     k: usize,
-    beta: u64,
+    beta: Goldilocks,
     to: usize,
 )
     requires { ⌜ Accepted (now circuit) × (layout ≡ layoutOf (now circuit)) × (k ≡ circuitOf (now circuit) .k) × (numInstance (circuitOf (now circuit)) * 2 ^ k ≤ to) × (to + numLookups (circuitOf (now circuit)) * (2 ^ k + 2 ^ k) ≤ length (now columns)) ⌝ }
-    ensures { λ _. ⌜ now (columns .exit) ≡ over (now (columns .entry)) to (wordsOf (2 ^ k) (compressedPolysIn 𝔾 (lentEnvironment (now (circuit .entry)) (now (witness .entry)) (now (columns .entry)) (now (user .entry)) layout k) (el beta) (circuitOf (now (circuit .entry)) .lookups))) ⌝ }
+    ensures { λ _. ⌜ now (columns .exit) ≡ over (now (columns .entry)) to (wordsOf (2 ^ k) (compressedPolysIn 𝔾 (lentEnvironment (now (circuit .entry)) (now (witness .entry)) (now (columns .entry)) (now (user .entry)) layout k) (elem beta) (circuitOf (now (circuit .entry)) .lookups))) ⌝ }
 {
     let nodes = nodes_of(circuit);
     let widths = widths_of(circuit);
@@ -115,7 +117,7 @@ pub fn compressed_columns<'a>(
     let k = index(word_at(circuit, 0));
     let layout = layout_of(circuit);
     let user = index(num_user(circuit));
-    let beta = word_at(challenges, user);
+    let beta = Goldilocks::at(challenges, user);
     let to = (layout.instances + copied) * layout.rows;
     compressed_from(
         circuit,
@@ -145,8 +147,8 @@ pub fn z_columns(
     let k = index(word_at(circuit, 0));
     let layout = layout_of(circuit);
     let user = index(num_user(circuit));
-    let beta = word_at(challenges, user);
-    let gamma = word_at(challenges, user + 1);
+    let beta = Goldilocks::from_u64(word_at(challenges, user));
+    let gamma = Goldilocks::from_u64(word_at(challenges, user + 1));
     let lookups = index(word_at(circuit, 13));
     let to = (layout.instances + copied.len() + lookups * 4) * layout.rows;
     permutation_z_polys(

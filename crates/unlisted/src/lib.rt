@@ -3,7 +3,6 @@
 use contents::word;
 use expression::poly::Layout;
 use expression::value::Point;
-use field::reduce_u64;
 use inputs::question_12;
 use needed::column_words;
 use prepare::copied_of;
@@ -207,7 +206,7 @@ fn value_of<'a>(
     if n >= (end - start) / 4 {
         return 0;
     }
-    let x = value(
+    value(
         &circuit[start..end],
         circuit,
         witness,
@@ -216,8 +215,8 @@ fn value_of<'a>(
         layout,
         point,
         n,
-    );
-    reduce_u64(x)
+    )
+    .to_u64()
 }
 
 // The values of the input expressions of eight pairs from a place on: those of a lookup, and of what follows it.

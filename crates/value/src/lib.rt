@@ -1,7 +1,9 @@
-// The value of an expression at a row (Rust `evaluate`), from its node words.
+// The value of an expression at a row (Rust `evaluate`), from its node words. The recursion hands words on, each standing for its
+// element; `value` gives the element.
 use expression::node::Node;
 use expression::poly::Layout;
 use expression::value::Point;
+use goldilocks::Goldilocks;
 use leaves::add;
 use leaves::context;
 use leaves::lagrange;
@@ -18,6 +20,7 @@ ghost use mathlib.Core.Path.{_≡_};
 ghost use Prim.Native.Nat.{_+_, _*_, _≤_, _<_};
 ghost use lib.ListN.{length};
 ghost use Rattle.field.specs.Field.{𝔾, el};
+ghost use Rattle.goldilocks.specs.Element.{elem};
 ghost use Rattle.expression.specs.Expr.{evaluate, spread, rest};
 ghost use Rattle.expression.specs.Nodes.{exprOf, itemsOf, under, noExpr, signed};
 ghost use Rattle.expression.specs.Read.{nodeAt};
@@ -27,7 +30,7 @@ ghost use Rattle.expression.specs.Point.{Placed, Ready, environmentOf, opsOf, p
 ghost use Rattle.value.specs.Lent.{lent};
 ghost use lib.ListN.{getD};
 
-// The value of node n at a point. For many nodes at one point, `context` once and `node_value` for each.
+// The value of node n at a point. For many nodes at one point, `context` once and `lower` for each.
 pub fn value<'a>(
     nodes: &'a [u64],
     circuit: &'a [u64],
@@ -37,13 +40,13 @@ pub fn value<'a>(
     layout: Layout,
     point: Point,
     n: usize,
-) -> u64
+) -> Goldilocks
     requires { ⌜ (n * 4 + 4 ≤ length (now nodes)) × (Small layout × Placed point) ⌝ }
-    ensures { λ r. ⌜ el r ≡ valueAt 𝔾 (environmentOf (now (circuit .entry)) (now (witness .entry)) (now (columns .entry)) (now (challenges .entry)) layout point) (exprOf (now (nodes .entry)) n) (point .row) ⌝ }
+    ensures { λ r. ⌜ elem r ≡ valueAt 𝔾 (environmentOf (now (circuit .entry)) (now (witness .entry)) (now (columns .entry)) (now (challenges .entry)) layout point) (exprOf (now (nodes .entry)) n) (point .row) ⌝ }
 {
     let c = context(layout, point);
     let s = [nodes, circuit, witness, columns, challenges];
-    node_value(&s, &c, n)
+    Goldilocks::from_u64(node_value(&s, &c, n))
 }
 
 // The words of node n.
@@ -72,7 +75,7 @@ fn challenge_of<'a>(s: &[&'a [u64]; 5], i: usize) -> u64
 }
 
 // The value of node n, at the point and with the layout of the context.
-pub fn node_value<'a>(s: &[&'a [u64]; 5], c: &[usize; 12], n: usize) -> u64
+fn node_value<'a>(s: &[&'a [u64]; 5], c: &[usize; 12], n: usize) -> u64
     requires { ⌜ (n * 4 + 4 ≤ length (lent (now s) 0)) × Ready (now c) ⌝ }
     ensures { λ r. ⌜ el r ≡ evaluate (opsOf (lent (now (s .entry)) 1) (lent (now (s .entry)) 2) (lent (now (s .entry)) 3) (lent (now (s .entry)) 4) (now (c .entry))) (exprOf (lent (now (s .entry)) 0) n) ⌝ }
 {
@@ -113,8 +116,8 @@ pub fn node_value<'a>(s: &[&'a [u64]; 5], c: &[usize; 12], n: usize) -> u64
 }
 
 // The value of node a where it is below n, else 0.
-fn lower<'a>(s: &[&'a [u64]; 5], c: &[usize; 12], n: usize, a: u64) -> u64
-    requires { ⌜ (n * 4 + 4 ≤ length (lent (now s) 0)) × Ready (now c) ⌝ }
+pub fn lower<'a>(s: &[&'a [u64]; 5], c: &[usize; 12], n: usize, a: u64) -> u64
+    requires { ⌜ (n * 4 ≤ length (lent (now s) 0)) × Ready (now c) ⌝ }
     ensures { λ r. ⌜ el r ≡ evaluate (opsOf (lent (now (s .entry)) 1) (lent (now (s .entry)) 2) (lent (now (s .entry)) 3) (lent (now (s .entry)) 4) (now (c .entry))) (under n noExpr (exprOf (lent (now (s .entry)) 0)) a) ⌝ }
 {
     let b = index(a);
@@ -191,7 +194,7 @@ fn circuit_cell<'a>(s: &[&'a [u64]; 5], start: usize, i: usize, rows: usize, row
 }
 
 // Polynomial q at a row, 0 where there is none.
-pub fn poly_of<'a>(s: &[&'a [u64]; 5], layout: Layout, q: u64, row: usize) -> u64
+fn poly_of<'a>(s: &[&'a [u64]; 5], layout: Layout, q: u64, row: usize) -> u64
     requires { ⌜ Small layout × (row < 1048576) ⌝ }
     ensures { λ r. ⌜ el r ≡ polyOf 𝔾 (polysOf layout (lent (now (s .entry)) 1) (lent (now (s .entry)) 2) (lent (now (s .entry)) 3)) q row ⌝ }
 {

@@ -1,11 +1,14 @@
-use mathlib.Core.Path.{_≡_, _∙_}
+use mathlib.Core.Path.{_≡_, ap, _∙_}
 use mathlib.Core.Bool.{true, _&&_}
 use mathlib.Core.List.{[], _∷_, _++_}
 use native.Mathlib.Omega.{arith}
 use borrow.Author.Needs.{needs}
-use Rattle.util.specs.Lists.{allOf}
+use Rattle.field.specs.Field.{𝔾, val}
+use Rattle.util.specs.Lists.{allOf, over, column as columnOf}
 use Rattle.backend.specs.Questions.{goodK, small}
 use Rattle.backend.proofs.Answers.{says-no, says-yes}
+use Rattle.prover.specs.Lookup.{hAt}
+use Rattle.prover.specs.Words.{elements}
 use Rattle.calls.specs.Stages.{fits, hOf}
 use Rattle.alone.proofs.Answers.{no-2, no-12, no-13, no-14, all-yes, k-le, three-exact, three-small, three-columns, column-done}
 use Rattle.alone.proofs.lookup_h_poly.Statement.{statement}
@@ -86,11 +89,14 @@ returns-4 c =
     no-14 _ _ _ _ _ (good (one (two (c .before)))) (exact (two (c .before))) (all-small (c .before))
     (omega (arith, c .if4 .taken, two (c .before) .before .rows-of .ensures))
 
+from-u64-requires : tie.Need-from-u64-requires
+from-u64-requires c κs = search needs
+
 h-column-requires : tie.Need-h-column-requires
 h-column-requires c κs =
-    let at = c .before .before in
+    let at = c .before .before .before in
     let a = start (one (two at)) .args in
-    three-columns _ _ (two at .before .rows-of .ensures) (a .input .now) (a .table .now) (a .m .now) (a .h .now) (exact (two at)) (c .before .if4 .left)
+    three-columns _ _ (two at .before .rows-of .ensures) (a .input .now) (a .table .now) (a .m .now) (a .h .now) (exact (two at)) (c .before .before .if4 .left)
 
 same-length : tie.Need-same-length
 same-length c = search needs
@@ -99,10 +105,14 @@ returns-5 : tie.Need-returns-5
 unfolding hOf
 returns-5 c =
     let column = c .before .before .h-column in
-    let room = c .before .before .before .before in
+    let room = c .before .before .before .before .before in
     let at = room .before in
+    let a = start (one (two at)) .args in
     let n = two at .before .rows-of .ensures in
-    column-done _ _ _ _ _ n (column .ensures)
+    column-done _ _ _ _ _ n
+    (column .ensures
+    ∙ ap (λ (γ : 𝔾 .F). over (a .h .now) 0 (columnOf (λ b. val (hAt 𝔾 γ (elements (a .input .now)) (elements (a .table .now)) (elements (a .m .now)) b)) (two at .before .rows-of .result)))
+    (c .before .before .before .before .from-u64 .ensures))
     ∙ all-yes _ _ _ _ _ (good (one (two at))) (exact (two at)) (all-small at) (omega (arith, n, room .if4 .left))
 
 pub lookup-h-poly-spec : {M : Type 1} → statement M
@@ -118,6 +128,7 @@ lookup-h-poly-spec =
     all-below-requires-3
     returns-3
     returns-4
+    from-u64-requires
     h-column-requires
     same-length
     returns-5)

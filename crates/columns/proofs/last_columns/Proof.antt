@@ -10,15 +10,12 @@ use Rattle.columns.proofs.last_columns.Tie as tie
 places-of-requires : tie.Need-places-of-requires
 places-of-requires c κs = search needs
 
-add-gamma : tie.Need-add-gamma
-add-gamma c = let s = c .before .before .before .before .before .before in omega (arith, user-few (s .args .circuit .now) (s .pre .0 .accepted) (s .args .v) (s .pre .0 .numbers-are))
+add-at : tie.Need-add-at
+add-at c = let s = c .before .before .before .before .before .before in omega (arith, user-few (s .args .circuit .now) (s .pre .0 .accepted) (s .args .v) (s .pre .0 .numbers-are))
 
-mul-gamma : tie.Need-mul-gamma
-mul-gamma c = let s = c .before .before .before .before .before .before in omega (arith, user-few (s .args .circuit .now) (s .pre .0 .accepted) (s .args .v) (s .pre .0 .numbers-are))
-
-shared-slice-read-gamma : tie.Need-shared-slice-read-gamma
-shared-slice-read-gamma c =
-    let s = c .before .before .before .before .before .before .before in
+at-requires : tie.Need-at-requires
+at-requires c κs =
+    let s = c .before .before .before .before .before .before in
     omega (arith, s .pre .1, user-is (s .args .circuit .now) (s .pre .0 .accepted) (s .args .v) (s .pre .0 .numbers-are))
 
 lookup-h-polys-requires : tie.Need-lookup-h-polys-requires
@@ -56,11 +53,13 @@ returns c instances front =
     (s .pre .2)
     _
     (at .ensures .2)
+    _
     instances
     (s .args .witness .now)
     (s .args .challenges .now)
     (s .args .columns .now)
     _
+    (c .before .before .before .before .before .before .before .before .at .ensures)
     front
     (c .before .before .before .before .before .before .lookup-h-polys .ensures))
     (c .before .before .z-columns .ensures)
@@ -70,9 +69,8 @@ last-columns-spec =
     tie.close
     (tie.spec
     places-of-requires
-    add-gamma
-    mul-gamma
-    shared-slice-read-gamma
+    add-at
+    at-requires
     lookup-h-polys-requires
     z-columns-requires
     same-length

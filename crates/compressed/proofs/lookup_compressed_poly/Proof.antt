@@ -1,8 +1,10 @@
 -- `lookup_compressed_poly` meets its contract: a row a turn, and the instance columns stay as they are. Assumes nothing.
+use borrow.Author.Needs.{needs}
 use mathlib.Core.Path.{_≡_, sym, ap, _∙_}
 use Prim.Native.Nat.{ℕ, _+_, _-_, _^_}
 use native.Mathlib.Omega.{arith}
-use Rattle.field.specs.Field.{𝔾, el, val}
+use Rattle.field.specs.Field.{𝔾, val}
+use Rattle.goldilocks.specs.Element.{elem}
 use Rattle.bh.specs.Rows.{rowAt, placeOf}
 use Rattle.bh.proofs.Order.{row-nought}
 use Rattle.util.proofs.Turns.{Turned, turn-start, turn-more, turn-before, turn-end}
@@ -16,7 +18,7 @@ abbrev Inv-loop : tie.InvT-loop
 Inv-loop nodes circuit witness columns₀ challenges layout k pairs roots beta to rows given row₀ place₀ columns row place =
     (row ≡ rowAt k place)
     × Turned (2 ^ k) (placeOf k)
-    (λ b. val (compressedIn 𝔾 (lentEnvironment circuit witness columns₀ challenges layout k) (el beta) (rootsOf nodes pairs roots) b)) columns₀ to columns place
+    (λ b. val (compressedIn 𝔾 (lentEnvironment circuit witness columns₀ challenges layout k) (elem beta) (rootsOf nodes pairs roots) b)) columns₀ to columns place
 
 abbrev μ-loop : tie.MeasureT-loop
 μ-loop nodes circuit witness columns₀ challenges layout k pairs roots beta to rows given row₀ place₀ columns row place = rows - place
@@ -67,47 +69,50 @@ compressed-at-requires c κs =
       pre .2,
     )
 
+to-u64-requires : tie.Need-to-u64-requires Inv-loop μ-loop
+to-u64-requires c κs = search needs
+
 add-columns : tie.Need-add-columns Inv-loop μ-loop
 add-columns c =
-    let pre = c .before .before .before .before .before .before .before .before .before .before .before .before .before .pre in
-    let l = c .before .before .before .before .loop in
-    omega (arith, pre .0 .room, c .before .before .before .before .before .before .before .before .before .before .before .before .before .good, l .inv .1 .size, row-in (c .before .before .before .before .before .before .before .before .before .before .before .before .before .args .k) (l .row) (l .place) (pre .0 .positive) (pre .0 .small) (l .inv .0))
+    let pre = c .before .before .before .before .before .before .before .before .before .before .before .before .before .before .pre in
+    let l = c .before .before .before .before .before .loop in
+    omega (arith, pre .0 .room, c .before .before .before .before .before .before .before .before .before .before .before .before .before .before .good, l .inv .1 .size, row-in (c .before .before .before .before .before .before .before .before .before .before .before .before .before .before .args .k) (l .row) (l .place) (pre .0 .positive) (pre .0 .small) (l .inv .0))
 
 mul-columns : tie.Need-mul-columns Inv-loop μ-loop
 mul-columns c =
-    let pre = c .before .before .before .before .before .before .before .before .before .before .before .before .before .pre in
-    let l = c .before .before .before .before .loop in
-    omega (arith, pre .0 .room, c .before .before .before .before .before .before .before .before .before .before .before .before .before .good, l .inv .1 .size, row-in (c .before .before .before .before .before .before .before .before .before .before .before .before .before .args .k) (l .row) (l .place) (pre .0 .positive) (pre .0 .small) (l .inv .0))
+    let pre = c .before .before .before .before .before .before .before .before .before .before .before .before .before .before .pre in
+    let l = c .before .before .before .before .before .loop in
+    omega (arith, pre .0 .room, c .before .before .before .before .before .before .before .before .before .before .before .before .before .before .good, l .inv .1 .size, row-in (c .before .before .before .before .before .before .before .before .before .before .before .before .before .before .args .k) (l .row) (l .place) (pre .0 .positive) (pre .0 .small) (l .inv .0))
 
 slice-write-columns : tie.Need-slice-write-columns Inv-loop μ-loop
 slice-write-columns c =
-    let pre = c .before .before .before .before .before .before .before .before .before .before .before .before .before .pre in
-    let l = c .before .before .before .before .loop in
-    omega (arith, pre .0 .room, c .before .before .before .before .before .before .before .before .before .before .before .before .before .good, l .inv .1 .size, row-in (c .before .before .before .before .before .before .before .before .before .before .before .before .before .args .k) (l .row) (l .place) (pre .0 .positive) (pre .0 .small) (l .inv .0))
+    let pre = c .before .before .before .before .before .before .before .before .before .before .before .before .before .before .pre in
+    let l = c .before .before .before .before .before .loop in
+    omega (arith, pre .0 .room, c .before .before .before .before .before .before .before .before .before .before .before .before .before .before .good, l .inv .1 .size, row-in (c .before .before .before .before .before .before .before .before .before .before .before .before .before .before .args .k) (l .row) (l .place) (pre .0 .positive) (pre .0 .small) (l .inv .0))
 
 row-after-requires : tie.Need-row-after-requires Inv-loop μ-loop
 row-after-requires c κs =
-    let pre = c .before .before .before .before .before .before .before .before .before .before .before .before .before .pre in
-    (pre .0 .positive, pre .0 .small, c .before .before .before .before .loop .inv .0)
+    let pre = c .before .before .before .before .before .before .before .before .before .before .before .before .before .before .pre in
+    (pre .0 .positive, pre .0 .small, c .before .before .before .before .before .loop .inv .0)
 
 add-place : tie.Need-add-place Inv-loop μ-loop
-add-place c = omega (arith, c .before .before .before .before .loop-test .taken)
+add-place c = omega (arith, c .before .before .before .before .before .loop-test .taken)
 
 loop-less : tie.Need-loop-less Inv-loop μ-loop
-loop-less c = omega (arith, c .before .before .before .before .loop-test .taken)
+loop-less c = omega (arith, c .before .before .before .before .before .loop-test .taken)
 
 loop-again : tie.Need-loop-again Inv-loop μ-loop
 loop-again c =
-    let a = c .before .before .before .before .before .before .before .before .before .before .before .before .before .before .args in
-    let pre = c .before .before .before .before .before .before .before .before .before .before .before .before .before .before .pre in
-    let l = c .before .before .before .before .before .loop in
-    let rows = c .before .before .before .before .before .before .before .rows-of in (
+    let a = c .before .before .before .before .before .before .before .before .before .before .before .before .before .before .before .args in
+    let pre = c .before .before .before .before .before .before .before .before .before .before .before .before .before .before .before .pre in
+    let l = c .before .before .before .before .before .before .loop in
+    let rows = c .before .before .before .before .before .before .before .before .rows-of in (
       c .row-after .ensures .0,
-      turn-more _ _ _ _ (row-turns (a .k) (pre .0 .positive) (pre .0 .small)) _ _ (pre .0 .room) _ _ (l .inv .1) (omega (arith, c .before .before .before .before .loop-test .taken, rows .ensures)) _ (ap (λ (x : ℕ). a .to + x) (l .inv .0)) _
-          (compressed-here (a .k) (pre .0 .small) (a .layout) (pre .0 .given) (a .circuit .now) (a .witness .now) (a .challenges .now) (el (a .beta)) _ (a .columns .now)
+      turn-more _ _ _ _ (row-turns (a .k) (pre .0 .positive) (pre .0 .small)) _ _ (pre .0 .room) _ _ (l .inv .1) (omega (arith, c .before .before .before .before .before .loop-test .taken, rows .ensures)) _ (ap (λ (x : ℕ). a .to + x) (l .inv .0)) _
+          (compressed-here (a .k) (pre .0 .small) (a .layout) (pre .0 .given) (a .circuit .now) (a .witness .now) (a .challenges .now) (elem (a .beta)) _ (a .columns .now)
           (λ j h. read-word (l .columns) (a .columns .now) (a .layout .instances) _ (a .k) (a .to) j (rows .ensures) (pre .0 .before) (turn-before _ _ _ _ (row-turns (a .k) (pre .0 .positive) (pre .0 .small)) _ _ (pre .0 .room) _ _ (l .inv .1)) h)
-          (rootsOf (a .nodes .now) (a .pairs .now) (a .roots)) (l .row) (l .place) _ (row-in (a .k) (l .row) (l .place) (pre .0 .positive) (pre .0 .small) (l .inv .0)) (c .before .compressed-at .ensures)
-          ∙ ap (λ (x : ℕ). val (compressedIn 𝔾 (lentEnvironment (a .circuit .now) (a .witness .now) (a .columns .now) (a .challenges .now) (a .layout) (a .k)) (el (a .beta)) (rootsOf (a .nodes .now) (a .pairs .now) (a .roots)) x)) (l .inv .0)),
+          (rootsOf (a .nodes .now) (a .pairs .now) (a .roots)) (l .row) (l .place) _ (row-in (a .k) (l .row) (l .place) (pre .0 .positive) (pre .0 .small) (l .inv .0)) (c .before .to-u64 .ensures ∙ ap val (c .before .before .compressed-at .ensures))
+          ∙ ap (λ (x : ℕ). val (compressedIn 𝔾 (lentEnvironment (a .circuit .now) (a .witness .now) (a .columns .now) (a .challenges .now) (a .layout) (a .k)) (elem (a .beta)) (rootsOf (a .nodes .now) (a .pairs .now) (a .roots)) x)) (l .inv .0)),
     )
 
 same-length : tie.Need-same-length Inv-loop μ-loop
@@ -131,6 +136,7 @@ lookup-compressed-poly-spec =
     part-compressed-at-start
     part-compressed-at-end
     compressed-at-requires
+    to-u64-requires
     add-columns
     mul-columns
     slice-write-columns

@@ -7,7 +7,8 @@ use native.Mathlib.Nat.{add-zero, zero-mul}
 use native.Mathlib.Omega.{arith}
 use lib.ListN.{length, take}
 use lib.Seq.{take-all}
-use Rattle.field.specs.Field.{𝔾, el}
+use Rattle.field.specs.Field.{𝔾}
+use Rattle.goldilocks.specs.Element.{elem}
 use Rattle.util.specs.Lists.{over, split, total}
 use Rattle.util.proofs.Parts.{total-more, part-there}
 use Rattle.backend.specs.Circuit.{pairsOf}
@@ -23,7 +24,7 @@ Inv-loop nodes circuit witness columns₀ challenges layout k widths pairs beta 
     × (start ≡ total (take i widths))
     × (at ≡ to + i * (2 ^ k + 2 ^ k))
     × (length columns ≡ length columns₀)
-    × (columns ≡ over columns₀ to (wordsOf (2 ^ k) (compressedPolysIn 𝔾 (lentEnvironment circuit witness columns₀ challenges layout k) (el beta) (split (take i widths) (pairsOf nodes pairs)))))
+    × (columns ≡ over columns₀ to (wordsOf (2 ^ k) (compressedPolysIn 𝔾 (lentEnvironment circuit witness columns₀ challenges layout k) (elem beta) (split (take i widths) (pairsOf nodes pairs)))))
 
 abbrev μ-loop : tie.MeasureT-loop
 μ-loop nodes circuit witness columns₀ challenges layout k widths pairs beta to rows start₀ at₀ i₀ columns start at i = length widths - i
@@ -113,7 +114,7 @@ returns c =
     let l = c .before .loop in
     let a = c .before .before .before .before .before .before .before .before .before .before .args in
     l .inv .4
-    ∙ ap (λ (ws : List ℕ). over (a .columns .now) (a .to) (wordsOf (2 ^ a .k) (compressedPolysIn 𝔾 (lentEnvironment (a .circuit .now) (a .witness .now) (a .columns .now) (a .challenges .now) (a .layout) (a .k)) (el (a .beta)) (split ws (pairsOf (a .nodes .now) (a .pairs .now))))))
+    ∙ ap (λ (ws : List ℕ). over (a .columns .now) (a .to) (wordsOf (2 ^ a .k) (compressedPolysIn 𝔾 (lentEnvironment (a .circuit .now) (a .witness .now) (a .columns .now) (a .challenges .now) (a .layout) (a .k)) (elem (a .beta)) (split ws (pairsOf (a .nodes .now) (a .pairs .now))))))
     (take-all (l .i) (a .widths .now) (c .loop-test .left))
 
 pub lookup-compressed-polys-spec : {M : Type 1} → statement M

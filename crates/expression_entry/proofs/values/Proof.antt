@@ -51,8 +51,8 @@ value-requires c κs =
       ),
     )
 
-reduce-u64-requires : tie.Need-reduce-u64-requires Inv-loop μ-loop
-reduce-u64-requires c κs = search needs
+to-u64-requires : tie.Need-to-u64-requires Inv-loop μ-loop
+to-u64-requires c κs = search needs
 
 mul-out : tie.Need-mul-out Inv-loop μ-loop
 mul-out c =
@@ -90,7 +90,7 @@ loop-again c =
           (placed-at (a .k) (l .loop .row) (l .loop .place) (s .pre .2) (s .pre .3) inside (l .loop .inv .0))
           (c .before .before .before .word-at .ensures)
           (c .before .before .value .ensures)
-          (c .before .reduce-u64 .ensures)
+          (c .before .to-u64 .ensures)
           ∙ ap (λ (b : ℕ). valueWord (a .nodes .now) (a .circuit .now) (a .witness .now) (a .columns .now) (a .challenges .now) (a .layout) (a .k) (a .eq .now) (a .n) b) (l .loop .inv .0)),
     )
 
@@ -112,7 +112,7 @@ values-spec =
     loop-holds
     word-at-requires
     value-requires
-    reduce-u64-requires
+    to-u64-requires
     mul-out
     slice-write-out
     row-after-requires

@@ -1,15 +1,27 @@
--- The element of what the field's function returns. Assumes nothing.
-use mathlib.Core.Path.{ap, _∙_}
+-- The element that the field type's method makes. Assumes nothing.
+use mathlib.Core.Path.{ap₂, _∙_}
 use borrow.Author.Needs.{needs}
-use Rattle.field.specs.Field.{el, el-add}
+use Rattle.field.specs.Field.{𝔾}
 use Rattle.leaves.proofs.add.Statement.{statement}
 use Rattle.leaves.proofs.add.Tie as tie
 
-add-u64-requires : tie.Need-add-u64-requires
-add-u64-requires c κs = search needs
+from-u64-requires : tie.Need-from-u64-requires
+from-u64-requires c κs = search needs
+
+from-u64-requires-2 : tie.Need-from-u64-requires-2
+from-u64-requires-2 c κs = search needs
+
+add-requires : tie.Need-add-requires
+add-requires c κs = search needs
+
+word-requires : tie.Need-word-requires
+word-requires c κs = search needs
 
 returns : tie.Need-returns
-returns c = ap el (c .add-u64 .ensures) ∙ el-add (c .before .args .a) (c .before .args .b)
+returns c =
+    c .word .ensures
+    ∙ c .before .add .ensures
+    ∙ ap₂ (𝔾 .add) (c .before .before .before .from-u64 .ensures) (c .before .before .from-u642 .ensures)
 
 pub add-spec : {M : Type 1} → statement M
-add-spec = tie.close (tie.spec add-u64-requires returns)
+add-spec = tie.close (tie.spec from-u64-requires from-u64-requires-2 add-requires word-requires returns)

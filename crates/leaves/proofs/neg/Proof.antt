@@ -1,15 +1,21 @@
--- The element of what the field's function returns. Assumes nothing.
+-- The element that the field type's method makes. Assumes nothing.
 use mathlib.Core.Path.{ap, _∙_}
 use borrow.Author.Needs.{needs}
-use Rattle.field.specs.Field.{el, el-neg}
+use Rattle.field.specs.Field.{𝔾}
 use Rattle.leaves.proofs.neg.Statement.{statement}
 use Rattle.leaves.proofs.neg.Tie as tie
 
-neg-u64-requires : tie.Need-neg-u64-requires
-neg-u64-requires c κs = search needs
+from-u64-requires : tie.Need-from-u64-requires
+from-u64-requires c κs = search needs
+
+neg-requires : tie.Need-neg-requires
+neg-requires c κs = search needs
+
+word-requires : tie.Need-word-requires
+word-requires c κs = search needs
 
 returns : tie.Need-returns
-returns c = ap el (c .neg-u64 .ensures) ∙ el-neg (c .before .args .a)
+returns c = c .word .ensures ∙ c .before .neg .ensures ∙ ap (𝔾 .neg) (c .before .before .from-u64 .ensures)
 
 pub neg-spec : {M : Type 1} → statement M
-neg-spec = tie.close (tie.spec neg-u64-requires returns)
+neg-spec = tie.close (tie.spec from-u64-requires neg-requires word-requires returns)

@@ -3,14 +3,14 @@ use borrow.Author.Needs.{needs}
 use Prim.Native.Nat.{_+_, _-_, _≤_}
 use native.Mathlib.Omega.{arith}
 use lib.ListN.{length}
-use Rattle.field.specs.Field.{el}
+use Rattle.goldilocks.specs.Element.{elem}
 use Rattle.lookups.proofs.Hs.{HsUpto, hs-start, hs-end, hs-more, input-there, counts-there, h-there, h-behind}
 use Rattle.lookups.proofs.lookup_h_polys.Statement.{statement}
 use Rattle.lookups.proofs.lookup_h_polys.Tie as tie
 
 abbrev Inv-loop : tie.InvT-loop
 Inv-loop columns₀ lookups compressed m h gamma rows input₀ counts₀ to₀ j₀ columns input counts to j =
-    HsUpto columns₀ lookups compressed m h (el gamma) rows columns input counts to j
+    HsUpto columns₀ lookups compressed m h (elem gamma) rows columns input counts to j
 
 abbrev μ-loop : tie.MeasureT-loop
 μ-loop columns₀ lookups compressed m h gamma rows input₀ counts₀ to₀ j₀ columns input counts to j =
@@ -35,7 +35,7 @@ there c =
 loop-holds : tie.Need-loop-holds Inv-loop μ-loop
 loop-holds c =
     let a = c .before .args in
-    hs-start (a .columns .now) (a .lookups) (a .compressed) (a .m) (a .h) (el (a .gamma)) (a .rows)
+    hs-start (a .columns .now) (a .lookups) (a .compressed) (a .m) (a .h) (elem (a .gamma)) (a .rows)
 
 add-table : tie.Need-add-table Inv-loop μ-loop
 add-table c = omega (arith, there c .0, c .before .before .before .fits .h)

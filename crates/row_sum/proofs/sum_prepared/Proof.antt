@@ -1,5 +1,7 @@
 -- `sum_prepared` meets its contract: a yes to 16 tells what the sum requires. Assumes nothing.
+use mathlib.Core.Path.{ap, _∙_}
 use native.Mathlib.Omega.{arith}
+use Rattle.field.specs.Field.{val}
 use Rattle.prepare.proofs.Accepted.{laid-of}
 use Rattle.row_sum.proofs.Answer.{refused-late, summable, answered}
 use borrow.Author.Needs.{needs}
@@ -25,10 +27,13 @@ sum-rows-requires c κs =
     let a = c .before .before .before .before .before .before .before .before .before .before .before .args in
     summable (a .circuit .now) (a .witness .now) (a .columns .now) (a .nodes .now) (a .challenges .now) (a .y .now) (c .before .before .before .before .before .before .before .before .before .before .before .pre .accepted) _ (c .before .before .before .question-16 .ensures) (c .before .before .if1 .left) _ (c .before .sum-layout .ensures)
 
+to-u64-requires : tie.Need-to-u64-requires
+to-u64-requires c κs = search needs
+
 returns-2 : tie.Need-returns-2
 returns-2 c =
-    let a = c .before .before .before .before .before .before .before .before .before .before .before .before .args in
-    answered (a .circuit .now) (a .witness .now) (a .columns .now) (a .nodes .now) (a .challenges .now) (a .y .now) (c .before .before .before .before .before .before .before .before .before .before .before .before .pre .accepted) _ (c .before .before .before .before .question-16 .ensures) (c .before .before .before .if1 .left) _ (c .sum-rows .ensures)
+    let a = c .before .before .before .before .before .before .before .before .before .before .before .before .before .args in
+    answered (a .circuit .now) (a .witness .now) (a .columns .now) (a .nodes .now) (a .challenges .now) (a .y .now) (c .before .before .before .before .before .before .before .before .before .before .before .before .before .pre .accepted) _ (c .before .before .before .before .before .question-16 .ensures) (c .before .before .before .before .if1 .left) _ (c .to-u64 .ensures ∙ ap val (c .before .sum-rows .ensures))
 
 pub sum-prepared-spec : {M : Type 1} → statement M
 sum-prepared-spec =
@@ -39,4 +44,5 @@ sum-prepared-spec =
     sum-layout-requires
     shared-slice-read-k
     sum-rows-requires
+    to-u64-requires
     returns-2)

@@ -4,6 +4,7 @@ use mathlib.Core.Path.{_≡_, sym}
 use Prim.Native.Nat.{_-_, _^_, _≤_}
 use native.Mathlib.Omega.{arith}
 use Rattle.field.specs.Field.{𝔾}
+use Rattle.goldilocks.specs.Element.{elem}
 use Rattle.bh.specs.Rows.{rowAt}
 use Rattle.bh.proofs.Order.{row-nought}
 use Rattle.expression.specs.Nodes.{exprOf}
@@ -18,7 +19,7 @@ use Rattle.row_sum.proofs.sum_rows.Tie as tie
 
 abbrev Inv-loop : tie.InvT-loop
 Inv-loop circuit witness columns nodes challenges y layout k rows sum₀ row₀ place₀ sum row place =
-    (row ≡ rowAt k place) × (place ≤ 2 ^ k) × Added k (valueAt 𝔾 (lentEnvironment circuit witness columns challenges y) (exprOf nodes (composedNodes (circuitOf circuit) - 1))) sum place
+    (row ≡ rowAt k place) × (place ≤ 2 ^ k) × Added k (valueAt 𝔾 (lentEnvironment circuit witness columns challenges y) (exprOf nodes (composedNodes (circuitOf circuit) - 1))) (elem sum) place
 
 abbrev μ-loop : tie.MeasureT-loop
 μ-loop circuit witness columns nodes challenges y layout k rows sum₀ row₀ place₀ sum row place = rows - place
@@ -34,8 +35,8 @@ row-value-requires c κs =
     let l = c .before .loop in
     (c .before .before .before .before .before .before .before .before .before .pre, omega (arith, c .loop-test .taken, c .before .before .rows-of .ensures), l .inv .0)
 
-add-u64-requires : tie.Need-add-u64-requires Inv-loop μ-loop
-add-u64-requires c κs = search needs
+add-requires : tie.Need-add-requires Inv-loop μ-loop
+add-requires c κs = search needs
 
 row-after-requires : tie.Need-row-after-requires Inv-loop μ-loop
 row-after-requires c κs =
@@ -53,7 +54,7 @@ loop-again c =
     let l = c .before .before .before .before .loop in (
       c .row-after .ensures .0,
       omega (arith, c .before .before .before .loop-test .taken, c .before .before .before .before .before .rows-of .ensures),
-      added-more _ _ _ _ (l .row) _ _ (l .inv .2) (l .inv .0) (c .before .before .row-value .ensures) (c .before .add-u64 .ensures),
+      added-more _ _ _ _ (l .row) _ _ (l .inv .2) (l .inv .0) (c .before .before .row-value .ensures) (c .before .add .ensures),
     )
 
 returns : tie.Need-returns Inv-loop μ-loop
@@ -70,7 +71,7 @@ sum-rows-spec =
     rows-of-requires
     loop-holds
     row-value-requires
-    add-u64-requires
+    add-requires
     row-after-requires
     add-place
     loop-less

@@ -22,8 +22,8 @@ num-user-requires c κs = accepted.laid-counted (c .before .before .before .befo
 index-requires-2 : tie.Need-index-requires-2
 index-requires-2 c κs = search needs
 
-word-at-requires-2 : tie.Need-word-at-requires-2
-word-at-requires-2 c κs = search needs
+at-requires : tie.Need-at-requires
+at-requires c κs = search needs
 
 add-to : tie.Need-add-to
 add-to c = omega (arith, compressed-fit (c .before .before .before .before .before .before .before .before .before .before .before .args .circuit .now) (c .before .before .before .before .before .before .before .before .before .before .before .pre .0) _ (c .before .before .before .before .layout-of .ensures) _ (c .before .before .before .before .before .before .before .before .before .before .before .pre .2) .0)
@@ -53,7 +53,7 @@ same-length c = search needs
 returns : tie.Need-returns
 returns c =
     let s = c .before .before .before .before .before .before .before .before .before .before .before .before .before .before .before .before .before in
-    compressed-all (s .args .circuit .now) (s .pre .0) _ _ _ (c .before .before .before .before .before .before .before .before .index2 .result) _ (s .args .witness .now) (s .args .challenges .now) (s .args .columns .now) _ (c .before .before .before .before .before .before .before .before .before .before .layout-of .ensures) (c .before .before .before .before .before .before .before .before .before .before .before .index .ensures ∙ c .before .before .before .before .before .before .before .before .before .before .before .before .word-at .ensures) (s .pre .2) (c .before .before .before .before .before .before .before .before .index2 .ensures ∙ c .before .before .before .before .before .before .before .before .before .num-user .ensures) (c .before .before .before .before .before .before .before .word-at2 .ensures) (c .before .before .compressed-from .ensures)
+    compressed-all (s .args .circuit .now) (s .pre .0) _ _ _ (c .before .before .before .before .before .before .before .before .index2 .result) _ (s .args .witness .now) (s .args .challenges .now) (s .args .columns .now) _ (c .before .before .before .before .before .before .before .before .before .before .layout-of .ensures) (c .before .before .before .before .before .before .before .before .before .before .before .index .ensures ∙ c .before .before .before .before .before .before .before .before .before .before .before .before .word-at .ensures) (s .pre .2) (c .before .before .before .before .before .before .before .before .index2 .ensures ∙ c .before .before .before .before .before .before .before .before .before .num-user .ensures) (c .before .before .before .before .before .before .before .at .ensures) (c .before .before .compressed-from .ensures)
 
 pub compressed-columns-spec : {M : Type 1} → statement M
 compressed-columns-spec =
@@ -64,7 +64,7 @@ compressed-columns-spec =
     layout-of-requires
     num-user-requires
     index-requires-2
-    word-at-requires-2
+    at-requires
     add-to
     mul-to
     sub-compressed-from
