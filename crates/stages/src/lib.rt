@@ -12,6 +12,7 @@ use permutation::permutation_polys;
 use permutation_z::permutation_z_polys;
 use reader::cells_of;
 use reader::instances_of;
+use reader::k_of;
 use reader::lengths_of;
 use reader::nodes_of;
 use reader::pairs_of;
@@ -53,7 +54,7 @@ pub fn instance_columns(circuit: &[u64], instance: &[u64], columns: &mut [u64])
     requires { ⌜ Accepted (now circuit) × (total (bodyOf (now circuit) Section.instances) ≡ length (now instance)) × (numInstance (circuitOf (now circuit)) * rowsOf (circuitOf (now circuit)) ≤ length (now columns)) ⌝ }
     ensures { λ _. ⌜ now (columns .exit) ≡ over (now (columns .entry)) 0 (instanceWords (now (circuit .entry)) (now (instance .entry))) ⌝ }
 {
-    let k = index(word_at(circuit, 0));
+    let k = index(k_of(circuit));
     let lengths = instances_of(circuit);
     instance_polys(k, lengths, instance, columns);
 }
@@ -114,7 +115,7 @@ pub fn compressed_columns<'a>(
     requires { ⌜ Accepted (now circuit) × (length (now challenges) ≡ numUser (circuitOf (now circuit)) + 2) × (copied ≡ numCopied (circuitOf (now circuit))) × (compressedAt (circuitOf (now circuit)) + numLookups (circuitOf (now circuit)) * 2 * rowsOf (circuitOf (now circuit)) ≤ length (now columns)) ⌝ }
     ensures { λ _. ⌜ now (columns .exit) ≡ over (now (columns .entry)) (compressedAt (circuitOf (now (circuit .entry)))) (compressedWords (now (circuit .entry)) (now (witness .entry)) (now (columns .entry)) (now (challenges .entry))) ⌝ }
 {
-    let k = index(word_at(circuit, 0));
+    let k = index(k_of(circuit));
     let layout = layout_of(circuit);
     let user = index(num_user(circuit));
     let beta = Goldilocks::at(challenges, user);
@@ -144,7 +145,7 @@ pub fn z_columns(
     requires { ⌜ Accepted (now circuit) × (now copied ≡ copiedOf (circuitOf (now circuit))) × (parts ≡ numZ (circuitOf (now circuit))) × (zsAt (circuitOf (now circuit)) + numZ (circuitOf (now circuit)) * rowsOf (circuitOf (now circuit)) ≤ length (now columns)) ⌝ }
     ensures { λ _. ⌜ now (columns .exit) ≡ over (now (columns .entry)) (zsAt (circuitOf (now (circuit .entry)))) (zWords (now (circuit .entry)) (now (witness .entry)) (now (columns .entry)) (now (challenges .entry))) ⌝ }
 {
-    let k = index(word_at(circuit, 0));
+    let k = index(k_of(circuit));
     let layout = layout_of(circuit);
     let user = index(num_user(circuit));
     let beta = Goldilocks::from_u64(word_at(challenges, user));

@@ -7,8 +7,8 @@ use borrow.Author.Needs.{needs}
 use Rattle.stages.proofs.compressed_columns.Statement.{statement}
 use Rattle.stages.proofs.compressed_columns.Tie as tie
 
-word-at-requires : tie.Need-word-at-requires
-word-at-requires c κs = search needs
+k-of-requires : tie.Need-k-of-requires
+k-of-requires c κs = search needs
 
 index-requires : tie.Need-index-requires
 index-requires c κs = search needs
@@ -44,7 +44,7 @@ compressed-from-requires : tie.Need-compressed-from-requires
 compressed-from-requires c κs =
     let s = c .before .before .before .before .before .before .before .before .before .before .before .before .before .before in
     let l = c .before .before .before .before .before .before .before .layout-of in
-    let r = compressed-room (s .args .circuit .now) (s .pre .0) _ _ _ (s .args .columns .now) (l .ensures) (c .before .before .before .before .before .before .before .before .index .ensures ∙ c .before .before .before .before .before .before .before .before .before .word-at .ensures) (s .pre .2) (s .pre .3) in
+    let r = compressed-room (s .args .circuit .now) (s .pre .0) _ _ _ (s .args .columns .now) (l .ensures) (c .before .before .before .before .before .before .before .before .index .ensures ∙ c .before .before .before .before .before .before .before .before .before .k-of .ensures) (s .pre .2) (s .pre .3) in
     (s .pre .0, l .ensures, r .0, r .1, r .2)
 
 same-length : tie.Need-same-length
@@ -53,13 +53,13 @@ same-length c = search needs
 returns : tie.Need-returns
 returns c =
     let s = c .before .before .before .before .before .before .before .before .before .before .before .before .before .before .before .before .before in
-    compressed-all (s .args .circuit .now) (s .pre .0) _ _ _ (c .before .before .before .before .before .before .before .before .index2 .result) _ (s .args .witness .now) (s .args .challenges .now) (s .args .columns .now) _ (c .before .before .before .before .before .before .before .before .before .before .layout-of .ensures) (c .before .before .before .before .before .before .before .before .before .before .before .index .ensures ∙ c .before .before .before .before .before .before .before .before .before .before .before .before .word-at .ensures) (s .pre .2) (c .before .before .before .before .before .before .before .before .index2 .ensures ∙ c .before .before .before .before .before .before .before .before .before .num-user .ensures) (c .before .before .before .before .before .before .before .at .ensures) (c .before .before .compressed-from .ensures)
+    compressed-all (s .args .circuit .now) (s .pre .0) _ _ _ (c .before .before .before .before .before .before .before .before .index2 .result) _ (s .args .witness .now) (s .args .challenges .now) (s .args .columns .now) _ (c .before .before .before .before .before .before .before .before .before .before .layout-of .ensures) (c .before .before .before .before .before .before .before .before .before .before .before .index .ensures ∙ c .before .before .before .before .before .before .before .before .before .before .before .before .k-of .ensures) (s .pre .2) (c .before .before .before .before .before .before .before .before .index2 .ensures ∙ c .before .before .before .before .before .before .before .before .before .num-user .ensures) (c .before .before .before .before .before .before .before .at .ensures) (c .before .before .compressed-from .ensures)
 
 pub compressed-columns-spec : {M : Type 1} → statement M
 compressed-columns-spec =
     tie.close
     (tie.spec
-    word-at-requires
+    k-of-requires
     index-requires
     layout-of-requires
     num-user-requires
