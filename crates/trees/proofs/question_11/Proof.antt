@@ -1,4 +1,5 @@
 use Rattle.backend.proofs.Answers.{cells-enough, eleven}
+use Rattle.trees.proofs.Few.{few-cells}
 use borrow.Author.Needs.{needs}
 use Rattle.trees.proofs.question_11.Statement.{statement}
 use Rattle.trees.proofs.question_11.Tie as tie
@@ -59,7 +60,11 @@ part-cycles-good-end-2 c = search needs
 
 -- src/lib.rt:99:5
 cycles-good-requires : tie.Need-cycles-good-requires
-cycles-good-requires c κs = cells-enough (c .before .before .before .before .before .before .before .args .circuit .now) _ _ (c .before .before .before .before .before .before .before .pre .0) (c .before .before .before .before .before .before .before .pre .1) (c .before .before .before .section .ensures) (c .before .before .section2 .ensures)
+cycles-good-requires c κs =
+    let s = c .before .before .before .before .before .before .before in (
+      cells-enough (s .args .circuit .now) _ _ (s .pre .0) (s .pre .1) (c .before .before .before .section .ensures) (c .before .before .section2 .ensures),
+      few-cells (s .args .circuit .now) (s .pre .0) _ (c .before .before .section2 .ensures),
+    )
 
 -- src/lib.rt:87:1
 returns : tie.Need-returns

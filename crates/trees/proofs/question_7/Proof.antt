@@ -1,4 +1,5 @@
 use Rattle.backend.proofs.Answers.{seven}
+use Rattle.trees.proofs.Few.{few-nodes}
 use borrow.Author.Needs.{needs}
 use Rattle.trees.proofs.question_7.Statement.{statement}
 use Rattle.trees.proofs.question_7.Tie as tie
@@ -69,7 +70,7 @@ part-laid-out-end-3 c = search needs
 
 -- src/lib.rt:50:5
 laid-out-requires : tie.Need-laid-out-requires
-laid-out-requires c κs = search needs
+laid-out-requires c κs = few-nodes (c .before .before .before .before .before .before .before .args .circuit .now) (c .before .before .before .before .before .before .before .pre) _ (c .before .before .before .before .before .section .ensures)
 
 -- src/lib.rt:37:1
 returns : tie.Need-returns
