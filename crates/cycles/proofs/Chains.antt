@@ -11,7 +11,6 @@ use lib.Dec.{eqb}
 use lib.ListN.{length, getD, set, replicate, length-set, length-replicate, getD-replicate}
 use lib.Seq.{getD-set-same, getD-set-other}
 use borrow.Author.Tests.{eq-eqb, ne-eqb}
-use Rattle.util.specs.Lists.{column}
 use Rattle.util.proofs.Tests.{by-test, true-all}
 use Rattle.util.proofs.All.{all-column}
 use Rattle.util.proofs.Walks.{walk-fails}

@@ -9,7 +9,8 @@ ghost use Rattle.backend.specs.Questions.{goodCycle, cyclesGood};
 ghost use Rattle.backend.specs.Cycles as def;
 ghost use Rattle.cycles.specs.Chains.{Linked};
 
-// Is cell `n` of the cells from `start` on none of those before it? Only those in its chain may be the same.
+// Is cell `n` of the cells from `start` on none of those before it? Only cells of its chain can be the same: they are met from the last
+// down to `start`.
 fn fresh(cells: &[u64], heads: &[u64; 1024], earlier: &[u64; 4096], start: usize, n: usize) -> bool
     requires { ⌜ (start + n < length (now cells) / 2) × (start + n < 4096) × Linked (now cells) (now heads) (now earlier) (start + n) ⌝ }
     ensures { λ r. ⌜ r ≡ def.fresh (cellAt (now (cells .entry)) (start + n)) (def.run (now (cells .entry)) start n) ⌝ }
@@ -29,7 +30,8 @@ fn fresh(cells: &[u64], heads: &[u64; 1024], earlier: &[u64; 4096], start: usize
     true
 }
 
-// Cell `at` is linked to the last before it of its chain.
+// Puts cell `at` into its chain: `heads` has one more than the number of the last cell of each chain, 0 for none, and `earlier` what
+// `heads` had before the cell was put in.
 fn link(cells: &[u64], heads: &mut [u64; 1024], earlier: &mut [u64; 4096], at: usize)
     requires { ⌜ (at < length (now cells) / 2) × (at < 4096) × Linked (now cells) (now heads) (now earlier) at ⌝ }
     ensures { λ r. ⌜ Linked (now (cells .entry)) (now (heads .exit)) (now (earlier .exit)) (at + 1) ⌝ }

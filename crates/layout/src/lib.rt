@@ -125,7 +125,7 @@ fn roots_right(nodes: &[u64], roots: &[u64]) -> bool
     true
 }
 
-// Node `n` is named once more. A number past the places is passed over.
+// Counts one name of node `n`. A number past the 1024 places is passed over.
 fn count_name(counts: &mut [u64; 1024], n: u64)
     requires { ⌜ Room (now counts) 1 ⌝ }
     ensures { λ r. ⌜ Tally (now (counts .entry)) (def.plain n ∷ []) (now (counts .exit)) ⌝ }
@@ -136,7 +136,7 @@ fn count_name(counts: &mut [u64; 1024], n: u64)
     }
 }
 
-// The nodes that a node with these words names.
+// Counts the nodes that a node with these words names.
 fn count_named(counts: &mut [u64; 1024], kind: u64, first: u64, second: u64, value: u64)
     requires { ⌜ Room (now counts) 2 ⌝ }
     ensures { λ r. ⌜ Tally (now (counts .entry)) (def.named (kindOf kind) first second value) (now (counts .exit)) ⌝ }
@@ -170,7 +170,7 @@ fn count_named(counts: &mut [u64; 1024], kind: u64, first: u64, second: u64, val
     }
 }
 
-// The nodes that nodes name.
+// Counts the nodes that nodes name.
 fn count_nodes(counts: &mut [u64; 1024], nodes: &[u64])
     requires { ⌜ Room (now counts) (def.nodeCount (now nodes) * 2) ⌝ }
     ensures { λ r. ⌜ Tally (now (counts .entry)) (concat (column (def.byWords def.named (now (nodes .entry))) (def.nodeCount (now (nodes .entry))))) (now (counts .exit)) ⌝ }
@@ -190,7 +190,7 @@ fn count_nodes(counts: &mut [u64; 1024], nodes: &[u64])
     }
 }
 
-// The nodes that are roots.
+// Counts the nodes that are roots.
 fn count_roots(counts: &mut [u64; 1024], roots: &[u64])
     requires { ⌜ Room (now counts) (length (now roots)) ⌝ }
     ensures { λ r. ⌜ Tally (now (counts .entry)) (map def.plain (now (roots .entry))) (now (counts .exit)) ⌝ }
@@ -202,7 +202,7 @@ fn count_roots(counts: &mut [u64; 1024], roots: &[u64])
     }
 }
 
-// Is each node named exactly once?
+// Is each node named exactly once, by a node or as a root? Each name is looked at once, and counted in its node's place.
 fn named_once(nodes: &[u64], constraints: &[u64], pairs: &[u64]) -> bool
     requires { ⌜ def.nodeCount (now nodes) ≤ 1024 ⌝ }
     ensures { λ r. ⌜ r ≡ def.nodesHold (now (nodes .entry)) (def.once (now (nodes .entry)) (now (constraints .entry) ++ now (pairs .entry))) ⌝ }

@@ -10,9 +10,6 @@ use Rattle.cycles.proofs.Chains.{link-none}
 use Rattle.cycles.proofs.Turns.{Before, before-first, room, before-next, bad-cycle, no-cycle-left}
 use Rattle.cycles.proofs.cycles_good.Statement.{statement}
 use Rattle.cycles.proofs.cycles_good.Tie as tie
-use Rattle.cycles.proofs.cycles_good.Reads as reads
-use Rattle.cycles.proofs.cycles_good.Lts as lts
-use Rattle.cycles.proofs.good_cycle.Reads as good-cycle-reads
 
 abbrev Inv-loop : tie.InvT-loop
 Inv-loop lengths cells polys rows heads₀ earlier₀ start₀ i₀ heads earlier start i = Before polys rows lengths cells start i × Linked cells heads earlier start
@@ -20,21 +17,17 @@ Inv-loop lengths cells polys rows heads₀ earlier₀ start₀ i₀ heads earlie
 abbrev μ-loop : tie.MeasureT-loop
 μ-loop lengths cells polys rows heads₀ earlier₀ start₀ i₀ heads earlier start i = length lengths - i
 
--- src/lib.rt:107:5
 loop-holds : tie.Need-loop-holds Inv-loop μ-loop
 loop-holds c =
     let s = c .before .before in
     (before-first (s .args .polys) (s .args .rows) (s .args .lengths .now) (s .args .cells .now) (s .pre .0), link-none (s .args .cells .now) _ _ refl refl)
 
--- src/lib.rt:108:17
 mul-n : tie.Need-mul-n Inv-loop μ-loop
 mul-n c = search needs
 
--- src/lib.rt:108:17
 shared-slice-read-n : tie.Need-shared-slice-read-n Inv-loop μ-loop
 shared-slice-read-n c = search needs
 
--- src/lib.rt:109:13
 good-cycle-requires : tie.Need-good-cycle-requires Inv-loop μ-loop
 good-cycle-requires c κs =
     let s = c .before .before .before .before .before .before .before in
@@ -43,14 +36,12 @@ good-cycle-requires c κs =
     let m = s .pre .1 in
     (l, omega arith, h .loop .inv .1)
 
--- src/lib.rt:110:13
 returns : tie.Need-returns Inv-loop μ-loop
 returns c =
     let s = c .before .before .before .before .before .before .before .before .before in
     let h = c .before .before .before .before .before .before in
     bad-cycle (s .args .polys) (s .args .rows) (s .args .lengths .now) (s .args .cells .now) (h .loop .start) (h .loop .i) (h .loop .inv .0) (c .before .before .before .before .before .loop-test .taken) (c .before .good-cycle .result) (c .before .good-cycle .ensures .0) (c .if1 .taken)
 
--- src/lib.rt:112:9
 add-start : tie.Need-add-start Inv-loop μ-loop
 add-start c =
     let s = c .before .before .before .before .before .before .before .before .before in
@@ -59,15 +50,12 @@ add-start c =
     let m = s .pre .1 in
     record { fits = omega arith }
 
--- src/lib.rt:113:9
 add-i : tie.Need-add-i Inv-loop μ-loop
 add-i c = search needs
 
--- src/lib.rt:107:5
 loop-less : tie.Need-loop-less Inv-loop μ-loop
 loop-less c = search needs
 
--- src/lib.rt:107:5
 loop-again : tie.Need-loop-again Inv-loop μ-loop
 loop-again c =
     let s = c .before .before .before .before .before .before .before .before .before in
@@ -76,7 +64,6 @@ loop-again c =
       c .before .good-cycle .ensures .1 (not-false (c .before .good-cycle .result) (c .if1 .left)),
     )
 
--- src/lib.rt:99:1
 returns-2 : tie.Need-returns-2 Inv-loop μ-loop
 returns-2 c =
     let s = c .before .before .before .before in

@@ -5,8 +5,6 @@ use Prim.Native.Nat.{_+_}
 use Rattle.cycles.proofs.Chains.{Down, down-first, down-less, down-next, down-end, down-met}
 use Rattle.cycles.proofs.fresh.Statement.{statement}
 use Rattle.cycles.proofs.fresh.Tie as tie
-use Rattle.cycles.proofs.fresh.Reads as reads
-use Rattle.cycles.proofs.fresh.Lts as lts
 
 abbrev Inv-loop : tie.InvT-loop
 Inv-loop cells heads earlier start n at polynomial row chain j₀ j = Down cells (start + n) j
@@ -14,114 +12,89 @@ Inv-loop cells heads earlier start n at polynomial row chain j₀ j = Down cells
 abbrev μ-loop : tie.MeasureT-loop
 μ-loop cells heads earlier start n at polynomial row chain j₀ j = j
 
--- src/lib.rt:23:14
 add-at : tie.Need-add-at Inv-loop μ-loop
 add-at c = search needs
 
--- src/lib.rt:24:28
 mul-polynomial : tie.Need-mul-polynomial Inv-loop μ-loop
 mul-polynomial c = search needs
 
--- src/lib.rt:24:22
 mul-polynomial-2 : tie.Need-mul-polynomial-2 Inv-loop μ-loop
 mul-polynomial-2 c = search needs
 
--- src/lib.rt:24:22
 shared-slice-read-polynomial : tie.Need-shared-slice-read-polynomial Inv-loop μ-loop
 shared-slice-read-polynomial c = search needs
 
--- src/lib.rt:25:21
 mul-row : tie.Need-mul-row Inv-loop μ-loop
 mul-row c = search needs
 
--- src/lib.rt:25:21
 add-row : tie.Need-add-row Inv-loop μ-loop
 add-row c = search needs
 
--- src/lib.rt:25:15
 mul-row-2 : tie.Need-mul-row-2 Inv-loop μ-loop
 mul-row-2 c = search needs
 
--- src/lib.rt:25:15
 shared-slice-read-row : tie.Need-shared-slice-read-row Inv-loop μ-loop
 shared-slice-read-row c = search needs
 
--- src/lib.rt:27:17
 mul-j : tie.Need-mul-j Inv-loop μ-loop
 mul-j c = search needs
 
--- src/lib.rt:27:17
 element-copy-out-j : tie.Need-element-copy-out-j Inv-loop μ-loop
 element-copy-out-j c = search needs
 
--- src/lib.rt:28:5
 loop-holds : tie.Need-loop-holds Inv-loop μ-loop
 loop-holds c =
     let s = c .before .before .before in
     down-first (s .args .cells .now) (s .args .start + s .args .n) (s .args .heads .now) (s .args .earlier .now) (s .pre .2)
 
--- src/lib.rt:29:21
 sub-other : tie.Need-sub-other Inv-loop μ-loop
 sub-other c = search needs
 
--- src/lib.rt:30:33
 mul-if1 : tie.Need-mul-if1 Inv-loop μ-loop
 mul-if1 c = search needs
 
--- src/lib.rt:30:27
 mul-if1-2 : tie.Need-mul-if1-2 Inv-loop μ-loop
 mul-if1-2 c = search needs
 
--- src/lib.rt:30:27
 shared-slice-read-if1 : tie.Need-shared-slice-read-if1 Inv-loop μ-loop
 shared-slice-read-if1 c = search needs
 
--- src/lib.rt:30:61
 mul-if1-3 : tie.Need-mul-if1-3 Inv-loop μ-loop
 mul-if1-3 c = search needs
 
--- src/lib.rt:30:61
 add-if1 : tie.Need-add-if1 Inv-loop μ-loop
 add-if1 c = search needs
 
--- src/lib.rt:30:55
 mul-if1-4 : tie.Need-mul-if1-4 Inv-loop μ-loop
 mul-if1-4 c = search needs
 
--- src/lib.rt:30:55
 shared-slice-read-if1-2 : tie.Need-shared-slice-read-if1-2 Inv-loop μ-loop
 shared-slice-read-if1-2 c = search needs
 
--- src/lib.rt:31:13
 returns : tie.Need-returns Inv-loop μ-loop
 returns c =
     let h = c .before .before .before .before in
     let s = c .before .before .before .before .before .before .before .before in
     down-met (s .args .cells .now) (s .args .start) (s .args .n) (h .loop .j) (h .loop .inv) (c .before .before .before .loop-test .taken) (c .if1 .taken)
 
--- src/lib.rt:33:13
 mul-j-2 : tie.Need-mul-j-2 Inv-loop μ-loop
 mul-j-2 c = search needs
 
--- src/lib.rt:33:13
 element-copy-out-j-2 : tie.Need-element-copy-out-j-2 Inv-loop μ-loop
 element-copy-out-j-2 c = search needs
 
--- src/lib.rt:28:5
 loop-less : tie.Need-loop-less Inv-loop μ-loop
 loop-less c =
     let h = c .before .before .before .before .before in
     let s = c .before .before .before .before .before .before .before .before .before in
     down-less (s .args .cells .now) (s .args .start + s .args .n) (s .args .heads .now) (s .args .earlier .now) (s .pre .2) (h .loop .j) (h .loop .inv) (let l = c .before .before .before .before .loop-test .taken in omega arith)
 
--- src/lib.rt:28:5
 loop-again : tie.Need-loop-again Inv-loop μ-loop
 loop-again c =
     let h = c .before .before .before .before .before in
     let s = c .before .before .before .before .before .before .before .before .before in
     down-next (s .args .cells .now) (s .args .start + s .args .n) (s .args .heads .now) (s .args .earlier .now) (s .pre .2) (h .loop .j) (h .loop .inv) (let l = c .before .before .before .before .loop-test .taken in omega arith) (c .before .if1 .left)
 
--- src/lib.rt:13:1
 returns-2 : tie.Need-returns-2 Inv-loop μ-loop
 returns-2 c =
     let h = c .before in

@@ -6,53 +6,39 @@ use Rattle.cycles.proofs.Turns.{good-in, good-out}
 use borrow.Author.Needs.{needs}
 use Rattle.cycles.proofs.good_cell.Statement.{statement}
 use Rattle.cycles.proofs.good_cell.Tie as tie
-use Rattle.cycles.proofs.good_cell.Reads as reads
-use Rattle.cycles.proofs.good_cell.Lts as lts
-use Rattle.cycles.proofs.fresh.Reads as fresh-reads
 
--- src/lib.rt:61:14
 add-at : tie.Need-add-at
 add-at c = search needs
 
--- src/lib.rt:62:21
 mul-row : tie.Need-mul-row
 mul-row c = search needs
 
--- src/lib.rt:62:21
 add-row : tie.Need-add-row
 add-row c = search needs
 
--- src/lib.rt:62:15
 mul-row-2 : tie.Need-mul-row-2
 mul-row-2 c = search needs
 
--- src/lib.rt:62:15
 shared-slice-read-row : tie.Need-shared-slice-read-row
 shared-slice-read-row c = search needs
 
--- src/lib.rt:63:15
 mul-if1 : tie.Need-mul-if1
 mul-if1 c = search needs
 
--- src/lib.rt:63:9
 mul-if1-2 : tie.Need-mul-if1-2
 mul-if1-2 c = search needs
 
--- src/lib.rt:63:9
 shared-slice-read-if1 : tie.Need-shared-slice-read-if1
 shared-slice-read-if1 c = search needs
 
--- src/lib.rt:64:9
 fresh-requires : tie.Need-fresh-requires
 fresh-requires c κs = search needs
 
--- src/lib.rt:49:1
 returns : tie.Need-returns
 returns c =
     let a = c .before .before .before .before .before .args in
     good-in (a .polys) (a .rows) (cellAt (a .cells .now) (a .start + a .n)) (run (a .cells .now) (a .start) (a .n)) (c .fresh .result) (c .before .if1 .taken) (c .fresh .ensures)
 
--- src/lib.rt:49:1
 returns-2 : tie.Need-returns-2
 returns-2 c =
     let a = c .before .before .before .before .args in

@@ -11,10 +11,6 @@ use Rattle.cycles.proofs.Chains.{linked-at}
 use Rattle.cycles.proofs.Turns.{turn, no-cell, bad-cell, good-cells}
 use Rattle.cycles.proofs.good_cycle.Statement.{statement}
 use Rattle.cycles.proofs.good_cycle.Tie as tie
-use Rattle.cycles.proofs.good_cycle.Reads as reads
-use Rattle.cycles.proofs.good_cycle.Lts as lts
-use Rattle.cycles.proofs.good_cell.Reads as good-cell-reads
-use Rattle.cycles.proofs.link.Reads as link-reads
 
 abbrev Inv-loop : tie.InvT-loop
 Inv-loop cells heads₀ earlier₀ start n polys rows i₀ heads earlier i = Walked (turn polys rows cells start) (λ i. i) n i × Linked cells heads earlier (start + i)
@@ -22,19 +18,16 @@ Inv-loop cells heads₀ earlier₀ start n polys rows i₀ heads earlier i = Wal
 abbrev μ-loop : tie.MeasureT-loop
 μ-loop cells heads₀ earlier₀ start n polys rows i₀ heads earlier i = n - i
 
--- src/lib.rt:85:9
 returns : tie.Need-returns Inv-loop μ-loop
 returns c =
     let a = c .before .before .args in
     (no-cell (a .polys) (a .rows) (a .cells .now) (a .start) (a .n) (c .if1 .taken), λ e. false-true e)
 
--- src/lib.rt:88:5
 loop-holds : tie.Need-loop-holds Inv-loop μ-loop
 loop-holds c =
     let s = c .before .before in
     (walk-none (turn (s .args .polys) (s .args .rows) (s .args .cells .now) (s .args .start)) (λ i. i) (s .args .n), linked-at (s .args .cells .now) (s .args .heads .now) (s .args .earlier .now) (s .args .start) (s .args .start + 0) (s .pre .2) (omega arith))
 
--- src/lib.rt:89:13
 good-cell-requires : tie.Need-good-cell-requires Inv-loop μ-loop
 good-cell-requires c κs =
     let s = c .before .before .before .before .before .before in
@@ -44,7 +37,6 @@ good-cell-requires c κs =
     let q = s .pre .1 in
     (omega arith, omega arith, h .loop .inv .1)
 
--- src/lib.rt:90:13
 returns-2 : tie.Need-returns-2 Inv-loop μ-loop
 returns-2 c =
     let s = c .before .before .before .before .before .before .before .before in
@@ -54,11 +46,9 @@ returns-2 c =
       λ e. false-true e,
     )
 
--- src/lib.rt:92:37
 add-link : tie.Need-add-link Inv-loop μ-loop
 add-link c = search needs
 
--- src/lib.rt:92:9
 link-requires : tie.Need-link-requires Inv-loop μ-loop
 link-requires c κs =
     let s = c .before .before .before .before .before .before .before .before .before .before in
@@ -68,15 +58,12 @@ link-requires c κs =
     let q = s .pre .1 in
     (omega arith, omega arith, h .loop .inv .1)
 
--- src/lib.rt:93:9
 add-i : tie.Need-add-i Inv-loop μ-loop
 add-i c = search needs
 
--- src/lib.rt:88:5
 loop-less : tie.Need-loop-less Inv-loop μ-loop
 loop-less c = search needs
 
--- src/lib.rt:88:5
 loop-again : tie.Need-loop-again Inv-loop μ-loop
 loop-again c =
     let s = c .before .before .before .before .before .before .before .before .before .before .before in
@@ -86,7 +73,6 @@ loop-again c =
       linked-at (s .args .cells .now) (c .link .last .1 .0) (c .link .last .1 .1 .0) (s .args .start + h .loop .i + 1) (s .args .start + (h .loop .i + 1)) (c .link .ensures) (omega arith),
     )
 
--- src/lib.rt:71:1
 returns-3 : tie.Need-returns-3 Inv-loop μ-loop
 returns-3 c =
     let s = c .before .before .before .before in

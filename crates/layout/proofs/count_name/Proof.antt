@@ -4,34 +4,25 @@ use Rattle.layout.proofs.Counts.{tally-name, tally-past}
 use borrow.Author.Needs.{needs}
 use Rattle.layout.proofs.count_name.Statement.{statement}
 use Rattle.layout.proofs.count_name.Tie as tie
-use Rattle.layout.proofs.count_name.Reads as reads
-use Rattle.layout.proofs.count_name.Lts as lts
 
--- src/lib.rt:135:22
 mul-counts : tie.Need-mul-counts
 mul-counts c = search needs
 
--- src/lib.rt:135:22
 element-copy-out-counts : tie.Need-element-copy-out-counts
 element-copy-out-counts c = search needs
 
--- src/lib.rt:135:22
 add-counts : tie.Need-add-counts
 add-counts c = let s = c .before .before in record { fits = s .pre .each (s .args .n) (c .before .if1 .taken) }
 
--- src/lib.rt:135:9
 mul-counts-2 : tie.Need-mul-counts-2
 mul-counts-2 c = search needs
 
--- src/lib.rt:135:9
 element-write-counts : tie.Need-element-write-counts
 element-write-counts c = search needs
 
--- src/lib.rt:129:1
 returns : tie.Need-returns
 returns c = let s = c .before .before in tally-name (s .args .counts .now) (s .args .n) (s .pre .places) (c .before .if1 .taken)
 
--- src/lib.rt:129:1
 returns-2 : tie.Need-returns-2
 returns-2 c = tally-past (c .before .args .counts .now) (c .before .args .n) (c .if1 .left)
 

@@ -4,9 +4,6 @@ use borrow.Author.Needs.{needs}
 use Rattle.layout.proofs.Counts.{Noded, noded-none, noded-room, noded-more, noded-all}
 use Rattle.layout.proofs.count_nodes.Statement.{statement}
 use Rattle.layout.proofs.count_nodes.Tie as tie
-use Rattle.layout.proofs.count_nodes.Reads as reads
-use Rattle.layout.proofs.count_nodes.Lts as lts
-use Rattle.layout.proofs.count_named.Reads as count-named-reads
 
 abbrev Inv-loop : tie.InvT-loop
 Inv-loop counts₀ nodes count m₀ counts m = Noded nodes counts₀ counts m
@@ -14,81 +11,63 @@ Inv-loop counts₀ nodes count m₀ counts m = Noded nodes counts₀ counts m
 abbrev μ-loop : tie.MeasureT-loop
 μ-loop counts₀ nodes count m₀ counts m = count - m
 
--- src/lib.rt:180:5
 loop-holds : tie.Need-loop-holds Inv-loop μ-loop
 loop-holds c = noded-none (c .before .args .nodes .now) (c .before .args .counts .now)
 
--- src/lib.rt:181:18
 mul-at : tie.Need-mul-at Inv-loop μ-loop
 mul-at c = search needs
 
--- src/lib.rt:182:29
 mul-count-named : tie.Need-mul-count-named Inv-loop μ-loop
 mul-count-named c = search needs
 
--- src/lib.rt:182:29
 shared-slice-read-count-named : tie.Need-shared-slice-read-count-named Inv-loop μ-loop
 shared-slice-read-count-named c = search needs
 
--- src/lib.rt:182:46
 add-count-named : tie.Need-add-count-named Inv-loop μ-loop
 add-count-named c = search needs
 
--- src/lib.rt:182:40
 mul-count-named-2 : tie.Need-mul-count-named-2 Inv-loop μ-loop
 mul-count-named-2 c = search needs
 
--- src/lib.rt:182:40
 shared-slice-read-count-named-2 : tie.Need-shared-slice-read-count-named-2 Inv-loop μ-loop
 shared-slice-read-count-named-2 c = search needs
 
--- src/lib.rt:182:61
 add-count-named-2 : tie.Need-add-count-named-2 Inv-loop μ-loop
 add-count-named-2 c = search needs
 
--- src/lib.rt:182:55
 mul-count-named-3 : tie.Need-mul-count-named-3 Inv-loop μ-loop
 mul-count-named-3 c = search needs
 
--- src/lib.rt:182:55
 shared-slice-read-count-named-3 : tie.Need-shared-slice-read-count-named-3 Inv-loop μ-loop
 shared-slice-read-count-named-3 c = search needs
 
--- src/lib.rt:182:76
 add-count-named-3 : tie.Need-add-count-named-3 Inv-loop μ-loop
 add-count-named-3 c = search needs
 
--- src/lib.rt:182:70
 mul-count-named-4 : tie.Need-mul-count-named-4 Inv-loop μ-loop
 mul-count-named-4 c = search needs
 
--- src/lib.rt:182:70
 shared-slice-read-count-named-4 : tie.Need-shared-slice-read-count-named-4 Inv-loop μ-loop
 shared-slice-read-count-named-4 c = search needs
 
--- src/lib.rt:182:9
 count-named-requires : tie.Need-count-named-requires Inv-loop μ-loop
 count-named-requires c κs =
     let h = c .before .before .before .before .before .before in
     let s = c .before .before .before .before .before .before .before .before in
     noded-room (s .args .nodes .now) (s .args .counts .now) (h .loop .counts) (h .loop .m) (h .loop .inv) (c .before .before .before .before .before .loop-test .taken) (s .pre)
 
--- src/lib.rt:183:9
 add-m : tie.Need-add-m Inv-loop μ-loop
 add-m c = search needs
 
--- src/lib.rt:180:5
 loop-less : tie.Need-loop-less Inv-loop μ-loop
 loop-less c = search needs
 
--- src/lib.rt:180:5
 loop-again : tie.Need-loop-again Inv-loop μ-loop
 loop-again c =
     let h = c .before .before .before .before .before .before .before in
     let s = c .before .before .before .before .before .before .before .before .before in
     noded-more (s .args .nodes .now) (s .args .counts .now) (h .loop .counts) (h .loop .m) (h .loop .inv) (c .before .before .before .before .before .before .loop-test .taken) (c .count-named .last .0) (c .count-named .ensures)
 
--- src/lib.rt:174:1
 returns : tie.Need-returns Inv-loop μ-loop
 returns c =
     let h = c .before in

@@ -5,9 +5,6 @@ use lib.ListN.{length}
 use Rattle.layout.proofs.Counts.{Rooted, rooted-none, rooted-room, rooted-more, rooted-all}
 use Rattle.layout.proofs.count_roots.Statement.{statement}
 use Rattle.layout.proofs.count_roots.Tie as tie
-use Rattle.layout.proofs.count_roots.Reads as reads
-use Rattle.layout.proofs.count_roots.Lts as lts
-use Rattle.layout.proofs.count_name.Reads as count-name-reads
 
 abbrev Inv-loop : tie.InvT-loop
 Inv-loop counts₀ roots i₀ counts i = Rooted roots counts₀ counts i
@@ -15,41 +12,33 @@ Inv-loop counts₀ roots i₀ counts i = Rooted roots counts₀ counts i
 abbrev μ-loop : tie.MeasureT-loop
 μ-loop counts₀ roots i₀ counts i = length roots - i
 
--- src/lib.rt:193:5
 loop-holds : tie.Need-loop-holds Inv-loop μ-loop
 loop-holds c = rooted-none (c .before .args .roots .now) (c .before .args .counts .now)
 
--- src/lib.rt:194:28
 mul-count-name : tie.Need-mul-count-name Inv-loop μ-loop
 mul-count-name c = search needs
 
--- src/lib.rt:194:28
 shared-slice-read-count-name : tie.Need-shared-slice-read-count-name Inv-loop μ-loop
 shared-slice-read-count-name c = search needs
 
--- src/lib.rt:194:9
 count-name-requires : tie.Need-count-name-requires Inv-loop μ-loop
 count-name-requires c κs =
     let h = c .before .before .before in
     let s = c .before .before .before .before .before in
     rooted-room (s .args .roots .now) (s .args .counts .now) (h .loop .counts) (h .loop .i) (h .loop .inv) (c .before .before .loop-test .taken) (s .pre)
 
--- src/lib.rt:195:9
 add-i : tie.Need-add-i Inv-loop μ-loop
 add-i c = search needs
 
--- src/lib.rt:193:5
 loop-less : tie.Need-loop-less Inv-loop μ-loop
 loop-less c = search needs
 
--- src/lib.rt:193:5
 loop-again : tie.Need-loop-again Inv-loop μ-loop
 loop-again c =
     let h = c .before .before .before .before in
     let s = c .before .before .before .before .before .before in
     rooted-more (s .args .roots .now) (s .args .counts .now) (h .loop .counts) (h .loop .i) (h .loop .inv) (c .before .before .before .loop-test .taken) (c .count-name .last .0) (c .count-name .ensures)
 
--- src/lib.rt:188:1
 returns : tie.Need-returns Inv-loop μ-loop
 returns c =
     let h = c .before in

@@ -13,10 +13,6 @@ use Rattle.backend.specs.Layout.{nodeCount, once, names, isName}
 use Rattle.layout.proofs.Counts.{room-nodes, room-first, room-second, all-counted}
 use Rattle.layout.proofs.named_once.Statement.{statement}
 use Rattle.layout.proofs.named_once.Tie as tie
-use Rattle.layout.proofs.named_once.Reads as reads
-use Rattle.layout.proofs.named_once.Lts as lts
-use Rattle.layout.proofs.count_nodes.Reads as count-nodes-reads
-use Rattle.layout.proofs.count_roots.Reads as count-roots-reads
 
 abbrev Inv-loop : tie.InvT-loop
 Inv-loop nodes constraints pairs counts count n₀ n = Walked (once nodes (constraints ++ pairs)) (λ i. i) count n
@@ -27,23 +23,19 @@ abbrev μ-loop : tie.MeasureT-loop
 short : (c : tie.Start Inv-loop μ-loop) → length (c .args .constraints .now) + length (c .args .pairs .now) < 2 ^ 63
 short c = omega (arith, c .good .1 .0 .1, c .good .1 .1 .0 .1)
 
--- src/lib.rt:205:5
 count-nodes-requires : tie.Need-count-nodes-requires Inv-loop μ-loop
 count-nodes-requires c κs = let s = c .before .before .before .before in room-nodes (s .args .nodes .now) (s .args .constraints .now) (s .args .pairs .now) (s .pre) (short s) _ refl
 
--- src/lib.rt:206:5
 count-roots-requires : tie.Need-count-roots-requires Inv-loop μ-loop
 count-roots-requires c κs =
     let s = c .before .before .before .before .before .before in
     room-first (s .args .nodes .now) (s .args .constraints .now) (s .args .pairs .now) (s .pre) (short s) _ refl (c .before .count-nodes .last .0) (c .before .count-nodes .ensures)
 
--- src/lib.rt:207:5
 count-roots-requires-2 : tie.Need-count-roots-requires-2 Inv-loop μ-loop
 count-roots-requires-2 c κs =
     let s = c .before .before .before .before .before .before .before .before in
     room-second (s .args .nodes .now) (s .args .constraints .now) (s .args .pairs .now) (s .pre) (short s) _ refl (c .before .before .before .count-nodes .last .0) (c .before .before .before .count-nodes .ensures) (c .before .count-roots .last .0) (c .before .count-roots .ensures)
 
--- src/lib.rt:210:5
 loop-holds : tie.Need-loop-holds Inv-loop μ-loop
 loop-holds c =
     let a = c .before .before .before .before .before .before .before .before .before .args in
@@ -58,15 +50,12 @@ place c =
 inside : (c : tie.In-loop Inv-loop μ-loop) → c .before .loop .n < 1024
 inside c = search needs
 
--- src/lib.rt:211:12
 mul-if1 : tie.Need-mul-if1 Inv-loop μ-loop
 mul-if1 c = search needs
 
--- src/lib.rt:211:12
 array-read-if1 : tie.Need-array-read-if1 Inv-loop μ-loop
 array-read-if1 c = search needs
 
--- src/lib.rt:212:13
 returns : tie.Need-returns Inv-loop μ-loop
 returns c =
     let h = c .before .before in
@@ -74,15 +63,12 @@ returns c =
     walk-fails (once (a .nodes .now) (a .constraints .now ++ a .pairs .now)) (λ i. i) (nodeCount (a .nodes .now)) (h .loop .n) (c .before .loop-test .taken)
     (ap (λ (t : ℕ). eqb t 1) (sym (place h (h .loop .n) (inside (c .before)))) ∙ ne-eqb (getD (h .before .count-roots2 .last .0) (h .loop .n) 0) 1 (c .if1 .taken))
 
--- src/lib.rt:214:9
 add-n : tie.Need-add-n Inv-loop μ-loop
 add-n c = search needs
 
--- src/lib.rt:210:5
 loop-less : tie.Need-loop-less Inv-loop μ-loop
 loop-less c = search needs
 
--- src/lib.rt:210:5
 loop-again : tie.Need-loop-again Inv-loop μ-loop
 loop-again c =
     let h = c .before .before in
@@ -90,7 +76,6 @@ loop-again c =
     walk-more (once (a .nodes .now) (a .constraints .now ++ a .pairs .now)) (λ i. i) (nodeCount (a .nodes .now)) (h .loop .n) (h .loop .inv) (c .before .loop-test .taken)
     (ap (λ (t : ℕ). eqb t 1) (sym (place h (h .loop .n) (inside (c .before)))) ∙ eq-eqb (getD (h .before .count-roots2 .last .0) (h .loop .n) 0) 1 (c .if1 .left))
 
--- src/lib.rt:200:1
 returns-2 : tie.Need-returns-2 Inv-loop μ-loop
 returns-2 c =
     let a = c .before .before .before .before .before .before .before .before .before .before .before .args in
