@@ -1,21 +1,19 @@
 -- What a node's words say, kind by kind. Assumes nothing.
 use mathlib.Core.Path.{_≡_, refl, sym, ap, ap₂, _∙_}
 use mathlib.Core.Bool.{Bool, true, false, cond, not, _&&_, _||_, and-true, and-false, Bool·beq}
-use mathlib.Core.List.{List, [], _∷_, _++_, map}
+use mathlib.Core.List.{List, [], _∷_, _++_}
 use Prim.Native.Nat.{ℕ, zero, suc, _+_, _-_, _*_, _≤_, _<_}
 use native.Mathlib.Nat.{add-zero}
 use native.Mathlib.Decide.{decLt}
 use native.Mathlib.Omega.{arith}
 use lib.Dec.{eqb, leb, ltb}
 use lib.IntN.{pos, negsuc, natAbs}
-use lib.ListN.{length, getD, take, List·getD-eq-default}
-use mir.Val.{boolByte}
+use lib.ListN.{getD, List·getD-eq-default}
 use borrow.Author.Tests.{lt-ltb, le-ltb, ne-eqb, not-true, not-false}
-use Rattle.util.specs.Lists.{column, allOf, those, countOf, concat}
-use Rattle.util.proofs.Tests.{count-append, all-append, and-both}
-use Rattle.util.proofs.Searches.{count-more, count-joined, count-le, count-map}
+use Rattle.util.specs.Lists.{allOf}
+use Rattle.util.proofs.Tests.{all-append, and-both}
 use Rattle.expression.specs.Nodes.{wordOf, Kind, kinds, kindOf, signed}
-use Rattle.backend.specs.Layout.{Name, plain, asItem, named, shaped, byWords, right, longEnough, names, isName, inPlace, nodeCount, nodesHold, isRoot, once, laidOut, inRange}
+use Rattle.backend.specs.Layout.{Name, plain, asItem, named, shaped, byWords, right, longEnough, inPlace, nodesHold, isRoot, once, laidOut, inRange}
 
 -- w is none of m + 1, …, m + n
 abbrev pub Not : ℕ → ℕ → ℕ → Type 0
@@ -172,132 +170,12 @@ module _ (nodes : List ℕ) (m x : ℕ) where
   pub not-low : (y : Name) → y .node ≡ x → m ≤ x → false ≡ right nodes m y
   not-low y e l = ap (λ (t : Bool). t && Bool·beq (eqb (wordOf nodes (y .node) 0) 12) (y .item)) (sym (le-ltb x m l) ∙ ap (λ (z : ℕ). ltb z m) (sym e))
 
--- ---- names counted
-module _ {A : Type 0} (p : A → Bool) where
-  pub count-cons : (x : A) (xs : List A) → countOf p (x ∷ xs) ≡ boolByte (p x) + countOf p xs
-  unfolding those
-  count-cons x xs = go (p x)
-    where
-      go : (t : Bool) → length (cond t (x ∷ those p xs) (those p xs)) ≡ boolByte t + countOf p xs
-      go true = omega arith
-      go false = omega arith
-
-  pub count-nil : countOf p [] ≡ 0
-  unfolding those
-  count-nil = refl
-
-  pub count-1 : (x : A) → boolByte (p x) ≡ countOf p (x ∷ [])
-  count-1 x = sym (count-cons x [] ∙ (let q = count-nil in omega arith))
-
-  pub count-2 : (x y : A) → boolByte (p x) + boolByte (p y) ≡ countOf p (x ∷ y ∷ [])
-  count-2 x y = ap (λ (n : ℕ). boolByte (p x) + n) (count-1 y) ∙ sym (count-cons x (y ∷ []))
-
-  -- the second only where t is not
-  pub count-12 : (x y : A) (t : Bool) → boolByte (p x) + boolByte (not t && p y) ≡ countOf p (x ∷ cond t [] (y ∷ []))
-  count-12 x y true = (let q = count-1 x in omega arith)
-  count-12 x y false = count-2 x y
-
-pub byte-le : (t : Bool) → boolByte t ≤ 1
-byte-le true = omega arith
-byte-le false = omega arith
-
-pub count-byte : {A : Type 0} (p : A → Bool) (d : A) (xs : List A) (i : ℕ) → i < length xs
-    → countOf p (take (i + 1) xs) ≡ countOf p (take i xs) + boolByte (p (getD xs i d))
-count-byte p d xs i l = count-more p d xs i l ∙ ap (λ (n : ℕ). countOf p (take i xs) + n) (go (p (getD xs i d)))
-  where
-    go : (t : Bool) → cond t 1 0 ≡ boolByte t
-    go true = refl
-    go false = refl
-
 -- ---- node n's words, its kind known
 module _ (nodes : List ℕ) (n : ℕ) where
   pub by-kind : {B : Type 0} (f : Kind → ℕ → ℕ → ℕ → B) (w : ℕ) → getD nodes (n * 4) 0 ≡ w
       → f (kindOf w) (getD nodes (n * 4 + 1) 0) (getD nodes (n * 4 + 2) 0) (getD nodes (n * 4 + 3) 0) ≡ byWords f nodes n
   by-kind f w e =
       ap (λ (k : ℕ). f (kindOf k) (getD nodes (n * 4 + 1) 0) (getD nodes (n * 4 + 2) 0) (getD nodes (n * 4 + 3) 0)) (sym e ∙ sym (kind-word nodes n))
-
--- ---- names, node by node, after the roots
-module _ (nodes xs ys : List ℕ) (n : ℕ) where
-  -- how often the first m nodes name n
-  abbrev pub named-by : ℕ → ℕ
-  named-by m = countOf (isName n) (concat (column (byWords named nodes) m))
-
-  abbrev pub as-root : List ℕ → ℕ
-  as-root rs = countOf (λ r. isName n (plain r)) rs
-
-  pub named-none : named-by 0 ≡ 0
-  unfolding column concat those
-  named-none = refl
-
-  pub named-more : (m t : ℕ)
-      → t ≡ countOf (isName n) (named (kindOf (getD nodes (m * 4) 0)) (getD nodes (m * 4 + 1) 0) (getD nodes (m * 4 + 2) 0) (getD nodes (m * 4 + 3) 0))
-      → named-by (m + 1) ≡ named-by m + t
-  named-more m t e =
-      count-joined (isName n) (byWords named nodes) m
-      ∙ ap (λ (k : ℕ). named-by m + k)
-      (sym (e ∙ ap (λ (zs : List Name). countOf (isName n) zs) (by-kind nodes m named (getD nodes (m * 4) 0) refl)))
-
-  -- a node names two at most
-  pub two-at-most : (k : Kind) (a b v : ℕ) → length (named k a b v) ≤ 2
-  two-at-most Kind.isConstant a b v = omega arith
-  two-at-most Kind.isIdentity a b v = omega arith
-  two-at-most Kind.isLagrange a b v = omega arith
-  two-at-most Kind.isEqXY a b v = omega arith
-  two-at-most Kind.isPolynomial a b v = omega arith
-  two-at-most Kind.isChallenge a b v = omega arith
-  two-at-most Kind.isNegated a b v = omega arith
-  two-at-most Kind.isSum a b v = omega arith
-  two-at-most Kind.isProduct a b v = omega arith
-  two-at-most Kind.isScaled a b v = omega arith
-  two-at-most Kind.isPowers a b v = omega arith
-  two-at-most Kind.isItem a b v = go (eqb v 0)
-    where
-      go : (t : Bool) → length (plain a ∷ cond t [] (asItem b ∷ [])) ≤ 2
-      go true = omega arith
-      go false = omega arith
-  two-at-most Kind.isNone a b v = omega arith
-
-  pub named-le : (t : ℕ) (k : Kind) (a b v : ℕ) → t ≡ countOf (isName n) (named k a b v) → t ≤ 2
-  named-le t k a b v e = let q = count-le (isName n) (named k a b v) in let r = two-at-most k a b v in omega arith
-
-  pub names-count : as-root xs + as-root ys + named-by (nodeCount nodes) ≡ countOf (isName n) (names nodes (xs ++ ys))
-  unfolding names
-  names-count =
-      let e : countOf (isName n) (map plain (xs ++ ys)) ≡ as-root xs + as-root ys =
-      count-map (isName n) plain (xs ++ ys) ∙ count-append (λ r. isName n (plain r)) xs ys in
-      let f = count-append (isName n) (concat (column (byWords named nodes) (nodeCount nodes))) (map plain (xs ++ ys)) in
-      omega arith
-
-  -- the search after m nodes, from `base` on
-  pub record Counted (base times m : ℕ) : Type 0 where
-    pub upto : m ≤ nodeCount nodes
-    pub so-far : times ≡ base + named-by m
-    pub few : named-by m ≤ m * 2
-
-  pub counted-none : (base : ℕ) → Counted base base 0
-  counted-none base = let q = named-none in record { upto = omega arith; so-far = omega arith; few = omega arith }
-
-  pub counted-more : (base times m t : ℕ) → Counted base times m → m < nodeCount nodes
-      → t ≡ countOf (isName n) (named (kindOf (getD nodes (m * 4) 0)) (getD nodes (m * 4 + 1) 0) (getD nodes (m * 4 + 2) 0) (getD nodes (m * 4 + 3) 0))
-      → Counted base (times + t) (m + 1)
-  counted-more base times m t v l e =
-      let q = named-more m t e in
-      let r = named-le t (kindOf (getD nodes (m * 4) 0)) (getD nodes (m * 4 + 1) 0) (getD nodes (m * 4 + 2) 0) (getD nodes (m * 4 + 3) 0) e in
-      let f = v .so-far in
-      let g = v .few in
-      record { upto = omega arith; so-far = omega arith; few = omega arith }
-
-  pub counted-all : (a b base times m : ℕ) → Counted base times m → nodeCount nodes ≤ m → a ≡ as-root xs → b ≡ as-root ys → base ≡ a + b
-      → times ≡ countOf (isName n) (names nodes (xs ++ ys))
-  counted-all a b base times m v l p q r =
-      let e : m ≡ nodeCount nodes = (let u = v .upto in omega arith) in
-      let f : named-by m ≡ named-by (nodeCount nodes) = ap named-by e in
-      let g = v .so-far in
-      let h = names-count in
-      omega arith
-
-  pub as-root-le : (rs : List ℕ) (t : ℕ) → t ≡ as-root rs → t ≤ length rs
-  as-root-le rs t e = let q = count-le (λ r. isName n (plain r)) rs in omega arith
 
 -- ---- question 7, part by part
 module _ (nodes xs ys : List ℕ) where

@@ -1,14 +1,15 @@
 // Questions 7 and 8: are the nodes as laid out, and the numbers that they name in range?
 ghost use mathlib.Core.Path.{_≡_};
 ghost use mathlib.Core.Bool.{_&&_};
-ghost use mathlib.Core.List.{_++_};
-ghost use Prim.Native.Nat.{_<_, _≤_, _/_, _+_};
+ghost use mathlib.Core.List.{[], _∷_, _++_, map};
+ghost use Prim.Native.Nat.{_<_, _≤_, _/_, _+_, _*_};
 ghost use lib.Dec.{eqb, leb};
 ghost use lib.IntN.{natAbs};
 ghost use lib.ListN.{length};
 ghost use Rattle.expression.specs.Nodes.{kindOf, wordOf, signed};
-ghost use Rattle.util.specs.Lists.{allOf, countOf};
+ghost use Rattle.util.specs.Lists.{allOf, column, concat};
 ghost use Rattle.backend.specs.Layout as def;
+ghost use Rattle.layout.specs.Tally.{Room, Tally};
 
 // "an unused word is 0": has a node of this kind the words that it may have?
 fn shaped(kind: u64, first: u64, second: u64, value: u64) -> bool
@@ -70,21 +71,6 @@ fn first_item(nodes: &[u64], limit: usize, node: u64) -> bool
     }
 }
 
-// How often a node with these words names node `n`.
-fn times_named(kind: u64, first: u64, second: u64, value: u64, n: u64) -> usize
-    ensures { λ r. ⌜ r ≡ countOf (def.isName n) (def.named (kindOf kind) first second value) ⌝ }
-{
-    match kind {
-        7 => (first == n) as usize,
-        8 => (first == n) as usize + (second == n) as usize,
-        9 => (first == n) as usize + (second == n) as usize,
-        10 => (first == n) as usize,
-        11 => (first == n) as usize + (second == n) as usize,
-        12 => (first == n) as usize + ((value != 0) & (second == n)) as usize,
-        _ => 0,
-    }
-}
-
 // Is node `n` in its place: of the right shape, naming lower nodes only, Items as Items?
 fn in_place(nodes: &[u64], n: usize) -> bool
     requires { ⌜ n < def.nodeCount (now nodes) ⌝ }
@@ -139,42 +125,96 @@ fn roots_right(nodes: &[u64], roots: &[u64]) -> bool
     true
 }
 
-// How often `n` is among the roots.
-fn times_root(roots: &[u64], n: u64) -> usize
-    ensures { λ r. ⌜ r ≡ countOf (λ r. def.isName n (def.plain r)) (now (roots .entry)) ⌝ }
+// Counts one name of node `n`. A number past the 1024 places is passed over.
+fn count_name(counts: &mut [u64; 1024], n: u64)
+    requires { ⌜ Room (now counts) 1 ⌝ }
+    ensures { λ r. ⌜ Tally (now (counts .entry)) (def.plain n ∷ []) (now (counts .exit)) ⌝ }
 {
-    let mut times: usize = 0;
-    let mut i = 0;
-    while i < roots.len() {
-        times += (roots[i] == n) as usize;
-        i += 1;
+    if n < 1024 {
+        let at = n as usize;
+        counts[at] = counts[at] + 1;
     }
-    times
 }
 
-// How often node `n` is named, by nodes and as a root.
-fn times(nodes: &[u64], constraints: &[u64], pairs: &[u64], n: u64) -> usize
-    ensures { λ r. ⌜ r ≡ countOf (def.isName n) (def.names (now (nodes .entry)) (now (constraints .entry) ++ now (pairs .entry))) ⌝ }
+// Counts the nodes that a node with these words names.
+fn count_named(counts: &mut [u64; 1024], kind: u64, first: u64, second: u64, value: u64)
+    requires { ⌜ Room (now counts) 2 ⌝ }
+    ensures { λ r. ⌜ Tally (now (counts .entry)) (def.named (kindOf kind) first second value) (now (counts .exit)) ⌝ }
 {
-    let mut times = times_root(constraints, n) + times_root(pairs, n);
+    match kind {
+        7 => {
+            count_name(counts, first);
+        }
+        8 => {
+            count_name(counts, first);
+            count_name(counts, second);
+        }
+        9 => {
+            count_name(counts, first);
+            count_name(counts, second);
+        }
+        10 => {
+            count_name(counts, first);
+        }
+        11 => {
+            count_name(counts, first);
+            count_name(counts, second);
+        }
+        12 => {
+            count_name(counts, first);
+            if value != 0 {
+                count_name(counts, second);
+            }
+        }
+        _ => {}
+    }
+}
+
+// Counts the nodes that nodes name.
+fn count_nodes(counts: &mut [u64; 1024], nodes: &[u64])
+    requires { ⌜ Room (now counts) (def.nodeCount (now nodes) * 2) ⌝ }
+    ensures { λ r. ⌜ Tally (now (counts .entry)) (concat (column (def.byWords def.named (now (nodes .entry))) (def.nodeCount (now (nodes .entry))))) (now (counts .exit)) ⌝ }
+{
     let count = nodes.len() / 4;
     let mut m = 0;
     while m < count {
         let at = m * 4;
-        times += times_named(nodes[at], nodes[at + 1], nodes[at + 2], nodes[at + 3], n);
+        count_named(
+            counts,
+            nodes[at],
+            nodes[at + 1],
+            nodes[at + 2],
+            nodes[at + 3],
+        );
         m += 1;
     }
-    times
 }
 
-// Is each node named exactly once?
+// Counts the nodes that are roots.
+fn count_roots(counts: &mut [u64; 1024], roots: &[u64])
+    requires { ⌜ Room (now counts) (length (now roots)) ⌝ }
+    ensures { λ r. ⌜ Tally (now (counts .entry)) (map def.plain (now (roots .entry))) (now (counts .exit)) ⌝ }
+{
+    let mut i = 0;
+    while i < roots.len() {
+        count_name(counts, roots[i]);
+        i += 1;
+    }
+}
+
+// Is each node named exactly once, by a node or as a root? Each name is looked at once, and counted in its node's place.
 fn named_once(nodes: &[u64], constraints: &[u64], pairs: &[u64]) -> bool
+    requires { ⌜ def.nodeCount (now nodes) ≤ 1024 ⌝ }
     ensures { λ r. ⌜ r ≡ def.nodesHold (now (nodes .entry)) (def.once (now (nodes .entry)) (now (constraints .entry) ++ now (pairs .entry))) ⌝ }
 {
+    let mut counts = [0; 1024];
+    count_nodes(&mut counts, nodes);
+    count_roots(&mut counts, constraints);
+    count_roots(&mut counts, pairs);
     let count = nodes.len() / 4;
     let mut n = 0;
     while n < count {
-        if times(nodes, constraints, pairs, n as u64) != 1 {
+        if counts[n] != 1 {
             return false;
         }
         n += 1;
@@ -184,6 +224,7 @@ fn named_once(nodes: &[u64], constraints: &[u64], pairs: &[u64]) -> bool
 
 // Question 7: are the nodes as laid out? The roots are those of the constraints and of the lookup pairs.
 pub fn laid_out(nodes: &[u64], constraints: &[u64], pairs: &[u64]) -> bool
+    requires { ⌜ def.nodeCount (now nodes) ≤ 1024 ⌝ }
     ensures { λ r. ⌜ r ≡ def.laidOut (now (nodes .entry)) (now (constraints .entry) ++ now (pairs .entry)) ⌝ }
 {
     if !all_in_place(nodes) {

@@ -1,5 +1,6 @@
 -- The cells are as many as the cycles ask, and good cycles are question 11. Assumes nothing.
 use Rattle.backend.proofs.Answers.{cells-enough, eleven}
+use Rattle.trees.proofs.Few.{few-cells}
 use borrow.Author.Needs.{needs}
 use Rattle.trees.proofs.question_11.Statement.{statement}
 use Rattle.trees.proofs.question_11.Tie as tie
@@ -17,7 +18,11 @@ cells-of-requires : tie.Need-cells-of-requires
 cells-of-requires c κs = search needs
 
 cycles-good-requires : tie.Need-cycles-good-requires
-cycles-good-requires c κs = cells-enough _ _ _ (c .before .before .before .before .before .pre .0) (c .before .before .before .before .before .pre .1) (c .before .lengths-of .ensures) (c .cells-of .ensures)
+cycles-good-requires c κs =
+    let s = c .before .before .before .before .before in (
+      cells-enough _ _ _ (s .pre .0) (s .pre .1) (c .before .lengths-of .ensures) (c .cells-of .ensures),
+      few-cells _ _ (s .pre .0) (c .cells-of .ensures),
+    )
 
 returns : tie.Need-returns
 returns c = eleven _ _ _ (c .before .before .before .before .before .before .pre .0) (c .before .before .lengths-of .ensures) (c .before .cells-of .ensures) _ _ _ (c .before .before .before .before .num-poly .ensures) (c .before .before .before .rows .ensures) (c .cycles-good .ensures)

@@ -1,5 +1,6 @@
 -- The nodes laid out under the constraints and the pairs are question 7. Assumes nothing.
 use Rattle.backend.proofs.Answers.{seven}
+use Rattle.trees.proofs.Few.{few-nodes}
 use borrow.Author.Needs.{needs}
 use Rattle.trees.proofs.question_7.Statement.{statement}
 use Rattle.trees.proofs.question_7.Tie as tie
@@ -14,7 +15,7 @@ pairs-of-requires : tie.Need-pairs-of-requires
 pairs-of-requires c κs = search needs
 
 laid-out-requires : tie.Need-laid-out-requires
-laid-out-requires c κs = search needs
+laid-out-requires c κs = few-nodes _ _ (c .before .before .before .before .pre) (c .before .before .nodes-of .ensures)
 
 returns : tie.Need-returns
 returns c = seven _ _ _ _ (c .before .before .before .nodes-of .ensures) (c .before .before .constraints-of .ensures) (c .before .pairs-of .ensures) _ (c .laid-out .ensures)
