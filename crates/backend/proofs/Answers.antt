@@ -79,12 +79,10 @@ pub seven : (ws n c p : List ℕ) → n ≡ bodyOf ws Section.nodes → c ≡ bo
 unfolding q7 circuitOf
 seven ws n c p a b d r e = e ∙ ap₂ laidOut a (ap₂ _++_ b d)
 
-pub eight : (ws n : List ℕ) → n ≡ bodyOf ws Section.nodes → (polys user : ℕ) (r : Bool) → polys ≡ numPoly (circuitOf ws) → user ≡ numUser (circuitOf ws)
-    → r ≡ nodesInRange polys user (getD ws 0 0) n → r ≡ q8 (circuitOf ws)
+pub eight : (ws n : List ℕ) → n ≡ bodyOf ws Section.nodes → (polys user k : ℕ) (r : Bool) → polys ≡ numPoly (circuitOf ws) → user ≡ numUser (circuitOf ws)
+    → k ≡ wordK ws → r ≡ nodesInRange polys user k n → r ≡ q8 (circuitOf ws)
 unfolding q8 circuitOf
-eight ws n a polys user r p u e =
-    e ∙ ap₂ (λ (polys : ℕ) (user : ℕ). nodesInRange polys user (getD ws 0 0) n) p u
-    ∙ ap (nodesInRange (numPoly (circuitOf ws)) (numUser (circuitOf ws)) (getD ws 0 0)) a
+eight ws n a polys user k r p u h e = rw (sym p, sym u, sym a, sym h) e
 
 cell-count : (ws : List ℕ) → Laid ws → length (bodyOf ws Section.cells) / 2 ≡ entries ws Section.cells
 cell-count ws a = ap (λ (n : ℕ). n / 2) (body-length ws a Section.cells) ∙ mul-div-cancel (entries ws Section.cells) (omega arith)

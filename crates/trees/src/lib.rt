@@ -7,6 +7,7 @@ use layout::laid_out;
 use layout::nodes_in_range;
 use reader::cells_of;
 use reader::constraints_of;
+use reader::k_of;
 use reader::lengths_of;
 use reader::nodes_of;
 use reader::pairs_of;
@@ -33,7 +34,7 @@ pub fn question_8(circuit: &[u64]) -> bool
 {
     let polys = num_poly(circuit);
     let user = num_user(circuit);
-    let k = circuit[0];
+    let k = k_of(circuit);
     nodes_in_range(nodes_of(circuit), polys, user, k)
 }
 

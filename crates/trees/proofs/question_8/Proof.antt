@@ -10,8 +10,8 @@ num-poly-requires c κs = search needs
 num-user-requires : tie.Need-num-user-requires
 num-user-requires c κs = search needs
 
-shared-slice-read-k : tie.Need-shared-slice-read-k
-shared-slice-read-k c = search needs
+k-of-requires : tie.Need-k-of-requires
+k-of-requires c κs = search needs
 
 nodes-of-requires : tie.Need-nodes-of-requires
 nodes-of-requires c κs = search needs
@@ -20,7 +20,7 @@ nodes-in-range-requires : tie.Need-nodes-in-range-requires
 nodes-in-range-requires c κs = search needs
 
 returns : tie.Need-returns
-returns c = eight _ _ (c .before .nodes-of .ensures) _ _ _ (c .before .before .before .before .num-poly .ensures) (c .before .before .before .num-user .ensures) (c .nodes-in-range .ensures)
+returns c = eight _ _ (c .before .nodes-of .ensures) _ _ _ _ (c .before .before .before .before .num-poly .ensures) (c .before .before .before .num-user .ensures) (c .before .before .k-of .ensures) (c .nodes-in-range .ensures)
 
 pub question-8-spec : {M : Type 1} → statement M
 question-8-spec =
@@ -28,7 +28,7 @@ question-8-spec =
     (tie.spec
     num-poly-requires
     num-user-requires
-    shared-slice-read-k
+    k-of-requires
     nodes-of-requires
     nodes-in-range-requires
     returns)
