@@ -60,12 +60,11 @@ module _ (ws : List ℕ) (a : Accepted ws) where
       let t = known.cells-total ws a in
       omega arith)
 
-  pub copied-from : (p : Part) → Placed ws 8 p → (polys : ℕ) → polys ≡ numPoly (circuitOf ws) → (xs : List ℕ)
-      → xs ≡ copiedIn polys (cellsOf (take (p .end - p .start) (drop (p .start) ws)))
-      → xs ≡ copied (circuitOf ws)
+  pub copied-from : (p : Part) → Placed ws 8 p → (polys : ℕ) → polys ≡ numPoly (circuitOf ws)
+      → copiedIn polys (cellsOf (take (p .end - p .start) (drop (p .start) ws))) ≡ copied (circuitOf ws)
   unfolding copied
-  copied-from p q polys e xs h =
-      h ∙ ap₂ (λ (n : ℕ) (body : List ℕ). copiedIn n (cellsOf body)) e (body-part ws 8 p q)
+  copied-from p q polys e =
+      ap₂ (λ (n : ℕ) (body : List ℕ). copiedIn n (cellsOf body)) e (body-part ws 8 p q)
       ∙ ap (copiedIn (numPoly (circuitOf ws))) (sym cells-all)
 
   -- ---- D
