@@ -87,7 +87,7 @@ returns-5 c =
     let at = room .before in
     let n = two at .before .rows-of .ensures in
     let a = start (one (two at)) .args in
-    uncovered (a .input .now) (a .table .now) (a .m .now) _ _ n _ (column .ensures .1) (says-no _ _ (column .ensures .0) (c .if5 .taken))
+    uncovered (a .input .now) (a .table .now) (a .m .now) _ _ n _ (column .ensures .0 .1) (says-no _ _ (column .ensures .0 .0) (c .if5 .taken))
     ∙ all-yes _ _ _ _ _ (good (one (two at))) (exact (two at)) (all-small at) (omega (arith, n, room .if4 .left))
 
 same-length-2 : tie.Need-same-length-2
@@ -101,7 +101,7 @@ returns-6 c =
     let at = room .before in
     let n = two at .before .rows-of .ensures in
     let a = start (one (two at)) .args in
-    counted (a .input .now) (a .table .now) (a .m .now) _ _ n _ (column .ensures .1) (says-yes _ _ (column .ensures .0) (c .if5 .left))
+    counted (a .input .now) (a .table .now) (a .m .now) _ _ n _ (column .ensures .0 .1) (says-yes _ _ (column .ensures .0 .0) (c .if5 .left))
     ∙ all-yes _ _ _ _ _ (good (one (two at))) (exact (two at)) (all-small at) (omega (arith, n, room .if4 .left))
 
 pub lookup-m-poly-spec : {M : Type 1} → statement M
