@@ -7,14 +7,13 @@ use contents::ROUNDS;
 use contents::WIDTHS;
 use contents::section;
 use words::all_below;
+use words::all_elements;
 use words::all_positive;
+use words::is_element;
 ghost use mathlib.Core.Path.{_≡_};
 ghost use Rattle.backend.specs.Circuit.{circuitOf};
 ghost use Rattle.backend.specs.Questions.{roundsGood, valuesSmall, q5, q6, q9};
 ghost use Rattle.backend.specs.Laid.{Laid, Counted};
-
-// p
-const MODULUS: u64 = 18446744069414584321;
 
 // "Has every round a witness column, every round but the last a challenge"
 fn rounds_good(circuit: &[u64]) -> bool
@@ -53,7 +52,7 @@ fn values_small(nodes: &[u64]) -> bool
         let kind = nodes[i * 4];
         let value = nodes[i * 4 + 3];
         let held = (kind == 1) | (kind == 10);
-        let bad = held & (MODULUS <= value);
+        let bad = held & !is_element(value);
         if bad {
             return false;
         }
@@ -70,7 +69,7 @@ pub fn question_6(circuit: &[u64]) -> bool
     let preprocess = section(circuit, PREPROCESS);
     let start = preprocess.start;
     let end = preprocess.end;
-    let given = all_below(&circuit[start..end], MODULUS);
+    let given = all_elements(&circuit[start..end]);
     let nodes = section(circuit, NODES);
     let first = nodes.start;
     let last = nodes.end;

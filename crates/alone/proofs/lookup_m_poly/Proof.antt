@@ -33,7 +33,7 @@ exact c =
 
 all-small : (c : tie.Else3) → allOf small (start (one (two c)) .args .input .now ++ start (one (two c)) .args .table .now) ≡ true
 all-small c =
-    says-yes _ _ (two-small _ _ _ _ (c .before .before .all-below .ensures) (c .before .all-below2 .ensures)) (c .if3 .left)
+    says-yes _ _ (two-small _ _ _ _ (c .before .before .all-elements .ensures .0) (c .before .all-elements2 .ensures .0)) (c .if3 .left)
 
 good-k-requires : tie.Need-good-k-requires
 good-k-requires c κs = search needs
@@ -52,17 +52,17 @@ returns-2 c =
     no-12 _ _ _ _ _ (good (c .before .before))
     (says-no _ _ (two-exact _ _ (a .input .now) (a .table .now) (c .before .rows-of .ensures)) (c .if2 .taken))
 
-all-below-requires : tie.Need-all-below-requires
-all-below-requires c κs = search needs
+all-elements-requires : tie.Need-all-elements-requires
+all-elements-requires c κs = search needs
 
-all-below-requires-2 : tie.Need-all-below-requires-2
-all-below-requires-2 c κs = search needs
+all-elements-requires-2 : tie.Need-all-elements-requires-2
+all-elements-requires-2 c κs = search needs
 
 returns-3 : tie.Need-returns-3
 unfolding mOf
 returns-3 c =
     no-13 _ _ _ _ _ (good (one (c .before .before .before))) (exact (c .before .before .before))
-    (says-no _ _ (two-small _ _ _ _ (c .before .before .all-below .ensures) (c .before .all-below2 .ensures)) (c .if3 .taken))
+    (says-no _ _ (two-small _ _ _ _ (c .before .before .all-elements .ensures .0) (c .before .all-elements2 .ensures .0)) (c .if3 .taken))
 
 returns-4 : tie.Need-returns-4
 unfolding mOf
@@ -112,8 +112,8 @@ lookup-m-poly-spec =
     returns
     rows-of-requires
     returns-2
-    all-below-requires
-    all-below-requires-2
+    all-elements-requires
+    all-elements-requires-2
     returns-3
     returns-4
     m-column-requires

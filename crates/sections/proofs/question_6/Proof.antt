@@ -6,31 +6,31 @@ use Rattle.sections.proofs.question_6.Reads as reads
 use Rattle.sections.proofs.question_6.Lts as lts
 use Rattle.sections.proofs.values_small.Reads as values-small-reads
 use Rattle.contents.proofs.section.Reads as section-reads
-use Rattle.words.proofs.all_below.Reads as all-below-reads
+use Rattle.words.proofs.all_elements.Reads as all-elements-reads
 
 -- src/lib.rt:169:9
 section-requires : tie.Need-section-requires
 section-requires c κs = search needs
 
 -- src/lib.rt:172:27
-mul-all-below : tie.Need-mul-all-below
-mul-all-below c = search needs
+mul-all-elements : tie.Need-mul-all-elements
+mul-all-elements c = search needs
 
 -- src/lib.rt:172:27
-sub-all-below : tie.Need-sub-all-below
-sub-all-below c = search needs
+sub-all-elements : tie.Need-sub-all-elements
+sub-all-elements c = search needs
 
 -- src/lib.rt:172:27
-part-all-below-start : tie.Need-part-all-below-start
-part-all-below-start c = search needs
+part-all-elements-start : tie.Need-part-all-elements-start
+part-all-elements-start c = search needs
 
 -- src/lib.rt:172:27
-part-all-below-end : tie.Need-part-all-below-end
-part-all-below-end c = search needs
+part-all-elements-end : tie.Need-part-all-elements-end
+part-all-elements-end c = search needs
 
 -- src/lib.rt:172:9
-all-below-requires : tie.Need-all-below-requires
-all-below-requires c κs = search needs
+all-elements-requires : tie.Need-all-elements-requires
+all-elements-requires c κs = search needs
 
 -- src/lib.rt:173:9
 section-requires-2 : tie.Need-section-requires-2
@@ -58,18 +58,18 @@ values-small-requires c κs = search needs
 
 -- src/lib.rt:165:1
 returns : tie.Need-returns
-returns c = six (c .before .before .before .before .before .before .before .args .circuit .now) (c .before .before .before .before .before .section .result) (c .before .before .section2 .result) (c .before .before .before .before .before .before .before .pre) (c .before .before .before .before .before .section .ensures) (c .before .before .section2 .ensures) _ _ (c .before .before .before .all-below .ensures) (c .values-small .ensures)
+returns c = six (c .before .before .before .before .before .before .before .args .circuit .now) (c .before .before .before .before .before .section .result) (c .before .before .section2 .result) (c .before .before .before .before .before .before .before .pre) (c .before .before .before .before .before .section .ensures) (c .before .before .section2 .ensures) _ _ (c .before .before .before .all-elements .ensures .0) (c .values-small .ensures)
 
 pub question-6-spec : {M : Type 1} → statement M
 question-6-spec =
     tie.close
     (tie.spec
     section-requires
-    mul-all-below
-    sub-all-below
-    part-all-below-start
-    part-all-below-end
-    all-below-requires
+    mul-all-elements
+    sub-all-elements
+    part-all-elements-start
+    part-all-elements-end
+    all-elements-requires
     section-requires-2
     mul-values-small
     sub-values-small
