@@ -17,7 +17,7 @@ use Rattle.util.proofs.Parts.{total-next, total-within, get-split}
 use Rattle.util.proofs.Searches.{column-part}
 use Rattle.util.proofs.Places.{get-index}
 use Rattle.backend.specs.Circuit.{Cell, cellAt, cellsOf}
-use Rattle.preprocessor.specs.Permutation.{source, before, firstLabelIn, labelColumns, permutationColumns, Placed, Once, Apart, Walkable, Starts, cellWord, Moved}
+use Rattle.preprocessor.specs.Permutation.{source, before, firstLabelIn, labelColumns, permutationColumns, Placed, Once, Apart, Walkable, Starts, cellWord, CycleIn, Moved}
 use Rattle.preprocessor.proofs.Cycles.{source-end}
 use Rattle.preprocessor.proofs.Labels.{labels-same, labels-length, placed-lt, first-labels, run-length, exchanged, exchanged-next, exchanged-none, walked}
 
@@ -296,10 +296,24 @@ module _ (rows : ℕ) (ps lengths cells : List ℕ) (at : ℕ) (walk : Walkable 
           let q = w .long in
           (subst (λ (n : ℕ). n < 72) e few, omega arith)
 
-      pub turn-asks : (0 < length part / 2) × All (λ (x : Cell). (x .polynomial < 72) × (cellWord starts x < length columns)) (cellsOf part)
+      pub turn-asks : (0 < length part / 2)
+          × (All (λ (x : Cell). (x .polynomial < 72) × (cellWord starts x < length columns)) (cellsOf part)
+          × CycleIn starts (cellsOf part) (length columns))
       turn-asks = (
         (let s = here (λ cycle. 0 < length cycle) (walk .some) in let e = column-length (cellAt part) (length part / 2) in omega arith),
-        all-weaken (Placed ps rows) (λ (x : Cell). (x .polynomial < 72) × (cellWord starts x < length columns)) cell-in (cellsOf part) (here (All (Placed ps rows)) (walk .placed)),
+        (
+          all-weaken (Placed ps rows) (λ (x : Cell). (x .polynomial < 72) × (cellWord starts x < length columns)) cell-in (cellsOf part) (here (All (Placed ps rows)) (walk .placed)),
+          record {
+            list = ps;
+            rows = rows;
+            at = at;
+            once = walk .once;
+            placed = here (All (Placed ps rows)) (walk .placed);
+            apart = here Apart (walk .apart);
+            begun = begin;
+            room = (let q = w .long in omega arith);
+          },
+        ),
       )
 
       pub turn-next : (after : List ℕ) → Moved starts (cellsOf part) columns after → Turning rows ps lengths cells d at after (start + getD lengths i 0 * 2) (i + 1)
