@@ -88,7 +88,8 @@ same-length c = search needs
 
 returns : tie.Need-returns Inv-loop μ-loop
 returns c =
-    walking-end _ _ _ _ _ _ _ (c .before .before .before .before .before .before .before .before .pre .0) (c .before .before .cell-label .ensures) (c .before .loop .inv) (c .loop-test .left)
+    let s = c .before .before .before .before .before .before .before .before in
+    walking-end _ _ _ _ _ _ _ (s .pre .0) (s .pre .1 .1) (s .pre .1 .0) (c .before .before .cell-label .ensures) (c .before .loop .inv) (c .loop-test .left)
 
 pub walk-cycle-spec : {M : Type 1} → statement M
 walk-cycle-spec =
