@@ -87,14 +87,15 @@ three-exact k rows xs ys zs n =
 pub two-small : (xs ys : List ℕ) (a b : Bool) → a ≡ allOf small xs → b ≡ allOf small ys → (a && b) ≡ allOf small (xs ++ ys)
 two-small xs ys a b p q = ap₂ _&&_ p q ∙ sym (all-append small xs ys)
 
-pub three-small : (xs ys zs : List ℕ) (w : ℕ) (a b c : Bool) → a ≡ allOf small xs → b ≡ allOf small ys → c ≡ allOf small zs
-    → (((a && b) && c) && small w) ≡ allOf small (xs ++ (ys ++ (zs ++ (w ∷ []))))
+pub three-small : (xs ys zs : List ℕ) (w : ℕ) (a b c d : Bool) → a ≡ allOf small xs → b ≡ allOf small ys → c ≡ allOf small zs
+    → d ≡ small w
+    → (((a && b) && c) && d) ≡ allOf small (xs ++ (ys ++ (zs ++ (w ∷ []))))
 unfolding allOf
-three-small xs ys zs w a b c p q r =
-    and-assoc (a && b) c (small w)
-    ∙ and-assoc a b (c && small w)
-    ∙ two-small xs (ys ++ (zs ++ (w ∷ []))) a (b && (c && small w)) p
-    (two-small ys (zs ++ (w ∷ [])) b (c && small w) q (two-small zs (w ∷ []) c (small w) r (and-true (small w))))
+three-small xs ys zs w a b c d p q r s =
+    and-assoc (a && b) c d
+    ∙ and-assoc a b (c && d)
+    ∙ two-small xs (ys ++ (zs ++ (w ∷ []))) a (b && (c && d)) p
+    (two-small ys (zs ++ (w ∷ [])) b (c && d) q (two-small zs (w ∷ []) c d r (s ∙ and-true (small w))))
 
 -- what the lengths and the words of columns tell
 module _ (k rows : ℕ) (n : rows ≡ 2 ^ k) where

@@ -3,12 +3,11 @@ use blank_column::rows_of;
 use goldilocks::Goldilocks;
 use lookup_h::h_column;
 use lookup_m::m_column;
-use words::all_below;
+use words::all_elements;
+use words::is_element;
 ghost use mathlib.Core.Path.{_≡_};
 ghost use Rattle.backend.specs.Questions.{goodK};
 ghost use Rattle.calls.specs.Stages.{mOf, hOf, eqOf};
-
-const MODULUS: u64 = 18446744069414584321;
 
 // "Is k from 1 to 10?"
 fn good_k(k: u64) -> bool
@@ -29,7 +28,7 @@ pub fn lookup_m_poly(k: u64, input: &[u64], table: &[u64], m: &mut [u64]) -> u64
     if !exact {
         return 12;
     }
-    let small = all_below(input, MODULUS) & all_below(table, MODULUS);
+    let small = all_elements(input) & all_elements(table);
     if !small {
         return 13;
     }
@@ -61,8 +60,8 @@ pub fn lookup_h_poly(
     if !exact {
         return 12;
     }
-    let columns = all_below(input, MODULUS) & all_below(table, MODULUS) & all_below(m, MODULUS);
-    let small = columns & (gamma < MODULUS);
+    let columns = all_elements(input) & all_elements(table) & all_elements(m);
+    let small = columns & is_element(gamma);
     if !small {
         return 13;
     }
@@ -84,7 +83,7 @@ pub fn eq_xy(k: u64, y: &[u64], out: &mut [u64]) -> u64
     if y.len() != size {
         return 12;
     }
-    if !all_below(y, MODULUS) {
+    if !all_elements(y) {
         return 13;
     }
     if out.len() < rows_of(size) {

@@ -9,7 +9,7 @@ use lib.ListN.{length, getD, take, drop, length-map, length-drop}
 use lib.Seq.{take-all, length-take-le}
 use lib.Dec.{eqb, leb, ltb, leb·suc-suc}
 use lib.Pow.{pow-pos, shl-exact}
-use borrow.Author.Tests.{lt-ltb, le-ltb, lt-leb, leb-true, leb-false, eqb-true, ne-eqb}
+use borrow.Author.Tests.{not-true, not-false, lt-leb, leb-true, eqb-true, ne-eqb}
 use Rattle.field.specs.Prime.{P}
 use Rattle.util.specs.Lists.{column, allOf, total, split}
 use Rattle.util.proofs.Tests.{false-true, and-left, and-right, all-true}
@@ -176,27 +176,25 @@ five ws words is rows good short a b e =
 -- ---- 6
 
 -- a value too large, where it is a Constant's or a scalar
-too-large : (a b : Bool) (v : ℕ) → ((a || b) && leb P v) ≡ true → (not (a || b) || ltb v P) ≡ false
-too-large true b v e = le-ltb v P (leb-true P v e)
-too-large false true v e = le-ltb v P (leb-true P v e)
-too-large false false v e = false-true e
+too-large : (a b r s : Bool) → r ≡ s → ((a || b) && not r) ≡ true → (not (a || b) || s) ≡ false
+too-large true b r s q e = sym q ∙ not-true r e
+too-large false true r s q e = sym q ∙ not-true r e
+too-large false false r s q e = false-true e
 
-small-or-none : (a b : Bool) (v : ℕ) → ((a || b) && leb P v) ≡ false → (not (a || b) || ltb v P) ≡ true
-small-or-none true b v e = lt-ltb v P (leb-false P v e)
-small-or-none false true v e = lt-ltb v P (leb-false P v e)
-small-or-none false false v e = refl
+small-or-none : (a b r s : Bool) → r ≡ s → ((a || b) && not r) ≡ false → (not (a || b) || s) ≡ true
+small-or-none true b r s q e = sym q ∙ not-false r e
+small-or-none false true r s q e = sym q ∙ not-false r e
+small-or-none false false r s q e = refl
 
-module _ (nodes : List ℕ) (i : ℕ) where
+module _ (nodes : List ℕ) (i : ℕ) (r : Bool) (q : r ≡ ltb (getD nodes (i * 4 + 3) 0) P) where
   kind-of : getD nodes (i * 4) 0 ≡ wordOf nodes i 0
   kind-of = ap (λ (n : ℕ). getD nodes n 0) (sym (add-zero (i * 4)))
 
-  pub value-large : ((eqb (getD nodes (i * 4) 0) 1 || eqb (getD nodes (i * 4) 0) 10) && leb P (getD nodes (i * 4 + 3) 0)) ≡ true
-      → smallValue nodes i ≡ false
-  value-large e = too-large (kindIs nodes 1 i) (kindIs nodes 10 i) (wordOf nodes i 3) (rw kind-of at e)
+  pub value-large : ((eqb (getD nodes (i * 4) 0) 1 || eqb (getD nodes (i * 4) 0) 10) && not r) ≡ true → smallValue nodes i ≡ false
+  value-large e = too-large (kindIs nodes 1 i) (kindIs nodes 10 i) r (small (wordOf nodes i 3)) q (rw kind-of at e)
 
-  pub value-small : ((eqb (getD nodes (i * 4) 0) 1 || eqb (getD nodes (i * 4) 0) 10) && leb P (getD nodes (i * 4 + 3) 0)) ≡ false
-      → smallValue nodes i ≡ true
-  value-small e = small-or-none (kindIs nodes 1 i) (kindIs nodes 10 i) (wordOf nodes i 3) (rw kind-of at e)
+  pub value-small : ((eqb (getD nodes (i * 4) 0) 1 || eqb (getD nodes (i * 4) 0) 10) && not r) ≡ false → smallValue nodes i ≡ true
+  value-small e = small-or-none (kindIs nodes 1 i) (kindIs nodes 10 i) r (small (wordOf nodes i 3)) q (rw kind-of at e)
 
 pub six : (ws : List ℕ) → Laid ws → (preprocess nodes : List ℕ) → preprocess ≡ bodyOf ws Section.preprocess → nodes ≡ bodyOf ws Section.nodes
     → (given values : Bool) → given ≡ allOf small preprocess → values ≡ valuesSmall nodes → (given && values) ≡ q6 (circuitOf ws)

@@ -1,14 +1,14 @@
 -- The copied columns, gathered: which polynomials the first cells name, and those among the first polynomials. Assumes nothing.
-use mathlib.Core.Path.{_≡_, refl, sym, ap, _∙_}
+use mathlib.Core.Path.{_≡_, refl, sym, ap, ap₂, _∙_}
 use mathlib.Core.Bool.{Bool, true, false, cond, _||_, or-false}
 use mathlib.Core.List.{List, [], _∷_, _++_, append-nil}
-use Prim.Native.Nat.{ℕ, zero, suc, _+_, _≤_, _<_, _/_, _*_}
+use Prim.Native.Nat.{ℕ, zero, suc, _+_, _-_, _≤_, _<_, _/_, _*_}
 use native.Mathlib.Omega.{arith}
 use native.Mathlib.Numerals.{add-one}
 use native.Mathlib.Decide.{ℕ-discrete}
 use lib.Dec.{eqb}
-use lib.ListN.{length, getD, take, set, replicate, length-set, length-replicate}
-use lib.Seq.{getD-set-same, getD-set-other, take-suc-set}
+use lib.ListN.{length, getD, take, drop, set, replicate, length-set, length-replicate, take-append-drop}
+use lib.Seq.{length-take-le, getD-set-same, getD-set-other, drop-set-lt, take-suc-set, drop-drop}
 use borrow.Author.Tests.{eq-eqb, ne-eqb}
 use Rattle.util.specs.Lists.{column, below, anyOf, those}
 use Rattle.util.proofs.Tests.{those-append}
@@ -28,6 +28,7 @@ pub record Gathered (cells : List ℕ) (polys : ℕ) (of : List ℕ) (count q : 
   pub few : count ≤ q
   pub many : length of ≡ 72
   pub found : take count of ≡ those (cellsName (cellsOf cells)) (below q)
+  pub rest : drop count of ≡ replicate (72 - count) 0
 
 or-true : (t : Bool) → (t || true) ≡ true
 or-true true = refl
@@ -106,9 +107,10 @@ module _ (cells : List ℕ) where
       one : those is-named (q ∷ []) ≡ cond (is-named q) (q ∷ []) []
       one = those-one is-named q
 
-  pub gathered-none : (polys : ℕ) (of : List ℕ) → length of ≡ 72 → Gathered cells polys of 0 0
+  pub gathered-none : (polys : ℕ) (of : List ℕ) → of ≡ replicate 72 0 → Gathered cells polys of 0 0
   unfolding column those
-  gathered-none polys of e = record { upto = omega arith; few = omega arith; many = e; found = refl }
+  gathered-none polys of e =
+      record { upto = omega arith; few = omega arith; many = ap length e ∙ length-replicate {A = ℕ} 72 0; found = refl; rest = e }
 
   pub gathered-more : (polys : ℕ) (of : List ℕ) (count q : ℕ) → Gathered cells polys of count q → q < polys → polys ≤ 72 → is-named q ≡ true
       → Gathered cells polys (set of count q) (count + 1) (q + 1)
@@ -122,6 +124,11 @@ module _ (cells : List ℕ) where
             ∙ take-suc-set of count q (let u = v .few in let w = v .many in omega arith)
             ∙ ap (λ (xs : List ℕ). xs ++ (q ∷ [])) (v .found)
             ∙ sym (those-next q ∙ ap (λ (t : Bool). those is-named (below q) ++ cond t (q ∷ []) []) e);
+        rest =
+            drop-set-lt (count + 1) of count q (omega arith) ∙ sym (drop-drop 1 count of)
+            ∙ ap (drop 1)
+            (v .rest
+            ∙ ap (λ (n : ℕ). replicate n 0) (let u = v .few in let w : 72 - count ≡ suc (72 - (count + 1)) = omega arith in w));
       }
 
   pub gathered-same : (polys : ℕ) (of : List ℕ) (count q : ℕ) → Gathered cells polys of count q → q < polys → is-named q ≡ false
@@ -134,12 +141,24 @@ module _ (cells : List ℕ) where
         found =
             v .found
             ∙ sym (those-next q ∙ ap (λ (t : Bool). those is-named (below q) ++ cond t (q ∷ []) []) e ∙ append-nil (those is-named (below q)));
+        rest = v .rest;
       }
 
   pub gathered-all : (polys : ℕ) (of : List ℕ) (count q : ℕ) → Gathered cells polys of count q → polys ≤ q → polys ≤ 72
-      → (count ≤ 72) × (take count of ≡ copiedIn polys (cellsOf cells))
+      → (count ≤ 72)
+      × (take count of ≡ copiedIn polys (cellsOf cells))
+      × (count ≡ length (copiedIn polys (cellsOf cells)))
+      × (of ≡ copiedIn polys (cellsOf cells) ++ replicate (72 - count) 0)
   unfolding copiedIn
   gathered-all polys of count q v m l =
       let u = v .upto in
       let w = v .few in
-      (omega arith, v .found ∙ ap (λ (n : ℕ). those is-named (below n)) (let e : q ≡ polys = omega arith in e))
+      let d = v .many in
+      let f : take count of ≡ those is-named (below polys) =
+      v .found ∙ ap (λ (n : ℕ). those is-named (below n)) (let e : q ≡ polys = omega arith in e)
+      in (
+        omega arith,
+        f,
+        sym (length-take-le count of (omega arith)) ∙ ap length f,
+        sym (take-append-drop count of) ∙ ap₂ _++_ f (v .rest),
+      )

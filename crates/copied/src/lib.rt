@@ -1,14 +1,15 @@
 // The copied columns: "the polynomials that cells name, each once, by rising number".
 ghost use mathlib.Core.Path.{_≡_};
-ghost use Prim.Native.Nat.{_≤_};
-ghost use lib.ListN.{length, take};
+ghost use mathlib.Core.List.{_++_};
+ghost use Prim.Native.Nat.{_-_, _≤_};
+ghost use lib.ListN.{length, take, replicate};
 ghost use Rattle.util.specs.Lists.{indexOf};
 ghost use Rattle.backend.specs.Circuit.{cellsOf, cellsName, copiedIn};
 
 // Eight instance, 32 preprocess and 32 witness columns at most.
 pub const MAX_POLYS: usize = 72;
 
-// The first `count` of `of`.
+// The first `count` of `of`; zeros follow them.
 pub struct Copied {
     pub count: usize,
     pub of: [u64; 72],
@@ -29,10 +30,10 @@ pub fn is_copied(cells: &[u64], q: u64) -> bool
     false
 }
 
-// The copied columns among the first `polys` polynomials.
+// The copied columns among the first `polys` polynomials, and zeros after them.
 pub fn copied_columns(cells: &[u64], polys: usize) -> Copied
     requires { ⌜ polys ≤ 72 ⌝ }
-    ensures { λ r. ⌜ (r .count ≤ 72) × (take (r .count) (r .of) ≡ copiedIn polys (cellsOf (now (cells .entry)))) ⌝ }
+    ensures { λ r. ⌜ (r .count ≤ 72) × (take (r .count) (r .of) ≡ copiedIn polys (cellsOf (now (cells .entry)))) × (r .count ≡ length (copiedIn polys (cellsOf (now (cells .entry))))) × (r .of ≡ copiedIn polys (cellsOf (now (cells .entry))) ++ replicate (72 - r .count) 0) ⌝ }
 {
     let mut named = [false; 72];
     let cell_count = cells.len() / 2;

@@ -5,7 +5,7 @@ use Prim.Native.Nat.{ℕ, zero, suc, _+_, _-_, _*_, _/_, _%_, _^_, _≤_, _<_}
 use native.Mathlib.Nat.{mod-add-div', mod-lt, mod-eq-of-lt, zero-mul, suc-mul, add-mul, add-mul-mod-self-right, div-lt-iff-lt-mul}
 use native.Mathlib.Decide.{decLt}
 use native.Mathlib.Omega.{arith}
-use lib.Dec.{T, eqb, ltb, lit<}
+use lib.Dec.{T, eqb, ltb, lit<, lit≤}
 use lib.IntN.{ℤ, pos, negsuc, negℤ, natAbs, _+ℤ_, _-ℤ_}
 use lib.Pow.{pow-pos, pow-lt, pow-add}
 use lib.Signed.{nonNeg}
@@ -211,21 +211,52 @@ module _ (k : ℕ) (h : 0 < k) (l : k < 21) where
   rotated-back zero b = iter-zero (nextRow k) b ∙ sym (iter-zero (prevRow k) b)
   rotated-back (suc n) b = refl
 
-  pub keeps-on : (w d : ℕ) (z : ℤ) → 2147483648 ≤ w → d ≡ (w - 2147483648) % (2 ^ k - 1) → z ≡ pos d → (b : ℕ) → b < 2 ^ k
+  -- a distance that has the same remainder as a word's leads to the row that the word's number leads to
+  pub keeps-on : (w d : ℕ) (z : ℤ) → 2147483648 ≤ w → d % (2 ^ k - 1) ≡ (w - 2147483648) % (2 ^ k - 1) → z ≡ pos d → (b : ℕ) → b < 2 ^ k
       → rotated k b z ≡ rotated k b (signed w)
   keeps-on w d z g e f b m =
-      ap (rotated k b) (f ∙ ap pos e) ∙ rotated-on ((w - 2147483648) % (2 ^ k - 1)) b ∙ on-round (w - 2147483648) b m
+      ap (rotated k b) f ∙ rotated-on d b ∙ sym (on-round d b m) ∙ ap (λ (x : ℕ). iter (nextRow k) x b) e
+      ∙ on-round (w - 2147483648) b m
       ∙ sym (rotated-on (w - 2147483648) b)
       ∙ ap (rotated k b) (sym (signed-on w g))
 
-  pub keeps-back : (w d : ℕ) (z : ℤ) → w < 2147483648 → d ≡ (2147483648 - w) % (2 ^ k - 1) → z ≡ negℤ (pos d) → (b : ℕ)
+  pub keeps-back : (w d : ℕ) (z : ℤ) → w < 2147483648 → d % (2 ^ k - 1) ≡ (2147483648 - w) % (2 ^ k - 1) → z ≡ negℤ (pos d) → (b : ℕ)
       → b < 2 ^ k
       → rotated k b z ≡ rotated k b (signed w)
   keeps-back w d z g e f b m =
-      ap (rotated k b) (f ∙ ap (λ (x : ℕ). negℤ (pos x)) e) ∙ rotated-back ((2147483648 - w) % (2 ^ k - 1)) b
+      ap (rotated k b) f ∙ rotated-back d b ∙ sym (back-round d b m) ∙ ap (λ (x : ℕ). iter (prevRow k) x b) e
       ∙ back-round (2147483648 - w) b m
       ∙ sym (rotated-back (2147483648 - w) b)
       ∙ ap (rotated k b) (sym (signed-back w g))
+
+  -- a number from −k to k is at most once round the order
+  once-round : (n : ℕ) → suc n ≤ 2 ^ n
+  once-round zero = lit≤ tt
+  once-round (suc n) =
+      let e = once-round n in
+      let f = pow-lt {i = n} {j = suc n} (omega arith) in
+      omega arith
+
+  abs-back : (n : ℕ) → natAbs (negℤ (pos n)) ≡ n
+  abs-back zero = refl
+  abs-back (suc n) = refl
+
+  pub number-on : (w d : ℕ) (z : ℤ) → 2147483648 ≤ w → (w - 2147483648 ≤ 2 ^ k - 1 → d ≡ w - 2147483648) → z ≡ pos d
+      → natAbs (signed w) ≤ k
+      → z ≡ signed w
+  number-on w d z g e f m =
+      let n = subst (λ (y : ℤ). natAbs y ≤ k) (signed-on w g) m in
+      let o = once-round k in
+      f ∙ ap pos (e (omega arith)) ∙ sym (signed-on w g)
+
+  pub number-back : (w d : ℕ) (z : ℤ) → w < 2147483648 → (2147483648 - w ≤ 2 ^ k - 1 → d ≡ 2147483648 - w) → z ≡ negℤ (pos d)
+      → natAbs (signed w) ≤ k
+      → z ≡ signed w
+  number-back w d z g e f m =
+      let n = subst (λ (y : ℤ). natAbs y ≤ k) (signed-back w g) m in
+      let a = abs-back (2147483648 - w) in
+      let o = once-round k in
+      f ∙ ap (λ (x : ℕ). negℤ (pos x)) (e (omega arith)) ∙ sym (signed-back w g)
 
 -- ---- Lagrange, by the place
 

@@ -1,6 +1,5 @@
 // Where the first offending word of refused circuit words stands.
 use crate::bounds::Bounds;
-use crate::bounds::MODULUS;
 use crate::bounds::NONE;
 use crate::bounds::after;
 use crate::bounds::at_most_all;
@@ -16,6 +15,7 @@ use crate::nodes::name_why;
 use crate::nodes::range_fault;
 use crate::nodes::value_fault;
 use contents::word;
+use words::is_element;
 
 // What is looked for in the entries of a section.
 const COUNT_LIMIT: u64 = 0;
@@ -102,7 +102,7 @@ fn entry_fault(circuit: &[u64], what: u64, b: Bounds, at: usize, j: u64) -> usiz
         WIDTH => there(at, 8 < first),
         INSTANCE => there(at, b.rows <= first),
         ROUND => round_fault(circuit, b, at, j),
-        VALUE => there(at, MODULUS <= first),
+        VALUE => there(at, !is_element(first)),
         NODE_VALUE => value_fault(circuit, at),
         NODE => layout_fault(circuit, b.nodes_start, at, j),
         ROOT => root_fault(circuit, b, at),

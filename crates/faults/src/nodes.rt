@@ -1,9 +1,9 @@
 // Faults of one node's words, for questions 6, 7 and 8: the place of the first offending word, or NONE; and what is wrong with it.
 use crate::bounds::Bounds;
-use crate::bounds::MODULUS;
 use crate::bounds::NONE;
 use crate::bounds::after;
 use contents::word;
+use words::is_element;
 
 // What is wrong with a word of a node: nothing; it is not used, and not 0; it is above the largest value; it names a node that
 // is not lower, an Item, a node that is no Item, the last Item.
@@ -26,7 +26,7 @@ pub fn value_fault(circuit: &[u64], at: usize) -> usize {
     let kind = word(circuit, at);
     let held = (kind == 1) | (kind == 10);
     let value = after(at, 3);
-    if held & (MODULUS <= word(circuit, value)) {
+    if held & !is_element(word(circuit, value)) {
         return value;
     }
     NONE

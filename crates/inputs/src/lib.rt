@@ -3,16 +3,13 @@ use bodies::num_user;
 use bodies::num_witness;
 use bodies::rows;
 use reader::instances_of;
-use words::all_below;
+use words::all_elements;
 use words::total_to;
 ghost use mathlib.Core.Path.{_≡_};
 ghost use Rattle.util.specs.Lists.{total};
 ghost use Rattle.backend.specs.Circuit.{circuitOf};
 ghost use Rattle.calls.specs.Build.{q12, q13};
 ghost use Rattle.prepare.specs.Prepared.{Accepted};
-
-// p
-const MODULUS: u64 = 18446744069414584321;
 
 // Instance values in all.
 fn instance_words(circuit: &[u64]) -> u64
@@ -42,8 +39,8 @@ pub fn question_12(circuit: &[u64], instance: &[u64], witness: &[u64], challenge
 pub fn question_13(instance: &[u64], witness: &[u64], challenges: &[u64]) -> bool
     ensures { λ r. ⌜ r ≡ q13 (now (instance .entry)) (now (witness .entry)) (now (challenges .entry)) ⌝ }
 {
-    let first = all_below(instance, MODULUS);
-    let second = all_below(witness, MODULUS);
-    let third = all_below(challenges, MODULUS);
+    let first = all_elements(instance);
+    let second = all_elements(witness);
+    let third = all_elements(challenges);
     first & second & third
 }

@@ -6,6 +6,7 @@ use faults::bounds::bounds_of;
 use faults::bounds::sum_of;
 use texts::files;
 use texts::say;
+use words::is_element;
 
 // The arguments of build and of check that name the files.
 const BUILD_INSTANCE: usize = 3;
@@ -41,7 +42,7 @@ fn lengths(argument: usize, name: &[u8], given: usize, needed: u64) -> bool {
 fn first_large(words: &[u64]) -> usize {
     let mut i: usize = 0;
     while i < words.len() {
-        if words[i] >= MODULUS {
+        if !is_element(words[i]) {
             return i;
         }
         i += 1;

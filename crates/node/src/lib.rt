@@ -4,7 +4,7 @@ use expression::node::Node;
 ghost use mathlib.Core.Path.{_≡_};
 ghost use Prim.Native.Nat.{ℕ, _+_, _*_, _^_, _≤_, _<_, _%_};
 ghost use lib.ListN.{length, getD};
-ghost use lib.IntN.{pos, negℤ};
+ghost use lib.IntN.{pos, negℤ, natAbs};
 ghost use Rattle.bh.specs.Rows.{rotated};
 ghost use Rattle.expression.specs.Nodes.{signed};
 ghost use Rattle.expression.specs.Read.{nodeAt};
@@ -59,21 +59,23 @@ fn back(d: u64) -> Rotation
     Rotation(0 - (d as i32))
 }
 
-// A distance once round the order is none.
+// A distance of more than once round the order, n steps, is cut by rounds.
 fn shorter(d: u64, n: u64) -> u64
     requires { ⌜ (0 < n) × (n < 2 ^ 31) ⌝ }
-    ensures { λ r. ⌜ (r ≡ d % n) × (r < 2 ^ 31) ⌝ }
+    ensures { λ r. ⌜ (r % n ≡ d % n) × (r < 2 ^ 31) × (d ≤ n → r ≡ d) ⌝ }
 {
-    if d < n {
+    if d <= n {
         return d;
     }
     d % n
 }
 
-// The rotation that a word keeps, taken round the order: any word leads to the row that its number leads to.
+// The rotation that a word keeps. A number from −k to k is kept as it is; a longer one is cut by rounds of the order, and
+// leads from each row to the row that the word's number leads to.
 pub fn rotation_of(word: u64, k: usize) -> Rotation
     requires { ⌜ (0 < k) × (k < 21) ⌝ }
-    ensures { λ r. ⌜ ((b : ℕ) → b < 2 ^ k → rotated k b (r .0) ≡ rotated k b (signed word)) ⌝ }
+    ensures leads { λ r. ⌜ ((b : ℕ) → b < 2 ^ k → rotated k b (r .0) ≡ rotated k b (signed word)) ⌝ }
+    ensures number { λ r. ⌜ (natAbs (signed word) ≤ k → r .0 ≡ signed word) ⌝ }
 {
     let n: u64 = (1 << k) - 1;
     if word < 2147483648 {

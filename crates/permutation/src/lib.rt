@@ -4,7 +4,7 @@ ghost use Prim.Native.Nat.{_+_, _*_, _/_, _^_, _≤_, _<_};
 ghost use lib.ListN.{length, getD, set};
 ghost use Rattle.util.specs.Lists.{All, below, over, split, total};
 ghost use Rattle.backend.specs.Circuit.{Cell, cellsOf};
-ghost use Rattle.preprocessor.specs.Permutation.{Once, Starts, Walkable, Moved, cellWord, permutationColumns};
+ghost use Rattle.preprocessor.specs.Permutation.{Once, Starts, Walkable, CycleIn, Walked, cellWord, permutationColumns};
 
 // The first labels of `count` cells: column idx of the sorted list starts as idx × 2^k + row, so that the words are 0, 1, 2, …
 fn first_labels(columns: &mut [u64], at: usize, count: usize)
@@ -65,10 +65,12 @@ pub fn exchange(
 }
 
 // Along a cycle each cell takes the label that the cell before held when the cycle began, the first that of the last.
+// The cells stand in columns that begin where `starts` says, none of them twice; every word of the columns is told.
 pub fn walk_cycle(columns: &mut [u64], starts: &[u64; 72], cells: &[u64])
     requires { ⌜ 0 < length (now cells) / 2 ⌝ }
     requires { ⌜ All (λ (x : Cell). (x .polynomial < 72) × (cellWord (now starts) x < length (now columns))) (cellsOf (now cells)) ⌝ }
-    ensures { λ r. ⌜ Moved (now (starts .entry)) (cellsOf (now (cells .entry))) (now (columns .entry)) (now (columns .exit)) ⌝ }
+    requires { ⌜ CycleIn (now starts) (cellsOf (now cells)) (length (now columns)) ⌝ }
+    ensures { λ r. ⌜ Walked (now (starts .entry)) (cellsOf (now (cells .entry))) (now (columns .entry)) (now (columns .exit)) ⌝ }
 {
     let count = cells.len() / 2;
     let last = count - 1;

@@ -58,12 +58,11 @@ module _ (ws : List ℕ) (a : Accepted ws) where
       let t = known.cells-total ws a in
       omega arith)
 
-  pub copied-from : (cells : List ℕ) → cells ≡ bodyOf ws Section.cells → (polys : ℕ) → polys ≡ numPoly (circuitOf ws) → (xs : List ℕ)
-      → xs ≡ copiedIn polys (cellsOf cells)
-      → xs ≡ copied (circuitOf ws)
+  pub copied-from : (cells : List ℕ) → cells ≡ bodyOf ws Section.cells → (polys : ℕ) → polys ≡ numPoly (circuitOf ws)
+      → copiedIn polys (cellsOf cells) ≡ copied (circuitOf ws)
   unfolding copied
-  copied-from cells q polys e xs h =
-      h ∙ ap₂ (λ (n : ℕ) (body : List ℕ). copiedIn n (cellsOf body)) e q ∙ ap (copiedIn (numPoly (circuitOf ws))) (sym cells-all)
+  copied-from cells q polys e =
+      ap₂ (λ (n : ℕ) (body : List ℕ). copiedIn n (cellsOf body)) e q ∙ ap (copiedIn (numPoly (circuitOf ws))) (sym cells-all)
 
   -- ---- D
   module _ (nodes roots widths pairs : List ℕ) (x : nodes ≡ bodyOf ws Section.nodes) (y : roots ≡ bodyOf ws Section.constraints)

@@ -14,18 +14,19 @@ use reader::pairs_of;
 use reader::stated_of;
 use reader::widths_of;
 ghost use mathlib.Core.Path.{_≡_};
-ghost use Prim.Native.Nat.{_≤_};
-ghost use lib.ListN.{take};
+ghost use mathlib.Core.List.{_++_};
+ghost use Prim.Native.Nat.{_-_, _≤_};
+ghost use lib.ListN.{take, replicate};
 ghost use Rattle.backend.specs.Circuit.{circuitOf, numCopied};
 ghost use Rattle.backend.specs.Circuit as def;
 ghost use Rattle.backend.specs.Constraints.{maxDegree};
 ghost use Rattle.preprocessor.specs.Pieces.{numbersOf};
 ghost use Rattle.prepare.specs.Prepared.{Accepted};
 
-// The copied columns of the circuit.
+// The copied columns of the circuit, and zeros after them.
 pub fn copied_of(circuit: &[u64]) -> Copied
     requires { ⌜ Accepted (now circuit) ⌝ }
-    ensures { λ r. ⌜ (r .count ≤ 72) × (take (r .count) (r .of) ≡ def.copied (circuitOf (now (circuit .entry)))) ⌝ }
+    ensures { λ r. ⌜ (r .count ≤ 72) × (take (r .count) (r .of) ≡ def.copied (circuitOf (now (circuit .entry)))) × (r .count ≡ numCopied (circuitOf (now (circuit .entry)))) × (r .of ≡ def.copied (circuitOf (now (circuit .entry))) ++ replicate (72 - r .count) 0) ⌝ }
 {
     let polys = num_poly(circuit);
     let cells = cells_of(circuit);

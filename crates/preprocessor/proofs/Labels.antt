@@ -2,27 +2,27 @@
 -- a label is. Assumes nothing.
 use mathlib.Core.Path.{_≡_, refl, sym, ap, ap₂, _∙_}
 use mathlib.Core.Bool.{Bool, cond, _&&_}
-use mathlib.Core.List.{List, [], _∷_, map}
+use mathlib.Core.List.{List, [], _∷_, _++_, map, append-nil}
 use Prim.Native.Nat.{ℕ, zero, suc, _+_, _-_, _*_, _/_, _%_, _≤_, _<_}
-use native.Mathlib.Nat.{not-suc-le-zero, mul-zero, div-add-mod', div-lt-iff-lt-mul}
+use native.Mathlib.Nat.{not-suc-le-zero, zero-mul, one-mul, mul-zero, div-add-mod', div-lt-iff-lt-mul}
 use native.Mathlib.Decide.{ℕ-discrete}
 use native.Mathlib.Omega.{arith}
-use lib.ListN.{length, getD, drop, set, drop-of-length-le}
+use lib.ListN.{length, getD, drop, set, drop-of-length-le, length-map}
 use lib.Seq.{drop-cons}
 use lib.Dec.{eqb}
 use borrow.Author.Tests.{eq-eqb, ne-eqb}
 use Rattle.util.specs.Lists.{column, below, concat, indexOf, over, All}
-use Rattle.util.proofs.Tests.{by-test}
-use Rattle.util.proofs.Columns.{column-cong, columns-length, get-columns}
-use Rattle.util.proofs.Over.{over-inside, length-over}
+use Rattle.util.proofs.Tests.{false-true, by-test}
+use Rattle.util.proofs.Columns.{column-length, column-cong, column-of, columns-length, get-columns}
+use Rattle.util.proofs.Over.{over-inside, over-front, length-over}
 use Rattle.util.proofs.Parts.{div-row, mod-row, columns-flat}
 use Rattle.util.proofs.Sets.{over-set, set-column}
 use Rattle.util.proofs.Turns.{grid-lt}
 use Rattle.util.proofs.Places.{get-index}
 use Rattle.backend.specs.Circuit.{Cell, sameCell}
-use Rattle.backend.proofs.Cells.{same-cell}
-use Rattle.preprocessor.specs.Permutation.{lastCell, before, source, firstLabelIn, cellIn, labelIn, labelColumns, Placed, Once, cellWord, Moved}
-use Rattle.preprocessor.proofs.Cycles.{last-all, source-all, apart-distinct, taken, passed, passed-cycle}
+use Rattle.backend.proofs.Cells.{same-cell, same-self}
+use Rattle.preprocessor.specs.Permutation.{lastCell, before, source, firstLabelIn, cellIn, labelIn, labelColumns, Placed, Once, Starts, cellWord, CycleIn, Moved, inOne, movedWords, Walked}
+use Rattle.preprocessor.proofs.Cycles.{Other, Distinct, last-all, source-all, apart-distinct, taken, passed, passed-cycle}
 
 -- ---- labels exchanged: the first place takes v, each after it what the place before it held
 unfoldable pub exchanged : List ℕ → ℕ → List ℕ → List ℕ
@@ -175,8 +175,8 @@ pub exchanged-none : (d : List ℕ) (v : ℕ) (qs : List ℕ) (i : ℕ) → leng
 unfolding exchanged
 exchanged-none d v qs i l = ap (exchanged d v) (drop-of-length-le qs l)
 
--- a whole walk
-pub walked : (starts : List ℕ) (cycle : List Cell) (old new : List ℕ) → 0 < length cycle
+-- a whole walk, by its labels
+walked : (starts : List ℕ) (cycle : List Cell) (old new : List ℕ) → 0 < length cycle
     → new ≡ exchanged old (getD old (getD (map (cellWord starts) cycle) (length cycle - 1) 0) 0) (map (cellWord starts) cycle)
     → Moved starts cycle old new
 walked starts [] old new p e ps rows at d l once placed apart words room start = absurd (not-suc-le-zero p)
@@ -201,3 +201,126 @@ walked starts (y ∷ ys) old new p e ps rows at d l once placed apart words room
         ap₂ (λ (s : List ℕ) (n : ℕ). getD s (getD (map (cellWord starts) (y ∷ ys)) n 0) 0) start i
         ∙ ap (λ (n : ℕ). getD (over d at (labelColumns ps rows l)) n 0) (last-word (cellWord starts) y ys ∙ place z last-placed)
         ∙ run-get ps rows once d at room l z last-placed
+
+-- ---- every word after a walk
+
+-- words as the rows of one column
+module _ (old : List ℕ) where
+  one-column : (m : Cell → ℕ) → labelColumns (0 ∷ []) (length old) m ≡ column (λ j. m (inOne j)) (length old)
+  unfolding labelColumns column concat
+  one-column m = append-nil (column (λ j. m (inOne j)) (length old))
+
+  all-over : (f : ℕ → ℕ) → over old 0 (column f (length old)) ≡ column f (length old)
+  all-over f =
+      let e = column-length f (length old) in
+      over-front old (column f (length old))
+      ∙ ap (λ (s : List ℕ). column f (length old) ++ s) (drop-of-length-le old {i = length (column f (length old))} (omega arith))
+      ∙ append-nil (column f (length old))
+
+  one-over : (m : Cell → ℕ) → over old 0 (labelColumns (0 ∷ []) (length old) m) ≡ column (λ j. m (inOne j)) (length old)
+  one-over m = ap (over old 0) (one-column m) ∙ all-over (λ j. m (inOne j))
+
+  held-at : Cell → ℕ
+  held-at x = getD old (x .row) 0
+
+  as-held : over old 0 (labelColumns (0 ∷ []) (length old) held-at) ≡ old
+  unfolding held-at
+  as-held = one-over held-at ∙ column-of old 0
+
+rows-back : (ws : List ℕ) → map (λ (x : Cell). x .row) (map inOne ws) ≡ ws
+rows-back [] = refl
+rows-back (w ∷ ws) = ap (λ (s : List ℕ). w ∷ s) (rows-back ws)
+
+one-place : (n : ℕ) (x : Cell) → Placed (0 ∷ []) n x → x .row ≡ 0 + firstLabelIn (0 ∷ []) n x
+one-place n x h =
+    let q : indexOf (x .polynomial) (0 ∷ []) ≡ 0 = (let c = h .column-in in omega arith) in
+    let e : indexOf (x .polynomial) (0 ∷ []) * n ≡ 0 = ap (λ (i : ℕ). i * n) q ∙ zero-mul n in
+    omega arith
+
+-- the words of a cycle, none twice, after labels are exchanged along them
+words-walked : (ws old new : List ℕ) → 0 < length ws → All (λ w. w < length old) ws → Distinct (map inOne ws)
+    → new ≡ exchanged old (getD old (getD ws (length ws - 1) 0) 0) ws
+    → new ≡ movedWords ws old
+unfolding movedWords indexOf held-at
+words-walked [] old new p a t e = absurd (not-suc-le-zero p)
+words-walked (w ∷ ws) old new p a t e =
+    e
+    ∙ ap₂ (λ (s : List ℕ) (v : ℕ). exchanged s v (w ∷ ws)) (sym (as-held old)) held
+    ∙ ap (exchanged run (held-at old z)) (sym (rows-back (w ∷ ws)))
+    ∙ run-exchanged (0 ∷ []) (length old) once old 0 (omega (arith, one-mul (length old))) (λ (x : Cell). x .row) place (held-at old) (held-at old z) (map inOne (w ∷ ws)) (placed (w ∷ ws) a)
+    ∙ ap (over old 0)
+    (labels-same (0 ∷ []) (length old) (passed (held-at old) (held-at old z) (map inOne (w ∷ ws))) (λ x. held-at old (before (map inOne (w ∷ ws)) x))
+    (λ x. passed-cycle (held-at old) (inOne w) (map inOne ws) x t))
+    ∙ one-over old (λ x. held-at old (before (map inOne (w ∷ ws)) x))
+  where
+    z : Cell
+    z = lastCell (inOne w) (map inOne ws)
+
+    run : List ℕ
+    run = over old 0 (labelColumns (0 ∷ []) (length old) (held-at old))
+
+    once : Once (0 ∷ [])
+    once zero l = refl
+    once (suc i) l = absurd (omega arith)
+
+    place : (x : Cell) → Placed (0 ∷ []) (length old) x → x .row ≡ 0 + firstLabelIn (0 ∷ []) (length old) x
+    place x h = one-place (length old) x h
+
+    placed : (us : List ℕ) → All (λ u. u < length old) us → All (Placed (0 ∷ []) (length old)) (map inOne us)
+    placed [] b = tt
+    placed (u ∷ us) b = (record { column-in = omega arith; row-in = b .0 }, placed us (b .1))
+
+    held : getD old (getD (w ∷ ws) (length (w ∷ ws) - 1) 0) 0 ≡ held-at old z
+    held =
+        let i : length (w ∷ ws) - 1 ≡ length ws = omega arith in
+        ap (λ (n : ℕ). getD old (getD (w ∷ ws) n 0) 0) (i ∙ sym (length-map ws inOne))
+        ∙ ap (λ (s : List ℕ). getD old (getD s (length (map inOne ws)) 0) 0) (sym (rows-back (w ∷ ws)))
+        ∙ ap (λ (n : ℕ). getD old n 0) (last-word (λ (x : Cell). x .row) (inOne w) (map inOne ws))
+
+-- ---- different cells have different words
+module _ (starts : List ℕ) (ps : List ℕ) (rows at : ℕ) (words : Starts starts ps rows at) where
+  cell-of : (x : Cell) → Placed ps rows x → cellIn ps (firstLabelIn ps rows x / rows) (firstLabelIn ps rows x % rows) ≡ x
+  cell-of x h =
+      ap₂ (cellIn ps) (div-row (indexOf (x .polynomial) ps) rows (x .row) (h .row-in)) (mod-row (indexOf (x .polynomial) ps) rows (x .row) (h .row-in))
+      ∙ cell-at ps rows x h
+
+  same-word : (x y : Cell) → Placed ps rows x → Placed ps rows y → cellWord starts x ≡ cellWord starts y → x ≡ y
+  same-word x y h g e =
+      let p = words (x .polynomial) (h .column-in) in
+      let q = words (y .polynomial) (g .column-in) in
+      let n : firstLabelIn ps rows x ≡ firstLabelIn ps rows y = omega arith in
+      sym (cell-of x h) ∙ ap (λ (j : ℕ). cellIn ps (j / rows) (j % rows)) n ∙ cell-of y g
+
+  other-word : (x y : Cell) → Placed ps rows x → Placed ps rows y → Other x y → Other (inOne (cellWord starts x)) (inOne (cellWord starts y))
+  other-word x y h g o =
+      ne-eqb (cellWord starts x) (cellWord starts y)
+      (λ e. false-true (sym o ∙ ap (sameCell x) (sym (same-word x y h g e)) ∙ same-self x))
+
+  others : (x : Cell) → Placed ps rows x → (ys : List Cell) → All (Placed ps rows) ys → All (Other x) ys
+      → All (Other (inOne (cellWord starts x))) (map inOne (map (cellWord starts) ys))
+  others x h [] a o = tt
+  others x h (y ∷ ys) a o = (other-word x y h (a .0) (o .0), others x h ys (a .1) (o .1))
+
+  distinct-words : (ys : List Cell) → All (Placed ps rows) ys → Distinct ys → Distinct (map inOne (map (cellWord starts) ys))
+  distinct-words [] a t = tt
+  distinct-words (y ∷ ys) a t = (others y (a .0) ys (a .1) (t .0), distinct-words ys (a .1) (t .1))
+
+-- a whole walk, by its labels and by its words
+pub all-walked : (starts : List ℕ) (cycle : List Cell) (old new : List ℕ) → 0 < length cycle → CycleIn starts cycle (length old)
+    → All (λ (x : Cell). (x .polynomial < 72) × (cellWord starts x < length old)) cycle
+    → new ≡ exchanged old (getD old (getD (map (cellWord starts) cycle) (length cycle - 1) 0) 0) (map (cellWord starts) cycle)
+    → Walked starts cycle old new
+all-walked starts cycle old new p c a e = (
+  walked starts cycle old new p e,
+  words-walked (map (cellWord starts) cycle) old new (omega (arith, n)) (low cycle a)
+      (distinct-words starts (c .list) (c .rows) (c .at) (c .begun) cycle (c .placed) (apart-distinct cycle (c .apart)))
+      (e ∙ ap (λ (m : ℕ). exchanged old (getD old (getD (map (cellWord starts) cycle) (m - 1) 0) 0) (map (cellWord starts) cycle)) (sym n)),
+)
+  where
+    n : length (map (cellWord starts) cycle) ≡ length cycle
+    n = length-map cycle (cellWord starts)
+
+    low : (ys : List Cell) → All (λ (x : Cell). (x .polynomial < 72) × (cellWord starts x < length old)) ys
+        → All (λ w. w < length old) (map (cellWord starts) ys)
+    low [] b = tt
+    low (y ∷ ys) b = (b .0 .1, low ys (b .1))

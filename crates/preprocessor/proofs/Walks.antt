@@ -17,9 +17,9 @@ use Rattle.util.proofs.Parts.{total-next, total-within, get-split}
 use Rattle.util.proofs.Searches.{column-part}
 use Rattle.util.proofs.Places.{get-index}
 use Rattle.backend.specs.Circuit.{Cell, cellAt, cellsOf}
-use Rattle.preprocessor.specs.Permutation.{source, before, firstLabelIn, labelColumns, permutationColumns, Placed, Once, Apart, Walkable, Starts, cellWord, Moved}
+use Rattle.preprocessor.specs.Permutation.{source, before, firstLabelIn, labelColumns, permutationColumns, Placed, Once, Apart, Walkable, Starts, cellWord, CycleIn, Walked}
 use Rattle.preprocessor.proofs.Cycles.{source-end}
-use Rattle.preprocessor.proofs.Labels.{labels-same, labels-length, placed-lt, first-labels, run-length, exchanged, exchanged-next, exchanged-none, walked}
+use Rattle.preprocessor.proofs.Labels.{labels-same, labels-length, placed-lt, first-labels, run-length, exchanged, exchanged-next, exchanged-none, all-walked}
 
 -- ---- the first labels
 pub record First (d : List ℕ) (at count : ℕ) (columns : List ℕ) (j : ℕ) : Type 0 where
@@ -134,10 +134,14 @@ module _ (starts : List ℕ) (cycle : List Cell) where
         here : cellWord starts (x i) ≡ getD words i 0
         here = sym (words-get i l)
 
-    pub along-end : (d : List ℕ) (v : ℕ) (columns : List ℕ) (label i : ℕ) → 0 < n → v ≡ getD d (cellWord starts (x (n - 1))) 0 → Along d v columns label i → n ≤ i
-        → Moved starts cycle d columns
-    along-end d v columns label i p e w l =
-        walked starts cycle d columns (omega (arith, count))
+    pub along-end : (d : List ℕ) (v : ℕ) (columns : List ℕ) (label i : ℕ) → 0 < n → CycleIn starts cycle (length d)
+        → All (λ (x : Cell). (x .polynomial < 72) × (cellWord starts x < length d)) cycle
+        → v ≡ getD d (cellWord starts (x (n - 1))) 0
+        → Along d v columns label i
+        → n ≤ i
+        → Walked starts cycle d columns
+    along-end d v columns label i p c a e w l =
+        all-walked starts cycle d columns (omega (arith, count)) c a
         (sym (exchanged-none columns label words i (let q = words-length in omega arith))
         ∙ w .left
         ∙ ap (λ (u : ℕ). exchanged d u words)
@@ -180,10 +184,12 @@ module _ (starts cells : List ℕ) where
   walking-next = along-next starts (cellsOf cells) (length cells / 2) (cellAt cells) cells-count cells-each
 
   pub walking-end : (d : List ℕ) (v : ℕ) (columns : List ℕ) (label i : ℕ) → 0 < length cells / 2
+      → CycleIn starts (cellsOf cells) (length d)
+      → All (λ (x : Cell). (x .polynomial < 72) × (cellWord starts x < length d)) (cellsOf cells)
       → v ≡ getD d (cellWord starts (cellAt cells (length cells / 2 - 1))) 0
       → Walking d v columns label i
       → length cells / 2 ≤ i
-      → Moved starts (cellsOf cells) d columns
+      → Walked starts (cellsOf cells) d columns
   unfolding Walking
   walking-end = along-end starts (cellsOf cells) (length cells / 2) (cellAt cells) cells-count cells-each
 
@@ -296,13 +302,27 @@ module _ (rows : ℕ) (ps lengths cells : List ℕ) (at : ℕ) (walk : Walkable 
           let q = w .long in
           (subst (λ (n : ℕ). n < 72) e few, omega arith)
 
-      pub turn-asks : (0 < length part / 2) × All (λ (x : Cell). (x .polynomial < 72) × (cellWord starts x < length columns)) (cellsOf part)
+      pub turn-asks : (0 < length part / 2)
+          × (All (λ (x : Cell). (x .polynomial < 72) × (cellWord starts x < length columns)) (cellsOf part)
+          × CycleIn starts (cellsOf part) (length columns))
       turn-asks = (
         (let s = here (λ cycle. 0 < length cycle) (walk .some) in let e = column-length (cellAt part) (length part / 2) in omega arith),
-        all-weaken (Placed ps rows) (λ (x : Cell). (x .polynomial < 72) × (cellWord starts x < length columns)) cell-in (cellsOf part) (here (All (Placed ps rows)) (walk .placed)),
+        (
+          all-weaken (Placed ps rows) (λ (x : Cell). (x .polynomial < 72) × (cellWord starts x < length columns)) cell-in (cellsOf part) (here (All (Placed ps rows)) (walk .placed)),
+          record {
+            list = ps;
+            rows = rows;
+            at = at;
+            once = walk .once;
+            placed = here (All (Placed ps rows)) (walk .placed);
+            apart = here Apart (walk .apart);
+            begun = begin;
+            room = (let q = w .long in omega arith);
+          },
+        ),
       )
 
-      pub turn-next : (after : List ℕ) → Moved starts (cellsOf part) columns after → Turning rows ps lengths cells d at after (start + getD lengths i 0 * 2) (i + 1)
+      pub turn-next : (after : List ℕ) → Walked starts (cellsOf part) columns after → Turning rows ps lengths cells d at after (start + getD lengths i 0 * 2) (i + 1)
       turn-next after m =
           record {
             low = omega arith;
@@ -321,7 +341,7 @@ module _ (rows : ℕ) (ps lengths cells : List ℕ) (at : ℕ) (walk : Walkable 
         where
           moved : after ≡ over d at (labelColumns ps rows (λ x. firstLabelIn ps rows (source (take i cycles) (before (cellsOf part) x))))
           moved =
-              m ps rows at d (λ x. firstLabelIn ps rows (source (take i cycles) x)) (walk .once) (here (All (Placed ps rows)) (walk .placed))
+              m .0 ps rows at d (λ x. firstLabelIn ps rows (source (take i cycles) x)) (walk .once) (here (All (Placed ps rows)) (walk .placed))
               (here Apart (walk .apart))
               begin
               room

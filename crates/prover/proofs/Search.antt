@@ -2,7 +2,7 @@
 use mathlib.Core.Path.{_≡_, refl, sym, ap, ap₂, _∙_}
 use mathlib.Core.Logic.{_≢_}
 use mathlib.Core.Bool.{Bool, true, false, cond, decide}
-use mathlib.Core.Option.{Option, none, some}
+use mathlib.Core.Option.{Option, some}
 use Prim.Native.Nat.{ℕ, zero, suc, _+_, _-_, _≤_, _<_}
 use native.Mathlib.Omega.{arith}
 use Rattle.field.specs.Prime.{P}
@@ -11,6 +11,7 @@ use Rattle.field.proofs.Elements.{el-injective}
 use Rattle.util.specs.Lists.{lastWhere}
 use Rattle.prover.specs.declared.Found.{Found}
 use Rattle.prover.specs.Lookup.{same, lastEqual}
+use Rattle.prover.specs.Answers.{answered, found}
 
 -- words below p are equal exactly when they are in the field
 pub same-true : (a b : ℕ) → a ≡ b → same 𝔾 (el a) (el b) ≡ true
@@ -39,40 +40,41 @@ last-below p (suc n) a h = go (λ e. last-below p n a e) (p n) h
     go f true e = let q : n ≡ a = cc in omega arith
     go f false e = omega (arith, f e)
 
--- what a search found
-abbrev pub rowOf : Found → Option ℕ
-rowOf (Found.At i) = some i
-rowOf Found.Nothing = none
-
 module _ (table : ℕ → ℕ) (v : ℕ) where
   -- the last equal row of the first j
   abbrev pub lastRow : ℕ → Option ℕ
   lastRow j = lastEqual 𝔾 j (λ r. el (table r)) (el v)
+
+  -- the search's answer for the first j rows
+  abbrev pub foundRow : ℕ → Found
+  foundRow j = found 𝔾 j (λ r. el (table r)) (el v)
 
   pub row-below : (n a : ℕ) → lastRow n ≡ some a → a < n
   unfolding lastEqual
   row-below n a h = last-below (λ r. same 𝔾 (el (table r)) (el v)) n a h
 
   -- none of no rows
-  pub search-none : (j : ℕ) → j ≡ 0 → lastRow j ≡ none
-  unfolding lastEqual lastWhere
-  search-none j e = ap lastRow e
+  pub search-none : (j : ℕ) → j ≡ 0 → foundRow j ≡ Found.Nothing
+  unfolding found lastEqual lastWhere
+  search-none j e = ap foundRow e
 
   -- one row further down
-  pub search-hit : (j : ℕ) → j ≢ 0 → table (j - 1) ≡ v → lastRow j ≡ some (j - 1)
-  unfolding lastEqual lastWhere
+  pub search-hit : (j : ℕ) → j ≢ 0 → table (j - 1) ≡ v → foundRow j ≡ Found.At (j - 1)
+  unfolding found lastEqual lastWhere
   search-hit zero z h = absurd (z refl)
   search-hit (suc j) z h =
       let p : suc j - 1 ≡ j = omega arith in
-      ap (λ (t : Bool). cond t (some j) (lastRow j)) (same-true (table j) v (ap table (sym p) ∙ h)) ∙ ap some (sym p)
+      ap (λ (t : Bool). answered (cond t (some j) (lastRow j))) (same-true (table j) v (ap table (sym p) ∙ h))
+      ∙ ap (λ (i : ℕ). Found.At i) (sym p)
 
-  pub search-miss : (j : ℕ) → j ≢ 0 → table (j - 1) < P → v < P → table (j - 1) ≢ v → lastRow j ≡ lastRow (j - 1)
-  unfolding lastEqual lastWhere
+  pub search-miss : (j : ℕ) → j ≢ 0 → table (j - 1) < P → v < P → table (j - 1) ≢ v → foundRow j ≡ foundRow (j - 1)
+  unfolding found lastEqual lastWhere
   search-miss zero z l m h = absurd (z refl)
   search-miss (suc j) z l m h =
       let p : suc j - 1 ≡ j = omega arith in
       let q : table (suc j - 1) ≡ table j = ap table p in
-      ap (λ (t : Bool). cond t (some j) (lastRow j)) (same-false (table j) v (rw q at l) m (λ e. h (q ∙ e))) ∙ ap lastRow (sym p)
+      ap (λ (t : Bool). answered (cond t (some j) (lastRow j))) (same-false (table j) v (rw q at l) m (λ e. h (q ∙ e)))
+      ∙ ap foundRow (sym p)
 
 -- only the first rows are looked at
 pub last-same : (p q : ℕ → Bool) (n : ℕ) → ((r : ℕ) → r < n → p r ≡ q r) → lastWhere p n ≡ lastWhere q n

@@ -6,7 +6,7 @@ use lib.ListN.{length, getD, set, length-map}
 use Rattle.util.specs.Lists.{All}
 use Rattle.util.proofs.Lists.{get-map}
 use Rattle.backend.specs.Circuit as circuit
-use Rattle.preprocessor.specs.Permutation.{Moved, cellWord}
+use Rattle.preprocessor.specs.Permutation.{CycleIn, Walked, cellWord}
 use Rattle.preprocessor.proofs.Walks.{Along, along-start, along-next, along-end, along-cell, along-fits}
 use Rattle.records.specs.declared.Cell.{Cell}
 use Rattle.records.specs.Cells.{cellOf, cycleOf}
@@ -38,8 +38,12 @@ module _ (starts : List ℕ) (xs : List Cell) where
       → Walking d v after held (i + 1)
   next = along-next starts (cycleOf xs) (length xs) at (length-map xs cellOf) each
 
-  pub end : (d : List ℕ) (v : ℕ) (columns : List ℕ) (label i : ℕ) → 0 < length xs → v ≡ getD d (cellWord starts (at (length xs - 1))) 0 → Walking d v columns label i → length xs ≤ i
-      → Moved starts (cycleOf xs) d columns
+  pub end : (d : List ℕ) (v : ℕ) (columns : List ℕ) (label i : ℕ) → 0 < length xs → CycleIn starts (cycleOf xs) (length d)
+      → All (Inside (length d)) (cycleOf xs)
+      → v ≡ getD d (cellWord starts (at (length xs - 1))) 0
+      → Walking d v columns label i
+      → length xs ≤ i
+      → Walked starts (cycleOf xs) d columns
   end = along-end starts (cycleOf xs) (length xs) at (length-map xs cellOf) each
 
   pub cell : (m i : ℕ) → All (Inside m) (cycleOf xs) → i < length xs → Inside m (at i)

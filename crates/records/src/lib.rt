@@ -6,7 +6,7 @@ ghost use Prim.Native.Nat.{_<_};
 ghost use lib.ListN.{length};
 ghost use Rattle.util.specs.Lists.{All};
 ghost use Rattle.backend.specs.Circuit as circuit;
-ghost use Rattle.preprocessor.specs.Permutation.{Moved, cellWord};
+ghost use Rattle.preprocessor.specs.Permutation.{CycleIn, Walked, cellWord};
 ghost use Rattle.records.specs.Cells.{cycleOf};
 
 // "cells (polynomial, row)"
@@ -16,10 +16,12 @@ pub struct Cell {
 }
 
 // Along a cycle each cell takes the label that the cell before held when the cycle began, the first that of the last.
+// The cells stand in columns that begin where `starts` says, none of them twice; every word of the columns is told.
 pub fn walk_cells(columns: &mut [u64], starts: &[u64; 72], cells: &[Cell])
     requires { ⌜ (0 < length (now cells))
-        × All (λ (x : circuit.Cell). (x .polynomial < 72) × (cellWord (now starts) x < length (now columns))) (cycleOf (now cells)) ⌝ }
-    ensures { λ r. ⌜ Moved (now (starts .entry)) (cycleOf (now (cells .entry))) (now (columns .entry)) (now (columns .exit)) ⌝ }
+        × All (λ (x : circuit.Cell). (x .polynomial < 72) × (cellWord (now starts) x < length (now columns))) (cycleOf (now cells))
+        × CycleIn (now starts) (cycleOf (now cells)) (length (now columns)) ⌝ }
+    ensures { λ r. ⌜ Walked (now (starts .entry)) (cycleOf (now (cells .entry))) (now (columns .entry)) (now (columns .exit)) ⌝ }
 {
     let count = cells.len();
     let last = cells[count - 1];

@@ -14,7 +14,7 @@ use prepare::numbers;
 use preprocessor::Numbers;
 use questions::first_no;
 use value::value;
-use words::all_below;
+use words::all_elements;
 ghost use mathlib.Core.Path.{_≡_};
 ghost use Prim.Native.Nat.{_-_, _^_, _≤_, _<_};
 ghost use lib.ListN.{take};
@@ -30,9 +30,6 @@ ghost use Rattle.calls.specs.RowSum.{q16, lentEnvironment, sumOf, rowSumOf};
 ghost use Rattle.prepare.specs.Prepared.{Accepted, Prepared};
 ghost use Rattle.row_sum.specs.Sum.{lengthsRight, valuesSmall, sumLayout, Summable};
 ghost use Rattle.row_sum.specs.Told.{Told};
-
-// p
-const MODULUS: u64 = 18446744069414584321;
 
 // Where the polynomials stand that the row sum reads.
 pub fn sum_layout(circuit: &[u64], v: Numbers) -> Layout
@@ -82,10 +79,10 @@ fn lengths_right(
 fn values_small(witness: &[u64], columns: &[u64], challenges: &[u64], y: &[u64]) -> bool
     ensures { λ r. ⌜ r ≡ valuesSmall (now (witness .entry)) (now (columns .entry)) (now (challenges .entry)) (now (y .entry)) ⌝ }
 {
-    let first = all_below(witness, MODULUS);
-    let second = all_below(columns, MODULUS);
-    let third = all_below(challenges, MODULUS);
-    let fourth = all_below(y, MODULUS);
+    let first = all_elements(witness);
+    let second = all_elements(columns);
+    let third = all_elements(challenges);
+    let fourth = all_elements(y);
     first & second & third & fourth
 }
 

@@ -6,14 +6,13 @@ use reader::preprocess_of;
 use reader::rounds_of;
 use reader::widths_of;
 use words::all_below;
+use words::all_elements;
 use words::all_positive;
+use words::is_element;
 ghost use mathlib.Core.Path.{_≡_};
 ghost use Rattle.backend.specs.Circuit.{circuitOf};
 ghost use Rattle.backend.specs.Questions.{roundsGood, valuesSmall, q5, q6, q9};
 ghost use Rattle.backend.specs.Laid.{Laid, Counted};
-
-// p
-const MODULUS: u64 = 18446744069414584321;
 
 // "Has every round a witness column, every round but the last a challenge"
 fn rounds_good(circuit: &[u64]) -> bool
@@ -48,7 +47,7 @@ fn values_small(nodes: &[u64]) -> bool
         let kind = nodes[i * 4];
         let value = nodes[i * 4 + 3];
         let held = (kind == 1) | (kind == 10);
-        let bad = held & (MODULUS <= value);
+        let bad = held & !is_element(value);
         if bad {
             return false;
         }
@@ -62,7 +61,7 @@ pub fn question_6(circuit: &[u64]) -> bool
     requires { ⌜ Laid (now circuit) ⌝ }
     ensures { λ r. ⌜ r ≡ q6 (circuitOf (now (circuit .entry))) ⌝ }
 {
-    let given = all_below(preprocess_of(circuit), MODULUS);
+    let given = all_elements(preprocess_of(circuit));
     let values = values_small(nodes_of(circuit));
     given & values
 }

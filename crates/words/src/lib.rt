@@ -1,9 +1,15 @@
 // Tests and sums of words of a section.
+use goldilocks::Goldilocks;
+use goldilocks::Parsed;
 ghost use mathlib.Core.Path.{_≡_};
+ghost use mathlib.Core.Bool.{cond};
+ghost use mathlib.Core.List.{map};
 ghost use Prim.Native.Nat.{_*_, _≤_, _<_, min};
 ghost use lib.ListN.{length};
 ghost use lib.Dec.{ltb};
-ghost use Rattle.util.specs.Lists.{allOf, total};
+ghost use Rattle.field.specs.Prime.{P};
+ghost use Rattle.goldilocks.specs.Parse.{Among, parsed, numberAmong, numberOf};
+ghost use Rattle.util.specs.Lists.{allOf, total, largest};
 ghost use Rattle.backend.specs.Circuit.{wordEach};
 
 // Is every word below the limit?
@@ -13,6 +19,33 @@ pub fn all_below(words: &[u64], limit: u64) -> bool
     let mut i = 0;
     while i < words.len() {
         if limit <= words[i] {
+            return false;
+        }
+        i += 1;
+    }
+    true
+}
+
+// Is a word below p, and so the number of an element?
+pub fn is_element(word: u64) -> bool
+    ensures below { λ r. ⌜ r ≡ ltb word P ⌝ }
+    ensures number { λ r. ⌜ ((a : Among) → cond r 0 (numberAmong a) ≡ numberOf a (parsed word)) ⌝ }
+{
+    let answer = Goldilocks::new(word);
+    match answer {
+        Parsed::Element(_) => true,
+        Parsed::TooLarge => false,
+    }
+}
+
+// Is every word? No is the number of the question that asks.
+pub fn all_elements(words: &[u64]) -> bool
+    ensures below { λ r. ⌜ r ≡ allOf (λ w. ltb w P) (now (words .entry)) ⌝ }
+    ensures number { λ r. ⌜ ((a : Among) → cond r 0 (numberAmong a) ≡ largest (map (λ w. numberOf a (parsed w)) (now (words .entry)))) ⌝ }
+{
+    let mut i = 0;
+    while i < words.len() {
+        if !is_element(words[i]) {
             return false;
         }
         i += 1;

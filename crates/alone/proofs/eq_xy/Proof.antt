@@ -31,7 +31,7 @@ exact : (c : tie.Else2) → eqb (length (start (one c) .args .y .now)) (start (o
 exact c = eq-eqb _ _ (c .if2 .left)
 
 all-small : (c : tie.Else3) → allOf small (start (one (two c)) .args .y .now) ≡ true
-all-small c = says-yes _ _ (c .before .all-below .ensures) (c .if3 .left)
+all-small c = says-yes _ _ (c .before .all-elements .ensures .0) (c .if3 .left)
 
 good-k-requires : tie.Need-good-k-requires
 good-k-requires c κs = search needs
@@ -44,14 +44,14 @@ returns-2 : tie.Need-returns-2
 unfolding eqOf
 returns-2 c = no-12 _ _ _ _ _ (good (c .before)) (ne-eqb _ _ (c .if2 .taken))
 
-all-below-requires : tie.Need-all-below-requires
-all-below-requires c κs = search needs
+all-elements-requires : tie.Need-all-elements-requires
+all-elements-requires c κs = search needs
 
 returns-3 : tie.Need-returns-3
 unfolding eqOf
 returns-3 c =
     no-13 _ _ _ _ _ (good (one (c .before .before))) (exact (c .before .before))
-    (says-no _ _ (c .before .all-below .ensures) (c .if3 .taken))
+    (says-no _ _ (c .before .all-elements .ensures .0) (c .if3 .taken))
 
 rows-of-requires : tie.Need-rows-of-requires
 rows-of-requires c κs = omega (arith, k-le (start (one (two c)) .args .k) (good (one (two c))))
@@ -89,7 +89,7 @@ eq-xy-spec =
     good-k-requires
     returns
     returns-2
-    all-below-requires
+    all-elements-requires
     returns-3
     rows-of-requires
     returns-4

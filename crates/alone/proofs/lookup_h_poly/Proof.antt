@@ -22,7 +22,7 @@ abbrev one : tie.Else2 → tie.Else1
 one c = c .before .before
 
 abbrev two : tie.Else3 → tie.Else2
-two c = c .before .before .before .before
+two c = c .before .before .before .before .before
 
 -- what each test told
 good : (c : tie.Else1) → goodK (start c .args .k) ≡ true
@@ -44,8 +44,10 @@ all-small : (c : tie.Else3)
     ≡ true
 all-small c =
     says-yes _ _
-    (three-small _ _ _ _ _ _ _ (c .before .before .before .all-below .ensures) (c .before .before .all-below2 .ensures)
-    (c .before .all-below3 .ensures))
+    (three-small _ _ _ _ _ _ _ _ (c .before .before .before .before .all-elements .ensures .0)
+    (c .before .before .before .all-elements2 .ensures .0)
+    (c .before .before .all-elements3 .ensures .0)
+    (c .before .is-element .ensures .0))
     (c .if3 .left)
 
 good-k-requires : tie.Need-good-k-requires
@@ -65,22 +67,27 @@ returns-2 c =
     no-12 _ _ _ _ _ (good (c .before .before))
     (says-no _ _ (three-exact _ _ (a .input .now) (a .table .now) (a .m .now) (c .before .rows-of .ensures)) (c .if2 .taken))
 
-all-below-requires : tie.Need-all-below-requires
-all-below-requires c κs = search needs
+all-elements-requires : tie.Need-all-elements-requires
+all-elements-requires c κs = search needs
 
-all-below-requires-2 : tie.Need-all-below-requires-2
-all-below-requires-2 c κs = search needs
+all-elements-requires-2 : tie.Need-all-elements-requires-2
+all-elements-requires-2 c κs = search needs
 
-all-below-requires-3 : tie.Need-all-below-requires-3
-all-below-requires-3 c κs = search needs
+all-elements-requires-3 : tie.Need-all-elements-requires-3
+all-elements-requires-3 c κs = search needs
+
+is-element-requires : tie.Need-is-element-requires
+is-element-requires c κs = search needs
 
 returns-3 : tie.Need-returns-3
 unfolding hOf
 returns-3 c =
-    no-13 _ _ _ _ _ (good (one (c .before .before .before .before))) (exact (c .before .before .before .before))
+    no-13 _ _ _ _ _ (good (one (c .before .before .before .before .before))) (exact (c .before .before .before .before .before))
     (says-no _ _
-    (three-small _ _ _ _ _ _ _ (c .before .before .before .all-below .ensures) (c .before .before .all-below2 .ensures)
-    (c .before .all-below3 .ensures))
+    (three-small _ _ _ _ _ _ _ _ (c .before .before .before .before .all-elements .ensures .0)
+    (c .before .before .before .all-elements2 .ensures .0)
+    (c .before .before .all-elements3 .ensures .0)
+    (c .before .is-element .ensures .0))
     (c .if3 .taken))
 
 returns-4 : tie.Need-returns-4
@@ -123,9 +130,10 @@ lookup-h-poly-spec =
     returns
     rows-of-requires
     returns-2
-    all-below-requires
-    all-below-requires-2
-    all-below-requires-3
+    all-elements-requires
+    all-elements-requires-2
+    all-elements-requires-3
+    is-element-requires
     returns-3
     returns-4
     from-u64-requires

@@ -33,7 +33,7 @@ exact c =
 
 all-small : (c : tie.Else3) → allOf small (start (one (two c)) .args .input .now ++ start (one (two c)) .args .table .now) ≡ true
 all-small c =
-    says-yes _ _ (two-small _ _ _ _ (c .before .before .all-below .ensures) (c .before .all-below2 .ensures)) (c .if3 .left)
+    says-yes _ _ (two-small _ _ _ _ (c .before .before .all-elements .ensures .0) (c .before .all-elements2 .ensures .0)) (c .if3 .left)
 
 good-k-requires : tie.Need-good-k-requires
 good-k-requires c κs = search needs
@@ -52,17 +52,17 @@ returns-2 c =
     no-12 _ _ _ _ _ (good (c .before .before))
     (says-no _ _ (two-exact _ _ (a .input .now) (a .table .now) (c .before .rows-of .ensures)) (c .if2 .taken))
 
-all-below-requires : tie.Need-all-below-requires
-all-below-requires c κs = search needs
+all-elements-requires : tie.Need-all-elements-requires
+all-elements-requires c κs = search needs
 
-all-below-requires-2 : tie.Need-all-below-requires-2
-all-below-requires-2 c κs = search needs
+all-elements-requires-2 : tie.Need-all-elements-requires-2
+all-elements-requires-2 c κs = search needs
 
 returns-3 : tie.Need-returns-3
 unfolding mOf
 returns-3 c =
     no-13 _ _ _ _ _ (good (one (c .before .before .before))) (exact (c .before .before .before))
-    (says-no _ _ (two-small _ _ _ _ (c .before .before .all-below .ensures) (c .before .all-below2 .ensures)) (c .if3 .taken))
+    (says-no _ _ (two-small _ _ _ _ (c .before .before .all-elements .ensures .0) (c .before .all-elements2 .ensures .0)) (c .if3 .taken))
 
 returns-4 : tie.Need-returns-4
 unfolding mOf
@@ -87,7 +87,7 @@ returns-5 c =
     let at = room .before in
     let n = two at .before .rows-of .ensures in
     let a = start (one (two at)) .args in
-    uncovered (a .input .now) (a .table .now) (a .m .now) _ _ n _ (column .ensures .1) (says-no _ _ (column .ensures .0) (c .if5 .taken))
+    uncovered (a .input .now) (a .table .now) (a .m .now) _ _ n _ (column .ensures .0 .1) (says-no _ _ (column .ensures .0 .0) (c .if5 .taken))
     ∙ all-yes _ _ _ _ _ (good (one (two at))) (exact (two at)) (all-small at) (omega (arith, n, room .if4 .left))
 
 same-length-2 : tie.Need-same-length-2
@@ -101,7 +101,7 @@ returns-6 c =
     let at = room .before in
     let n = two at .before .rows-of .ensures in
     let a = start (one (two at)) .args in
-    counted (a .input .now) (a .table .now) (a .m .now) _ _ n _ (column .ensures .1) (says-yes _ _ (column .ensures .0) (c .if5 .left))
+    counted (a .input .now) (a .table .now) (a .m .now) _ _ n _ (column .ensures .0 .1) (says-yes _ _ (column .ensures .0 .0) (c .if5 .left))
     ∙ all-yes _ _ _ _ _ (good (one (two at))) (exact (two at)) (all-small at) (omega (arith, n, room .if4 .left))
 
 pub lookup-m-poly-spec : {M : Type 1} → statement M
@@ -112,8 +112,8 @@ lookup-m-poly-spec =
     returns
     rows-of-requires
     returns-2
-    all-below-requires
-    all-below-requires-2
+    all-elements-requires
+    all-elements-requires-2
     returns-3
     returns-4
     m-column-requires

@@ -4,24 +4,24 @@ use Rattle.inputs.proofs.question_13.Statement.{statement}
 use Rattle.inputs.proofs.question_13.Tie as tie
 use Rattle.inputs.proofs.question_13.Reads as reads
 use Rattle.inputs.proofs.question_13.Lts as lts
-use Rattle.words.proofs.all_below.Reads as all-below-reads
+use Rattle.words.proofs.all_elements.Reads as all-elements-reads
 
 -- src/lib.rt:163:9
-all-below-requires : tie.Need-all-below-requires
-all-below-requires c κs = search needs
+all-elements-requires : tie.Need-all-elements-requires
+all-elements-requires c κs = search needs
 
 -- src/lib.rt:164:9
-all-below-requires-2 : tie.Need-all-below-requires-2
-all-below-requires-2 c κs = search needs
+all-elements-requires-2 : tie.Need-all-elements-requires-2
+all-elements-requires-2 c κs = search needs
 
 -- src/lib.rt:165:9
-all-below-requires-3 : tie.Need-all-below-requires-3
-all-below-requires-3 c κs = search needs
+all-elements-requires-3 : tie.Need-all-elements-requires-3
+all-elements-requires-3 c κs = search needs
 
 -- src/lib.rt:160:1
 returns : tie.Need-returns
-returns c = thirteen (c .before .before .before .before .before .before .args .instance .now) (c .before .before .before .before .before .before .args .witness .now) (c .before .before .before .before .before .before .args .challenges .now) _ _ _ (c .before .before .all-below .ensures) (c .before .all-below2 .ensures) (c .all-below3 .ensures)
+returns c = thirteen (c .before .before .before .before .before .before .args .instance .now) (c .before .before .before .before .before .before .args .witness .now) (c .before .before .before .before .before .before .args .challenges .now) _ _ _ (c .before .before .all-elements .ensures .0) (c .before .all-elements2 .ensures .0) (c .all-elements3 .ensures .0)
 
 pub question-13-spec : {M : Type 1} → statement M
 question-13-spec =
-    tie.close (tie.spec all-below-requires all-below-requires-2 all-below-requires-3 returns)
+    tie.close (tie.spec all-elements-requires all-elements-requires-2 all-elements-requires-3 returns)

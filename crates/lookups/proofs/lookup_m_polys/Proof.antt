@@ -63,13 +63,13 @@ same-length : tie.Need-same-length Inv-loop μ-loop
 same-length c =
     let s = c .before .before .before .before .before .before .before .before in
     let l = c .before .before .before .before .before .before .loop in
-    counted-size _ _ _ _ _ (s .pre .0) (s .pre .1) _ _ _ _ (l .inv) (c .before .before .before .before .before .loop-test .taken) _ _ (c .before .before .before .lookup-m-poly .ensures)
+    counted-size _ _ _ _ _ (s .pre .0) (s .pre .1) _ _ _ _ (l .inv) (c .before .before .before .before .before .loop-test .taken) _ _ (c .before .before .before .lookup-m-poly .ensures .0)
 
 returns : tie.Need-returns Inv-loop μ-loop
 returns c =
     let s = c .before .before .before .before .before .before .before .before in
     let l = c .before .before .before .before .before .before .loop in
-    counted-stop _ _ _ _ _ (s .pre .0) (s .pre .1) _ _ _ _ (l .inv) (c .before .before .before .before .before .loop-test .taken) _ _ (c .before .before .before .lookup-m-poly .ensures)
+    counted-stop _ _ _ _ _ (s .pre .0) (s .pre .1) _ _ _ _ (l .inv) (c .before .before .before .before .before .loop-test .taken) _ _ (c .before .before .before .lookup-m-poly .ensures .0)
     (not-true (c .before .before .before .lookup-m-poly .result) (c .if1 .taken))
 
 add-input : tie.Need-add-input Inv-loop μ-loop
@@ -88,7 +88,7 @@ loop-again : tie.Need-loop-again Inv-loop μ-loop
 loop-again c =
     let s = c .before .before .before .before .before .before .before .before in
     let l = c .before .before .before .before .before .before .loop in
-    counted-more _ _ _ _ _ (s .pre .0) (s .pre .1) _ _ _ _ (l .inv) (c .before .before .before .before .before .loop-test .taken) _ _ (c .before .before .before .lookup-m-poly .ensures)
+    counted-more _ _ _ _ _ (s .pre .0) (s .pre .1) _ _ _ _ (l .inv) (c .before .before .before .before .before .loop-test .taken) _ _ (c .before .before .before .lookup-m-poly .ensures .0)
     (not-false (c .before .before .before .lookup-m-poly .result) (c .if1 .left))
 
 same-length-2 : tie.Need-same-length-2 Inv-loop μ-loop

@@ -1,7 +1,7 @@
-use mathlib.Core.Path.{ap, _∙_, subst⁻¹}
+use mathlib.Core.Path.{_≡_, subst, subst⁻¹}
 use Prim.Native.Nat.{ℕ, _-_, _%_, _≤_}
 use lib.Pow.{pow-pos}
-use Rattle.expression.proofs.Signed.{one-shifted, round-small, keeps-on, keeps-back}
+use Rattle.expression.proofs.Signed.{one-shifted, round-small, keeps-on, keeps-back, number-on, number-back}
 use borrow.Author.Needs.{needs}
 use Rattle.node.proofs.rotation_of.Statement.{statement}
 use Rattle.node.proofs.rotation_of.Tie as tie
@@ -24,11 +24,16 @@ back-requires c κs = search needs
 returns : tie.Need-returns
 returns c =
     let a = c .before .before .before in
-    keeps-back (a .args .k) (a .pre .0) (a .pre .1) (a .args .word) (c .before .shorter .result) (c .back .result .0)
-    (c .before .before .if1 .taken)
-    (c .before .shorter .ensures .0
-    ∙ ap (λ (x : ℕ). (2147483648 - a .args .word) % (x - 1)) (one-shifted (a .args .k) (a .pre .1)))
-    (c .back .ensures)
+    let e = one-shifted (a .args .k) (a .pre .1) in
+    let s = c .before .shorter in
+    let w = a .args .word in (
+      keeps-back (a .args .k) (a .pre .0) (a .pre .1) w (s .result) (c .back .result .0) (c .before .before .if1 .taken)
+          (subst (λ (x : ℕ). s .result % (x - 1) ≡ (2147483648 - w) % (x - 1)) e (s .ensures .0))
+          (c .back .ensures),
+      number-back (a .args .k) (a .pre .0) (a .pre .1) w (s .result) (c .back .result .0) (c .before .before .if1 .taken)
+          (subst (λ (x : ℕ). 2147483648 - w ≤ x - 1 → s .result ≡ 2147483648 - w) e (s .ensures .2))
+          (c .back .ensures),
+    )
 
 shorter-requires-2 : tie.Need-shorter-requires-2
 shorter-requires-2 c κs = round-small (c .before .args .k) (c .before .pre .0) (c .before .pre .1)
@@ -39,11 +44,16 @@ on-requires c κs = search needs
 returns-2 : tie.Need-returns-2
 returns-2 c =
     let a = c .before .before .before in
-    keeps-on (a .args .k) (a .pre .0) (a .pre .1) (a .args .word) (c .before .shorter2 .result) (c .on .result .0)
-    (c .before .before .if1 .left)
-    (c .before .shorter2 .ensures .0
-    ∙ ap (λ (x : ℕ). (a .args .word - 2147483648) % (x - 1)) (one-shifted (a .args .k) (a .pre .1)))
-    (c .on .ensures)
+    let e = one-shifted (a .args .k) (a .pre .1) in
+    let s = c .before .shorter2 in
+    let w = a .args .word in (
+      keeps-on (a .args .k) (a .pre .0) (a .pre .1) w (s .result) (c .on .result .0) (c .before .before .if1 .left)
+          (subst (λ (x : ℕ). s .result % (x - 1) ≡ (w - 2147483648) % (x - 1)) e (s .ensures .0))
+          (c .on .ensures),
+      number-on (a .args .k) (a .pre .0) (a .pre .1) w (s .result) (c .on .result .0) (c .before .before .if1 .left)
+          (subst (λ (x : ℕ). w - 2147483648 ≤ x - 1 → s .result ≡ w - 2147483648) e (s .ensures .2))
+          (c .on .ensures),
+    )
 
 pub rotation-of-spec : {M : Type 1} → statement M
 rotation-of-spec =

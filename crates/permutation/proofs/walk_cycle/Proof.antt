@@ -40,7 +40,7 @@ shared-slice-read-cell-label-2 c = search needs
 cell-label-requires : tie.Need-cell-label-requires Inv-loop μ-loop
 cell-label-requires c κs =
     let s = c .before .before .before .before .before in
-    cell-fits (s .args .starts .now) (s .args .cells .now) (length (s .args .columns .now)) (length (s .args .cells .now) / 2 - 1) (s .pre .1)
+    cell-fits (s .args .starts .now) (s .args .cells .now) (length (s .args .columns .now)) (length (s .args .cells .now) / 2 - 1) (s .pre .1 .0)
     (let p = s .pre .0 in omega arith)
 
 loop-holds : tie.Need-loop-holds Inv-loop μ-loop
@@ -69,7 +69,7 @@ shared-slice-read-exchange-2 c = search needs
 
 exchange-requires : tie.Need-exchange-requires Inv-loop μ-loop
 exchange-requires c κs =
-    walking-fits _ _ _ _ _ _ _ (c .before .before .before .before .loop .inv) (c .before .before .before .before .before .before .before .before .before .before .before .pre .1) (c .before .before .before .loop-test .taken)
+    walking-fits _ _ _ _ _ _ _ (c .before .before .before .before .loop .inv) (c .before .before .before .before .before .before .before .before .before .before .before .pre .1 .0) (c .before .before .before .loop-test .taken)
 
 add-i : tie.Need-add-i Inv-loop μ-loop
 add-i c = search needs
@@ -88,7 +88,8 @@ same-length c = search needs
 
 returns : tie.Need-returns Inv-loop μ-loop
 returns c =
-    walking-end _ _ _ _ _ _ _ (c .before .before .before .before .before .before .before .before .pre .0) (c .before .before .cell-label .ensures) (c .before .loop .inv) (c .loop-test .left)
+    let s = c .before .before .before .before .before .before .before .before in
+    walking-end _ _ _ _ _ _ _ (s .pre .0) (s .pre .1 .1) (s .pre .1 .0) (c .before .before .cell-label .ensures) (c .before .loop .inv) (c .loop-test .left)
 
 pub walk-cycle-spec : {M : Type 1} → statement M
 walk-cycle-spec =

@@ -1,4 +1,8 @@
 -- `copied_of` meets its contract. Assumes nothing.
+use mathlib.Core.Path.{ap, _∙_}
+use mathlib.Core.List.{List, _++_}
+use Prim.Native.Nat.{ℕ, _-_}
+use lib.ListN.{length, replicate}
 use native.Mathlib.Omega.{arith}
 use Rattle.prepare.proofs.Accepted.{laid-counted, laid-of, few-polys}
 use Rattle.prepare.proofs.Computed.{copied-from}
@@ -19,7 +23,9 @@ copied-columns-requires c κs =
 returns : tie.Need-returns
 returns c =
     let s = c .before .before .before .before in
-    (c .copied-columns .ensures .0, copied-from (s .args .circuit .now) (s .pre) _ (c .before .cells-of .ensures) _ (c .before .before .num-poly .ensures) _ (c .copied-columns .ensures .1))
+    let e = copied-from (s .args .circuit .now) (s .pre) _ (c .before .cells-of .ensures) _ (c .before .before .num-poly .ensures) in
+    let r = c .copied-columns .ensures in
+    (r .0, r .1 ∙ e, r .2 ∙ ap length e, r .3 ∙ ap (λ (xs : List ℕ). xs ++ replicate (72 - c .copied-columns .result .count) 0) e)
 
 pub copied-of-spec : {M : Type 1} → statement M
 copied-of-spec =

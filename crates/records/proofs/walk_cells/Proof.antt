@@ -53,7 +53,7 @@ use denote.Triple.Walked.{says, needs, Stays, stay-slice, stay-none-ref, stay-no
 use denote.Exit.{yes as all-kept}
 use denote.Triple.Clauses.{ensured, lasts}
 use Rattle.util.specs.Lists.{All}
-use Rattle.preprocessor.specs.Permutation.{Moved, cellWord}
+use Rattle.preprocessor.specs.Permutation.{CycleIn, Walked, cellWord}
 use Rattle.records.specs.declared.Cell.{Cell}
 use Rattle.records.specs.Cells.{cellOf, cycleOf}
 use Rattle.records.proofs.Again.{LentAgain, lends-again, comes-back, LentShared, lends-shared, shared-back}
@@ -127,7 +127,7 @@ module _ {M : Type 1} (𝓤 : URA M) (H : Heap 𝓤) (A : Atoms 𝓤) (mem : Mem
   Exchange = tripleOf 𝓤 H A exchange.signature (exchange.spec 𝓤 H A mem run)
 
 module _ {M : Type 1} (𝓤 : URA M) (H : Heap 𝓤) (A : Atoms 𝓤) (W : Given 𝓤 H A) (mem : Memory → SProp 𝓤) (run : Routine → Fun 𝓤) (κ₀ κ₁ κ₂ : Lft) (q₀ q₁ q₂ : Share) (bounds : AllOutlive 3 (walk-cells.signature .outlives) (κ₀, (κ₁, (κ₂, tt))))
-    (b o : ℕ) (γ : GName) (ys : List ℕ) (starts : RefT (List ℕ)) (cb co : ℕ) (cγ : GName) (xs : List Cell) (room : Room u64 (length ys)) (cells-room : Room T.the-row (length xs)) (pos : 0 < length xs) (inside : All (cycle.Inside (now starts) xs (length ys)) (cycleOf xs)) where
+    (b o : ℕ) (γ : GName) (ys : List ℕ) (starts : RefT (List ℕ)) (cb co : ℕ) (cγ : GName) (xs : List Cell) (room : Room u64 (length ys)) (cells-room : Room T.the-row (length xs)) (pos : 0 < length xs) (inside : All (cycle.Inside (now starts) xs (length ys)) (cycleOf xs)) (laid : CycleIn (now starts) (cycleOf xs) (length ys)) where
   abbrev n : ℕ
   n = length xs
 
@@ -176,7 +176,7 @@ module _ {M : Type 1} (𝓤 : URA M) (H : Heap 𝓤) (A : Atoms 𝓤) (W : Given
   abbrev Post : Val → SProp 𝓤
   Post = walkOf 𝓤 H A walk-cells.ended stayed (walk-cells.clauses 𝓤 H A mem run) .post (((κ₀, (κ₁, (κ₂, tt))), (q₀, (q₁, (q₂, tt))), bounds, a, at), tt)
 
-  exits : (zs : List ℕ) → length zs ≡ length ys → Moved (now starts) (cycleOf xs) ys zs
+  exits : (zs : List ℕ) → length zs ≡ length ys → Walked (now starts) (cycleOf xs) ys zs
       → ent 𝓤 (⋆ 𝓤 H A (‵ (Columns zs) ∷ ‵ (flft κ₀ q₀) ∷ ‵ (flft κ₁ q₁) ∷ ‵ (flft κ₂ q₂) ∷ ‵ Starts ∷ ‵ Cells ∷ [])) (Post vunit)
   exits zs long moved =
       qed W (‵ (Columns zs) ∷ ‵ (flft κ₀ q₀) ∷ ‵ (flft κ₁ q₁) ∷ ‵ (flft κ₂ q₂) ∷ ‵ Starts ∷ ‵ Cells ∷ []) ∵
@@ -338,7 +338,7 @@ module _ {M : Type 1} (𝓤 : URA M) (H : Heap 𝓤) (A : Atoms 𝓤) (W : Given
         assigns ! (of-opd ! (unit-lit !)) (from ! (stop !)) (init ! 46 refl (tt, tt)) $
         returns ! (look ! 46 refl) $ forget ! 16 refl $ forget ! 32 refl $ forget ! 34 refl $ forget ! 38 refl $ forget ! 40 refl $ forget ! 42 refl $ forget ! 44 refl $ forget ! 46 refl $
         move ! (46 ∷ 47 ∷ []) $ free1 ! $ move ! (44 ∷ 45 ∷ []) $ free1 ! $ move ! (42 ∷ 43 ∷ []) $ free1 ! $ move ! (40 ∷ 41 ∷ []) $ free1 ! $ move ! (38 ∷ 39 ∷ []) $ free1 ! $ move ! (36 ∷ 37 ∷ []) $ free1 ! $ move ! (34 ∷ 35 ∷ []) $ free1 ! $ move ! (32 ∷ 33 ∷ []) $ free1 ! $ move ! (30 ∷ 31 ∷ []) $ free1 ! $ move ! (28 ∷ 29 ∷ []) $ free1 ! $ move ! (26 ∷ 27 ∷ []) $ free1 ! $ move ! (24 ∷ 25 ∷ []) $ free1 ! $ move ! (22 ∷ 23 ∷ []) $ free1 ! $ move ! (20 ∷ 21 ∷ []) $ free1 ! $ move ! (18 ∷ 19 ∷ []) $ free1 ! $ move ! (16 ∷ 17 ∷ []) $ free1 ! $ move ! (14 ∷ 15 ∷ []) $ free1 ! $ move ! (12 ∷ 13 ∷ []) $ free1 ! $ move ! (10 ∷ 11 ∷ []) $ free1 ! $ move ! (8 ∷ 9 ∷ []) $ free1 ! $ move ! (6 ∷ 7 ∷ []) $ free1 ! $ free0 ! $
-        by ! (exits zs (going .0 .long) (cycle.end (now starts) xs ys v zs label i pos first (going .0) large))
+        by ! (exits zs (going .0 .long) (cycle.end (now starts) xs ys v zs label i pos laid inside first (going .0) large))
 
     -- the invariant, where t cells are left
     abbrev Facts : ℕ → ℕ → ℕ → List ℕ → Type 0
@@ -435,7 +435,7 @@ module _ {M : Type 1} (𝓤 : URA M) (H : Heap 𝓤) (A : Atoms 𝓤) (W : Given
       (λ κs. (mut-slice-tells (named 0) (κs .0) u64, (shr-tells (named 1) (κs .1 .0) Words, (shr-slice-tells (named 2) (κs .1 .1 .0) T.the-row, tt))))
       (λ κs qs bounds a g are. needs 𝓤 _ _ (λ asked.
       walk 𝓤 H A W mem run (κs .0) (κs .1 .0) (κs .1 .1 .0) (qs .0) (qs .1 .0) (qs .1 .1 .0) bounds (a .0 .ptr .0) (a .0 .ptr .1) (a .0 .name) (a .0 .now) (a .1 .0) (a .1 .1 .0 .ptr .0) (a .1 .1 .0 .ptr .1) (a .1 .1 .0 .name) (a .1 .1 .0 .now)
-      (are .0 .0 .1) (are .1 .1 .0 .0 .1) (asked .0) (asked .1) 𝓣 (fmOf 𝓤 H (W .laws) 𝓣) known-label known-exchange))
+      (are .0 .0 .1) (are .1 .1 .0 .0 .1) (asked .0) (asked .1) (asked .2) 𝓣 (fmOf 𝓤 H (W .laws) 𝓣) known-label known-exchange))
 
   walk-cells-meets : Triple 𝓤 (𝓣 .C #permutation·cell-label) (Label 𝓤 H A mem run) → Triple 𝓤 (𝓣 .C #permutation·exchange) (Exchange 𝓤 H A mem run)
       → Meets 𝓤 H A walk-cells.signature (WpFn 𝓤 H (𝓣 .C) (𝓣 .Λ) code.function) (walk-cells.spec 𝓤 H A mem run)

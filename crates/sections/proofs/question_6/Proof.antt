@@ -7,8 +7,8 @@ use Rattle.sections.proofs.question_6.Tie as tie
 preprocess-of-requires : tie.Need-preprocess-of-requires
 preprocess-of-requires c κs = search needs
 
-all-below-requires : tie.Need-all-below-requires
-all-below-requires c κs = search needs
+all-elements-requires : tie.Need-all-elements-requires
+all-elements-requires c κs = search needs
 
 nodes-of-requires : tie.Need-nodes-of-requires
 nodes-of-requires c κs = search needs
@@ -17,14 +17,14 @@ values-small-requires : tie.Need-values-small-requires
 values-small-requires c κs = search needs
 
 returns : tie.Need-returns
-returns c = six _ (c .before .before .before .before .before .pre) _ _ (c .before .before .before .preprocess-of .ensures) (c .before .nodes-of .ensures) _ _ (c .before .before .all-below .ensures) (c .values-small .ensures)
+returns c = six _ (c .before .before .before .before .before .pre) _ _ (c .before .before .before .preprocess-of .ensures) (c .before .nodes-of .ensures) _ _ (c .before .before .all-elements .ensures .0) (c .values-small .ensures)
 
 pub question-6-spec : {M : Type 1} → statement M
 question-6-spec =
     tie.close
     (tie.spec
     preprocess-of-requires
-    all-below-requires
+    all-elements-requires
     nodes-of-requires
     values-small-requires
     returns)

@@ -1,4 +1,5 @@
 use native.Mathlib.Omega.{arith}
+use borrow.Author.Needs.{needs}
 use Prim.Native.Nat.{ℕ, _-_, _/_}
 use lib.ListN.{length}
 use Rattle.util.proofs.Walks.{Walked, walk-none, walk-more, walk-done, walk-fails}
@@ -47,9 +48,15 @@ mul-value-2 c = omega arith
 shared-slice-read-value : tie.Need-shared-slice-read-value Inv-loop μ-loop
 shared-slice-read-value c = omega arith
 
+is-element-requires : tie.Need-is-element-requires Inv-loop μ-loop
+is-element-requires c κs = search needs
+
 -- src/lib.rt:157:13
 returns : tie.Need-returns Inv-loop μ-loop
-returns c = walk-fails _ _ _ (c .before .before .before .before .loop .i) (c .before .before .before .loop-test .taken) (value-large (c .before .before .before .before .before .args .nodes .now) (c .before .before .before .before .loop .i) (c .if1 .taken))
+returns c =
+    let l = c .before .before .before .before .before in
+    walk-fails _ _ _ (l .loop .i) (c .before .before .before .before .loop-test .taken)
+    (value-large (l .before .before .args .nodes .now) (l .loop .i) _ (c .before .is-element .ensures .0) (c .if1 .taken))
 
 -- src/lib.rt:159:9
 add-i : tie.Need-add-i Inv-loop μ-loop
@@ -61,7 +68,10 @@ loop-less c = omega arith
 
 -- src/lib.rt:151:5
 loop-again : tie.Need-loop-again Inv-loop μ-loop
-loop-again c = walk-more _ _ _ (c .before .before .before .before .loop .i) (c .before .before .before .before .loop .inv) (c .before .before .before .loop-test .taken) (value-small (c .before .before .before .before .before .args .nodes .now) (c .before .before .before .before .loop .i) (c .if1 .left))
+loop-again c =
+    let l = c .before .before .before .before .before in
+    walk-more _ _ _ (l .loop .i) (l .loop .inv) (c .before .before .before .before .loop-test .taken)
+    (value-small (l .before .before .args .nodes .now) (l .loop .i) _ (c .before .is-element .ensures .0) (c .if1 .left))
 
 -- src/lib.rt:146:1
 returns-2 : tie.Need-returns-2 Inv-loop μ-loop
@@ -81,6 +91,7 @@ values-small-spec =
     add-value
     mul-value-2
     shared-slice-read-value
+    is-element-requires
     returns
     add-i
     loop-less

@@ -14,11 +14,14 @@ abbrev μ-loop : tie.MeasureT-loop
 loop-holds : tie.Need-loop-holds Inv-loop μ-loop
 loop-holds c = search needs
 
-mul-if1 : tie.Need-mul-if1 Inv-loop μ-loop
-mul-if1 c = search needs
+mul-is-element : tie.Need-mul-is-element Inv-loop μ-loop
+mul-is-element c = search needs
 
-shared-slice-read-if1 : tie.Need-shared-slice-read-if1 Inv-loop μ-loop
-shared-slice-read-if1 c = search needs
+shared-slice-read-is-element : tie.Need-shared-slice-read-is-element Inv-loop μ-loop
+shared-slice-read-is-element c = search needs
+
+is-element-requires : tie.Need-is-element-requires Inv-loop μ-loop
+is-element-requires c κs = search needs
 
 returns : tie.Need-returns Inv-loop μ-loop
 returns c = search needs
@@ -42,8 +45,9 @@ first-large-spec =
     Inv-loop
     μ-loop
     loop-holds
-    mul-if1
-    shared-slice-read-if1
+    mul-is-element
+    shared-slice-read-is-element
+    is-element-requires
     returns
     add-i
     loop-less
