@@ -215,8 +215,7 @@ fn value_of<'a>(
         layout,
         point,
         n,
-    )
-    .to_u64()
+    ).to_u64()
 }
 
 // The values of the input expressions of eight pairs from a place on: those of a lookup, and of what follows it.
