@@ -2,26 +2,25 @@
 use mathlib.Core.Path.{_≡_, refl, sym, ap, _∙_}
 use mathlib.Core.Bool.{Bool, true, false, cond, _&&_}
 use mathlib.Core.List.{List, []}
-use Prim.Native.Nat.{ℕ, _+_, _*_, _/_, _%_, _^_, _≤_, _<_, min}
+use Prim.Native.Nat.{ℕ, _+_, _*_, _/_, _^_, _≤_, _<_, min}
 use native.Mathlib.Omega.{arith}
 use native.Mathlib.Nat.{zero-add}
 use lib.Pow.{pow-mono}
 use lib.Dec.{eqb, ltb, leb}
-use lib.ListN.{length, getD, drop}
+use lib.ListN.{length, getD}
 use borrow.Author.Tests.{leb-true, ltb-true, eqb-true, lt-ltb, le-ltb}
 use Rattle.field.specs.Field.{𝔾, val}
 use Rattle.bh.specs.Rows.{placeOf}
-use Rattle.util.specs.Lists.{column, over, allOf, within, written, concat}
+use Rattle.util.specs.Lists.{column, over, allOf, within, concat}
 use Rattle.util.proofs.Tests.{false-true, and-left, and-right, and-both, all-each}
-use Rattle.expression.specs.Expr.{degree, Query}
+use Rattle.expression.specs.Expr.{degree}
 use Rattle.expression.specs.Nodes.{exprOf}
 use Rattle.expression.specs.Value.{valueAt}
 use Rattle.expression.specs.Reader.{Small}
 use Rattle.expression.specs.Point.{environmentOf}
 use Rattle.expression.specs.Queries.{usedQueries, queriesInto, queryWords}
 use Rattle.expression.specs.declared.poly.Layout.{Layout}
-use Rattle.expression.specs.declared.value.Point.{Point}
-use Rattle.expression_entry.specs.Entry.{there, degreeAt, queriesAt, layoutFrom, pointAt, valueWord, fit, valuesInto}
+use Rattle.expression_entry.specs.Entry.{there, degreeAt, queriesAt, layoutFrom, valueWord, fit, valuesInto}
 
 pub chosen : {A : Type 0} (t : Bool) (x y : A) → t ≡ true → x ≡ cond t x y
 chosen t x y e = sym (ap (λ (b : Bool). cond b x y) e)

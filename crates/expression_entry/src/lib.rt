@@ -13,13 +13,13 @@ use words::all_below;
 ghost use mathlib.Core.Path.{_≡_};
 ghost use mathlib.Core.Bool.{_&&_};
 ghost use Prim.Native.Nat.{_+_, _*_, _^_, _≤_, _<_};
-ghost use lib.Dec.{eqb, ltb, leb};
+ghost use lib.Dec.{eqb, ltb};
 ghost use lib.ListN.{length};
-ghost use Rattle.util.specs.Lists.{column, over, allOf, within, firstNo};
+ghost use Rattle.util.specs.Lists.{column, over, allOf, firstNo};
 ghost use Rattle.expression.specs.Reader.{Small};
 ghost use Rattle.expression.specs.Queries.{queriesInto};
 ghost use Rattle.backend.specs.Questions.{circuitQuestions};
-ghost use Rattle.expression_entry.specs.Entry.{there, degreeAt, queriesAt, layoutFrom, valueWord, valuesInto};
+ghost use Rattle.expression_entry.specs.Entry.{degreeAt, queriesAt, layoutFrom, valueWord, valuesInto};
 
 // The degree of node n, 1025 where it is more, 0 where there is no node.
 #[no_mangle]

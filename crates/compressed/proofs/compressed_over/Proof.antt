@@ -1,6 +1,6 @@
 -- `compressed_over` meets its contract: a running power and a running sum. Assumes nothing.
 use borrow.Author.Needs.{needs}
-use Prim.Native.Nat.{ℕ, _-_, _≤_}
+use Prim.Native.Nat.{_-_, _≤_}
 use native.Mathlib.Omega.{arith}
 use Rattle.goldilocks.specs.Element.{elem}
 use Rattle.expression.specs.Point.{environmentOf, pointOf, layoutOf}
