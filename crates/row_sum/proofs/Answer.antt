@@ -12,7 +12,7 @@ use Rattle.field.specs.Field.{val}
 use Rattle.util.specs.Lists.{askedOf, firstNo}
 use Rattle.util.proofs.First.{first-next, first-number, first-append, first-refused, first-of, numbered-of}
 use Rattle.expression.specs.declared.poly.Layout.{Layout}
-use Rattle.backend.specs.Circuit.{circuitOf, copied}
+use Rattle.backend.specs.Circuit.{wordK, circuitOf, copied}
 use Rattle.backend.specs.Questions.{circuitQuestions}
 use Rattle.backend.proofs.Answers.{says-no, says-yes}
 use Rattle.preprocessor.specs.Pieces.{numbersOf}
@@ -78,15 +78,15 @@ module _ (ws witness columns nodes challenges y : List ℕ) where
       yes-16 : sixteen ≡ true
       yes-16 = says-yes r sixteen e h
 
-      pub summable : (l : Layout) → l ≡ sumLayout ws → Summable ws nodes y l (getD ws 0 0)
-      summable l q =
+      pub summable : (l : Layout) → l ≡ sumLayout ws → (k : ℕ) → k ≡ wordK ws → Summable ws nodes y l k
+      summable l q k m =
           let p = sixteen-yes (circuitOf ws) witness columns nodes challenges y yes-16 in
           record {
             accepted = a;
-            k-is = sym (known.k-is ws a);
+            k-is = m ∙ sym (known.k-is ws a);
             layout-is = q;
             nodes-are = p .1;
-            values-are = p .0 ∙ known.k-is ws a;
+            values-are = p .0 ∙ known.k-is ws a ∙ sym m;
           }
 
       pub answered : (s : ℕ) → s ≡ val (sumOf ws witness columns nodes challenges y)

@@ -14,7 +14,7 @@ use Rattle.util.proofs.Tests.{false-true, by-test, and-left, and-right}
 use Rattle.util.proofs.Same.{words-same}
 use Rattle.expression.specs.declared.poly.Layout.{Layout}
 use Rattle.expression.proofs.FlatLength.{flat-length}
-use Rattle.backend.specs.Circuit.{Circuit, circuitOf, rowsOf, numWitness, numUser}
+use Rattle.backend.specs.Circuit.{Circuit, wordK, circuitOf, rowsOf, numWitness, numUser}
 use Rattle.backend.specs.Questions.{small}
 use Rattle.backend.proofs.Answers.{says-no, says-yes}
 use Rattle.backend.proofs.Numbers.{polys}
@@ -171,14 +171,15 @@ module _ (ws : List ℕ) (a : Accepted ws) (v : Numbers) (e : v ≡ numbersOf (c
   words-fit l q =
       rw q (native.Mathlib.Nat.mul-le-mul (known.few-witness ws a) (known.rows-few ws a))
 
-  pub lengths-are : (witness columns nodes challenges y : ℕ) (l : Layout) (words composed : ℕ) → l ≡ sumLayout ws
+  pub lengths-are : (witness columns nodes challenges y : ℕ) (l : Layout) (words composed k : ℕ) → l ≡ sumLayout ws
       → words ≡ columnWords (circuitOf ws)
       → composed ≡ min most (composedNodes (circuitOf ws))
+      → k ≡ wordK ws
       → nodes < 2 ^ 62
-      → (eqb witness (l .witness * l .rows) && eqb columns words && eqb challenges (v .user + 3) && eqb y (getD ws 0 0) && eqb nodes (composed * 4))
+      → (eqb witness (l .witness * l .rows) && eqb columns words && eqb challenges (v .user + 3) && eqb y k && eqb nodes (composed * 4))
       ≡ lengthsRight (circuitOf ws) witness columns nodes challenges y
   unfolding lengthsRight numbersOf sumLayout
-  lengths-are witness columns nodes challenges y l words composed q w n h =
+  lengths-are witness columns nodes challenges y l words composed k q w n m h =
       ap₂ _&&_
       (ap₂ _&&_
       (ap₂ _&&_
@@ -187,5 +188,5 @@ module _ (ws : List ℕ) (a : Accepted ws) (v : Numbers) (e : v ≡ numbersOf (c
       ∙ ap (λ (n : ℕ). eqb witness (numWitness (circuitOf ws) * n)) (sym (known.rows-is ws a)))
       (ap (eqb columns) w))
       (ap (λ (v : Numbers). eqb challenges (v .user + 3)) e))
-      (ap (eqb y) (sym (known.k-is ws a))))
+      (ap (eqb y) (m ∙ sym (known.k-is ws a))))
       (counted-nodes (composedNodes (circuitOf ws)) composed nodes n h)

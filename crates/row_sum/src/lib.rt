@@ -13,6 +13,7 @@ use prepare::copied_of;
 use prepare::numbers;
 use preprocessor::Numbers;
 use questions::first_no;
+use reader::k_of;
 use value::value;
 use words::all_elements;
 ghost use mathlib.Core.Path.{_≡_};
@@ -67,7 +68,7 @@ fn lengths_right(
     let layout = sum_layout(circuit, v);
     let words = column_words(circuit, v);
     let composed = composed_nodes(circuit, v);
-    let k = circuit[0] as usize;
+    let k = k_of(circuit) as usize;
     (witness == layout.witness * layout.rows)
         & (columns == words)
         & (challenges == v.user + 3)
@@ -208,7 +209,7 @@ fn sum_prepared<'a>(
         return RowSum { number: 16, sum: 0 };
     }
     let layout = sum_layout(circuit, v);
-    let k = circuit[0] as usize;
+    let k = k_of(circuit) as usize;
     let sum = sum_rows(circuit, witness, columns, nodes, challenges, y, layout, k);
     RowSum {
         number: 0,

@@ -1,8 +1,6 @@
 -- `sum_prepared` meets its contract: a yes to 16 tells what the sum requires. Assumes nothing.
 use mathlib.Core.Path.{ap, _∙_}
-use native.Mathlib.Omega.{arith}
 use Rattle.field.specs.Field.{val}
-use Rattle.prepare.proofs.Accepted.{laid-of}
 use Rattle.row_sum.proofs.Answer.{refused-late, summable, answered}
 use borrow.Author.Needs.{needs}
 use Rattle.row_sum.proofs.sum_prepared.Statement.{statement}
@@ -19,13 +17,13 @@ returns c =
 sum-layout-requires : tie.Need-sum-layout-requires
 sum-layout-requires c κs = search needs
 
-shared-slice-read-k : tie.Need-shared-slice-read-k
-shared-slice-read-k c = omega (arith, laid-of (c .before .before .before .before .before .before .before .before .before .before .before .args .circuit .now) (c .before .before .before .before .before .before .before .before .before .before .before .pre .accepted) .long)
+k-of-requires : tie.Need-k-of-requires
+k-of-requires c κs = search needs
 
 sum-rows-requires : tie.Need-sum-rows-requires
 sum-rows-requires c κs =
     let a = c .before .before .before .before .before .before .before .before .before .before .before .args in
-    summable (a .circuit .now) (a .witness .now) (a .columns .now) (a .nodes .now) (a .challenges .now) (a .y .now) (c .before .before .before .before .before .before .before .before .before .before .before .pre .accepted) _ (c .before .before .before .question-16 .ensures) (c .before .before .if1 .left) _ (c .before .sum-layout .ensures)
+    summable (a .circuit .now) (a .witness .now) (a .columns .now) (a .nodes .now) (a .challenges .now) (a .y .now) (c .before .before .before .before .before .before .before .before .before .before .before .pre .accepted) _ (c .before .before .before .question-16 .ensures) (c .before .before .if1 .left) _ (c .before .sum-layout .ensures) _ (c .k-of .ensures)
 
 to-u64-requires : tie.Need-to-u64-requires
 to-u64-requires c κs = search needs
@@ -42,7 +40,7 @@ sum-prepared-spec =
     question-16-requires
     returns
     sum-layout-requires
-    shared-slice-read-k
+    k-of-requires
     sum-rows-requires
     to-u64-requires
     returns-2)
