@@ -11,13 +11,15 @@ use Rattle.field.specs.Algebra.{product}
 use Rattle.bh.specs.Rows.{prevRow, order, lagrangeRow}
 use Rattle.util.specs.Lists.{column, firstNo}
 use Rattle.backend.specs.Questions.{q10, circuitQuestions, goodK}
-use Rattle.preprocessor.specs.Compose.{constraintCut, zCut, CutsAlike}
+use Rattle.preprocessor.specs.Compose.{constraintCut, zCut, CutsAlike, composedWords}
 use Rattle.preprocessor.specs.Permutation.{label}
 use Rattle.calls.specs.Build.{checkBuild, buildOf}
+use Rattle.calls.specs.RowSum.{checkSum}
 use Rattle.calls.specs.Stages.{mOf}
 use Rattle.field.specs.Prime.{P}
+use Rattle.goldilocks.specs.Parse.{Among, parsed, numberOf}
 use Rattle.expression.specs.Expr.{Expr}
-use Rattle.backend.specs.Circuit.{Circuit, Cell}
+use Rattle.backend.specs.Circuit.{Circuit, Cell, circuitOf}
 use Rattle.examples.specs.Open.{everything}
 
 abbrev pub four : ℕ → ℕ → ℕ → ℕ → List ℕ
@@ -158,6 +160,22 @@ value-last = refl
 pub value-p : checkBuild (single 1) [] (3 ∷ P ∷ []) (5 ∷ 7 ∷ []) (four 9 9 9 9) (replicate 200 9) ≡ 13
 unfolding everything
 value-p = refl
+
+-- the number of `TooLarge` where the word p stands: among the words of a call, of the circuit, of a row sum
+pub value-p-told : checkBuild (single 1) [] (3 ∷ P ∷ []) (5 ∷ 7 ∷ []) (four 9 9 9 9) (replicate 200 9) ≡ numberOf Among.callWords (parsed P)
+unfolding everything
+value-p-told = refl
+
+pub preprocess-p-told : firstNo circuitQuestions
+    (1 ∷ 0 ∷ 20 ∷ 0 ∷ 20 ∷ 1 ∷ 22 ∷ 1 ∷ 24 ∷ 0 ∷ 24 ∷ 0 ∷ 24 ∷ 0 ∷ 24 ∷ 0 ∷ 24 ∷ 1 ∷ 25 ∷ 1 ∷ P ∷ 0 ∷ 1 ∷ 0 ∷ 1 ∷ 0 ∷ 1 ∷ [])
+    ≡ numberOf Among.circuitWords (parsed P)
+unfolding everything
+preprocess-p-told = refl
+
+pub summed-p-told : checkSum (single 1) (3 ∷ P ∷ []) (four 0 0 0 0) (composedWords (circuitOf (single 1))) (5 ∷ 7 ∷ 2 ∷ []) (1 ∷ [])
+    ≡ numberOf Among.sumWords (parsed P)
+unfolding everything
+summed-p-told = refl
 
 -- With word 1 at 0, degree 1024 passes, 1025 gives 10.
 pub tower : ℕ → Expr
