@@ -51,12 +51,12 @@ pub fn same_words(a: &[u64], b: &[u64]) -> bool
 // Where the window that begins at word `at` ends.
 fn window_end(at: usize, end: usize) -> usize
     requires { ⌜ at < end ⌝ }
-    ensures { λ r. ⌜ (at < r) × ((r ≤ end) × (r ≤ at + 4096)) ⌝ }
+    ensures { λ r. ⌜ (at < r) × ((r ≤ end) × (r ≤ at + 2048)) ⌝ }
 {
-    if end - at <= 4096 {
+    if end - at <= 2048 {
         return end;
     }
-    at + 4096
+    at + 2048
 }
 
 // Are words `at` to `end` of `nodes` those of the composed expression?
@@ -68,10 +68,10 @@ fn same_window(
     at: usize,
     end: usize,
 ) -> bool
-    requires { ⌜ Prepared (now circuit) (now copied) v × ((length (now nodes) ≡ composedNodes (circuitOf (now circuit)) * 4) × ((at ≤ end) × ((end ≤ length (now nodes)) × (end ≤ at + 4096)))) ⌝ }
+    requires { ⌜ Prepared (now circuit) (now copied) v × ((length (now nodes) ≡ composedNodes (circuitOf (now circuit)) * 4) × ((at ≤ end) × ((end ≤ length (now nodes)) × (end ≤ at + 2048)))) ⌝ }
     ensures { λ r. ⌜ r ≡ sameWords (take (end - at) (drop at (now (nodes .entry)))) (take (end - at) (drop at (composedWords (circuitOf (now (circuit .entry)))))) ⌝ }
 {
-    let mut window = [0; 4096];
+    let mut window = [0; 2048];
     let count = end - at;
     compose_nodes(circuit, copied, v, at, &mut window);
     same_words(&nodes[at..end], &window[0..count])

@@ -11,7 +11,7 @@ ghost use Rattle.cycles.specs.Chains.{Linked};
 
 // Is cell `n` of the cells from `start` on none of those before it? Only cells of its chain can be the same: they are met from the last
 // down to `start`.
-fn fresh(cells: &[u64], heads: &[u64; 1024], earlier: &[u64; 4096], start: usize, n: usize) -> bool
+fn fresh(cells: &[u64], heads: &[u16; 1024], earlier: &[u16; 4096], start: usize, n: usize) -> bool
     requires { ⌜ (start + n < length (now cells) / 2) × (start + n < 4096) × Linked (now cells) (now heads) (now earlier) (start + n) ⌝ }
     ensures { λ r. ⌜ r ≡ def.fresh (cellAt (now (cells .entry)) (start + n)) (def.run (now (cells .entry)) start n) ⌝ }
 {
@@ -32,20 +32,20 @@ fn fresh(cells: &[u64], heads: &[u64; 1024], earlier: &[u64; 4096], start: usize
 
 // Puts cell `at` into its chain: `heads` has one more than the number of the last cell of each chain, 0 for none, and `earlier` what
 // `heads` had before the cell was put in.
-fn link(cells: &[u64], heads: &mut [u64; 1024], earlier: &mut [u64; 4096], at: usize)
+fn link(cells: &[u64], heads: &mut [u16; 1024], earlier: &mut [u16; 4096], at: usize)
     requires { ⌜ (at < length (now cells) / 2) × (at < 4096) × Linked (now cells) (now heads) (now earlier) at ⌝ }
     ensures { λ r. ⌜ Linked (now (cells .entry)) (now (heads .exit)) (now (earlier .exit)) (at + 1) ⌝ }
 {
     let chain = (cells[at * 2 + 1] % 1024) as usize;
     earlier[at] = heads[chain];
-    heads[chain] = at as u64 + 1;
+    heads[chain] = at as u16 + 1;
 }
 
 // Is that cell good: its polynomial in range, its row from 1 to `rows` − 1, and none of those before it?
 fn good_cell(
     cells: &[u64],
-    heads: &[u64; 1024],
-    earlier: &[u64; 4096],
+    heads: &[u16; 1024],
+    earlier: &[u16; 4096],
     start: usize,
     n: usize,
     polys: u64,
@@ -66,8 +66,8 @@ fn good_cell(
 // Is the cycle of `n` cells from `start` on good? If so, its cells are linked.
 fn good_cycle(
     cells: &[u64],
-    heads: &mut [u64; 1024],
-    earlier: &mut [u64; 4096],
+    heads: &mut [u16; 1024],
+    earlier: &mut [u16; 4096],
     start: usize,
     n: usize,
     polys: u64,

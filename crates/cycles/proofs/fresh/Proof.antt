@@ -42,6 +42,14 @@ mul-j c = search needs
 element-copy-out-j : tie.Need-element-copy-out-j Inv-loop μ-loop
 element-copy-out-j c = search needs
 
+cast-j : tie.Need-cast-j Inv-loop μ-loop
+cast-j c =
+    let s = c .before .before .before in
+    let d = down-first (s .args .cells .now) (s .args .start + s .args .n) (s .args .heads .now) (s .args .earlier .now) (s .pre .2) in
+    let l = d .low in
+    let m = s .pre .1 in
+    record { fits = omega arith }
+
 loop-holds : tie.Need-loop-holds Inv-loop μ-loop
 loop-holds c =
     let s = c .before .before .before in
@@ -83,6 +91,15 @@ mul-j-2 c = search needs
 element-copy-out-j-2 : tie.Need-element-copy-out-j-2 Inv-loop μ-loop
 element-copy-out-j-2 c = search needs
 
+cast-j-2 : tie.Need-cast-j-2 Inv-loop μ-loop
+cast-j-2 c =
+    let h = c .before .before .before .before .before in
+    let s = c .before .before .before .before .before .before .before .before .before in
+    let l = down-less (s .args .cells .now) (s .args .start + s .args .n) (s .args .heads .now) (s .args .earlier .now) (s .pre .2) (h .loop .j) (h .loop .inv) (let l = c .before .before .before .before .loop-test .taken in omega arith) in
+    let d = h .loop .inv .low in
+    let m = s .pre .1 in
+    record { fits = omega arith }
+
 loop-less : tie.Need-loop-less Inv-loop μ-loop
 loop-less c =
     let h = c .before .before .before .before .before in
@@ -117,6 +134,7 @@ fresh-spec =
     shared-slice-read-row
     mul-j
     element-copy-out-j
+    cast-j
     loop-holds
     sub-other
     mul-if1
@@ -129,6 +147,7 @@ fresh-spec =
     returns
     mul-j-2
     element-copy-out-j-2
+    cast-j-2
     loop-less
     loop-again
     returns-2)

@@ -28,6 +28,9 @@ mul-earlier-2 c = search needs
 element-write-earlier : tie.Need-element-write-earlier
 element-write-earlier c = search needs
 
+cast-heads : tie.Need-cast-heads
+cast-heads c = search needs
+
 add-heads : tie.Need-add-heads
 add-heads c = search needs
 
@@ -54,6 +57,7 @@ link-spec =
     element-copy-out-earlier
     mul-earlier-2
     element-write-earlier
+    cast-heads
     add-heads
     mul-heads
     element-write-heads
