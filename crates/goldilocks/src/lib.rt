@@ -1,12 +1,12 @@
 // The field type. A field value is held as a word, any word that is its number modulo p: `from_u64` takes the word as it is, each
 // operation reduces what it must, and `to_u64` gives the number below p. `word` promises no more than some word of the element.
-use field::add_u64;
 use field::invert_u64;
-use field::mul_u64;
 use field::neg_u64;
 use field::pow_u64;
+use field::product_word;
 use field::reduce_u64;
 use field::sub_u64;
+use field::sum_word;
 ghost use mathlib.Core.Path.{_≡_};
 ghost use Prim.Native.Nat.{_<_};
 ghost use lib.ListN.{length, getD};
@@ -93,7 +93,7 @@ impl Goldilocks {
     pub fn add(self, b: Goldilocks) -> Goldilocks
         ensures { λ r. ⌜ elem r ≡ 𝔾 .add (elem self) (elem b) ⌝ }
     {
-        Goldilocks(add_u64(self.0, b.0))
+        Goldilocks(sum_word(self.0, b.0))
     }
 
     // self - b.
@@ -114,7 +114,7 @@ impl Goldilocks {
     pub fn mul(self, b: Goldilocks) -> Goldilocks
         ensures { λ r. ⌜ elem r ≡ 𝔾 .mul (elem self) (elem b) ⌝ }
     {
-        Goldilocks(mul_u64(self.0, b.0))
+        Goldilocks(product_word(self.0, b.0))
     }
 
     // self to the power e.
