@@ -4,11 +4,14 @@ use compressed::row_after;
 use degree::degree_of;
 use expression::poly::Layout;
 use expression::value::Point;
+use goldilocks::Goldilocks;
+use leaves::context;
+use leaves::word;
 use node::index;
 use node::word_at;
 use query::used_queries;
 use questions::first_no;
-use value::value;
+use value::lower;
 use words::all_below;
 ghost use mathlib.Core.Path.{_≡_};
 ghost use mathlib.Core.Bool.{_&&_};
@@ -16,6 +19,11 @@ ghost use Prim.Native.Nat.{_+_, _*_, _^_, _≤_, _<_};
 ghost use lib.Dec.{eqb, ltb};
 ghost use lib.ListN.{length};
 ghost use Rattle.util.specs.Lists.{column, over, allOf, firstNo};
+ghost use Rattle.field.specs.Field.{𝔾};
+ghost use Rattle.goldilocks.specs.Element.{elem};
+ghost use Rattle.expression.specs.Nodes.{exprOf};
+ghost use Rattle.expression.specs.Value.{valueAt};
+ghost use Rattle.expression.specs.Point.{Placed, environmentOf};
 ghost use Rattle.expression.specs.Reader.{Small};
 ghost use Rattle.expression.specs.Queries.{queriesInto};
 ghost use Rattle.backend.specs.Questions.{circuitQuestions};
@@ -76,6 +84,25 @@ fn layout_from(k: usize, words: &[u64]) -> Layout
     }
 }
 
+// The value of node n at a point; a leaf is read at once.
+fn value_of<'a>(
+    nodes: &'a [u64],
+    circuit: &'a [u64],
+    witness: &'a [u64],
+    columns: &'a [u64],
+    challenges: &'a [u64],
+    layout: Layout,
+    point: Point,
+    n: usize,
+) -> Goldilocks
+    requires { ⌜ (n * 4 + 4 ≤ length (now nodes)) × (Small layout × Placed point) ⌝ }
+    ensures { λ r. ⌜ elem r ≡ valueAt 𝔾 (environmentOf (now (circuit .entry)) (now (witness .entry)) (now (columns .entry)) (now (challenges .entry)) layout point) (exprOf (now (nodes .entry)) n) (point .row) ⌝ }
+{
+    let c = context(layout, point);
+    let s = [nodes, circuit, witness, columns, challenges];
+    Goldilocks::from_u64(lower(&s, &c, nodes.len() / 4, word(n)))
+}
+
 // The value of node n at every row, through the row order once.
 fn values<'a>(
     nodes: &'a [u64],
@@ -97,7 +124,7 @@ fn values<'a>(
     let mut place: usize = 0;
     while place < rows {
         let e = word_at(eq, row);
-        let x = value(
+        let x = value_of(
             nodes,
             circuit,
             witness,

@@ -35,8 +35,8 @@ loop-holds c =
 word-at-requires : tie.Need-word-at-requires Inv-loop μ-loop
 word-at-requires c κs = search needs
 
-value-requires : tie.Need-value-requires Inv-loop μ-loop
-value-requires c κs =
+value-of-requires : tie.Need-value-of-requires Inv-loop μ-loop
+value-of-requires c κs =
     let l = c .before .before in
     let s = start l in (
       s .pre .0,
@@ -89,7 +89,7 @@ loop-again c =
           (value-word (a .nodes .now) (a .circuit .now) (a .witness .now) (a .columns .now) (a .challenges .now) (a .layout) (a .k) (a .eq .now) (a .n) (l .loop .row) (l .loop .place) _ _ _
           (placed-at (a .k) (l .loop .row) (l .loop .place) (s .pre .2) (s .pre .3) inside (l .loop .inv .0))
           (c .before .before .before .word-at .ensures)
-          (c .before .before .value .ensures)
+          (c .before .before .value-of .ensures)
           (c .before .to-u64 .ensures)
           ∙ ap (λ (b : ℕ). valueWord (a .nodes .now) (a .circuit .now) (a .witness .now) (a .columns .now) (a .challenges .now) (a .layout) (a .k) (a .eq .now) (a .n) b) (l .loop .inv .0)),
     )
@@ -111,7 +111,7 @@ values-spec =
     rows-of-requires
     loop-holds
     word-at-requires
-    value-requires
+    value-of-requires
     to-u64-requires
     mul-out
     slice-write-out
