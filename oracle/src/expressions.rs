@@ -1,6 +1,6 @@
 //! Expressions alone: value on every row, degree and queries, by the Rust's
 //! `evaluate`, `degree`, `used_query`, beside the library's entry points
-//! (crate expression_entry). Half of the cases are trees as document 01 lays them,
+//! (crate oracle_entry). Half of the cases are trees as document 01 lays them,
 //! half are any node words, which the definition reads as a tree too. `stub` puts the
 //! Rust in the library's place, whole or with one fault, to try the comparison itself.
 use super::generate::{tree, value, Scope};
@@ -400,7 +400,7 @@ pub fn compare(library: Library, seed: u64, count: u64) {
         println!("the Rust stands in the library's place; fault: {}", FAULTS[fault as usize]);
     }
     if !library.has("expression_values") {
-        println!("skipped: no target/staticlib/libexpression_entry.a (rt staticlib expression_entry)");
+        println!("skipped: no target/staticlib/liboracle_entry.a (rt staticlib oracle_entry)");
         return;
     }
     catch_faults();

@@ -7,8 +7,8 @@ use native.Mathlib.Nat.{mul-div-cancel}
 use native.Mathlib.Omega.{arith}
 use lib.ListN.{length, getD, drop}
 use borrow.Author.Tests.{not-true, not-false}
-use Rattle.util.specs.Lists.{column, total, split, firstNo}
-use Rattle.util.proofs.First.{first-none, first-next, first-number, first-yes, first-append, first-refused}
+use Rattle.lists.specs.Lists.{column, total, split, firstNo}
+use Rattle.lists.proofs.First.{first-none, first-next, first-number, first-yes, first-append, first-refused}
 use Rattle.expression.specs.Nodes.{exprOf}
 use Rattle.backend.specs.Circuit.{Section, wordK, entries, bodyOf, pairsOf, cellAt, cellsOf, statedOf, circuitOf, numPoly, numUser}
 use Rattle.backend.specs.Layout.{laidOut, nodesInRange}

@@ -4,7 +4,7 @@ use mathlib.Core.Bool.{Bool, true, _&&_}
 use Prim.Native.Nat.{ℕ}
 use lib.Dec.{eqb}
 use borrow.Author.Tests.{eq-eqb, eqb-true}
-use Rattle.util.proofs.Tests.{and-left, and-right, eqb-sym}
+use Rattle.lists.proofs.Tests.{and-left, and-right, eqb-sym}
 use Rattle.backend.specs.Circuit.{Cell, sameCell}
 
 pub same-self : (x : Cell) → sameCell x x ≡ true

@@ -10,13 +10,13 @@ use native.Mathlib.Omega.{arith}
 use lib.Dec.{eqb, leb, ltb, eqb·suc-zero, leb·zero, leb·suc-suc}
 use lib.ListN.{length, getD, take, drop, drop-of-length-le}
 use borrow.Author.Tests.{leb-true, le-leb, lt-leb, ltb-true}
-use Rattle.util.specs.Lists.{column, allOf, largest, split, total}
-use Rattle.util.proofs.Tests.{all-append, all-each, and-left, and-right, and-both}
-use Rattle.util.proofs.Columns.{map-column, column-suc, column-cong, column-of}
-use Rattle.util.proofs.Totals.{largest-append}
-use Rattle.util.proofs.Walks.{all-map}
-use Rattle.util.proofs.Searches.{column-part, total-drop, split-drop}
-use Rattle.util.proofs.Once.{same-tests}
+use Rattle.lists.specs.Lists.{column, allOf, largest, split, total}
+use Rattle.lists.proofs.Tests.{all-append, all-each, and-left, and-right, and-both}
+use Rattle.lists.proofs.Columns.{map-column, column-suc, column-cong, column-of}
+use Rattle.lists.proofs.Totals.{largest-append}
+use Rattle.lists.proofs.Walks.{all-map}
+use Rattle.lists.proofs.Searches.{column-part, total-drop, split-drop}
+use Rattle.lists.proofs.Once.{same-tests}
 use Rattle.expression.specs.Expr.{Expr, Exprs, degree, evaluate, spread, values, running, degreeOps, exprsOf, distributePowers}
 use Rattle.expression.specs.Nodes.{exprOf}
 use Rattle.backend.specs.Circuit.{Circuit, Pair, word, pairAt, pairsOf, statedOf, numUser}

@@ -11,13 +11,13 @@ use lib.Dec.{eqb, leb, ltb, leb·suc-suc}
 use lib.Pow.{pow-pos, shl-exact}
 use borrow.Author.Tests.{not-true, not-false, lt-leb, leb-true, eqb-true, ne-eqb}
 use Rattle.field.specs.Prime.{P}
-use Rattle.util.specs.Lists.{column, allOf, total, split}
-use Rattle.util.proofs.Tests.{false-true, and-left, and-right, all-true}
-use Rattle.util.proofs.All.{all-weaken}
-use Rattle.util.proofs.Lists.{split-length}
-use Rattle.util.proofs.Columns.{column-length, column-cong, column-of, map-column}
-use Rattle.util.proofs.Runs.{take-column}
-use Rattle.util.proofs.Walks.{all-map, all-same, all-parts}
+use Rattle.lists.specs.Lists.{column, allOf, total, split}
+use Rattle.lists.proofs.Tests.{false-true, and-left, and-right, all-true}
+use Rattle.lists.proofs.All.{all-weaken}
+use Rattle.lists.proofs.Lists.{split-length}
+use Rattle.lists.proofs.Columns.{column-length, column-cong, column-of, map-column}
+use Rattle.lists.proofs.Runs.{take-column}
+use Rattle.lists.proofs.Walks.{all-map, all-same, all-parts}
 use Rattle.expression.specs.Nodes.{wordOf, exprOf}
 use Rattle.backend.specs.Circuit.{Section, entry, entries, wordK, bodyOf, word, wordEach, Round, roundAt, Pair, pairAt, circuitOf, numWitness, numUser, numPoly}
 use Rattle.backend.specs.Layout.{kindIs}

@@ -11,8 +11,8 @@ use lib.ListN.{length, getD, take, drop, length-take, length-drop}
 use lib.Dec.{eqb, leb, ltb}
 use lib.Pow.{pow-pos, pow-lt, pow-mono, pow-add}
 use borrow.Author.Tests.{eq-eqb, ne-eqb, eqb-true, leb-true}
-use Rattle.util.specs.Lists.{allOf, within}
-use Rattle.util.proofs.Tests.{and-left, and-right}
+use Rattle.lists.specs.Lists.{allOf, within}
+use Rattle.lists.proofs.Tests.{and-left, and-right}
 use Rattle.backend.specs.Circuit.{Section, sections, place, sectionAt, entry, entries, contents, wordK, startOf, wordsIn, bodyOf}
 use Rattle.backend.specs.Questions.{largestK, allowed, q1, q2, q3, follow, q4}
 use Rattle.backend.specs.Laid.{Laid, endOf, partOf}

@@ -3,7 +3,7 @@ use mathlib.Core.Bool.{Bool, true, false, not, _&&_}
 use mathlib.Core.List.{List}
 use Prim.Native.Nat.{ℕ, _+_, _-_}
 use lib.Dec.{ltb}
-use Rattle.util.specs.Lists.{column, allOf, within}
+use Rattle.lists.specs.Lists.{column, allOf, within}
 use Rattle.backend.specs.Circuit.{Cell, cellAt, sameCell}
 
 -- n cells of a body, from `start` on

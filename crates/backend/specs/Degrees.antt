@@ -4,7 +4,7 @@ use mathlib.Core.List.{List, _∷_, _++_, map}
 use mathlib.Core.Option.{Option}
 use Prim.Native.Nat.{ℕ, _+_, _*_}
 use lib.Dec.{leb}
-use Rattle.util.specs.Lists.{column, allOf, largest}
+use Rattle.lists.specs.Lists.{column, allOf, largest}
 use Rattle.expression.specs.Expr.{Expr, degree}
 use Rattle.expression.specs.Nodes.{exprOf}
 use Rattle.backend.specs.Circuit.{Pair, word, pairAt}

@@ -4,7 +4,7 @@ use mathlib.Core.List.{List}
 use Prim.Native.Nat.{ℕ, _+_, _≤_}
 use lib.ListN.{length, getD}
 use Rattle.backend.specs.Circuit.{Section, contents, wordK, startOf, entries, wordsIn, bodyOf, circuitOf, numWitness, numUser}
-use Rattle.util.specs.Lists.{total, All}
+use Rattle.lists.specs.Lists.{total, All}
 use Rattle.backend.specs.Questions.{largestK}
 use Rattle.backend.specs.declared.Part.{Part}
 

@@ -5,7 +5,7 @@ use Prim.Native.Nat.{ℕ, zero, suc, _+_, _/_, _^_}
 use lib.ListN.{length}
 use lib.IntN.{natAbs}
 use lib.Dec.{eqb, leb, ltb}
-use Rattle.util.specs.Lists.{below, column, allOf, countOf, concat}
+use Rattle.lists.specs.Lists.{below, column, allOf, countOf, concat}
 use Rattle.expression.specs.Nodes.{wordOf, Kind, kindOf, signed}
 
 -- "nodes (4 words)"

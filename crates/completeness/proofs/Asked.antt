@@ -8,15 +8,15 @@ use lib.ListN.{length, getD, length-append}
 use lib.Dec.{eqb}
 use borrow.Author.Tests.{eq-eqb, eqb-true, ltb-true, lt-ltb}
 use Rattle.field.specs.Prime.{P}
-use Rattle.util.specs.Lists.{total, allOf, askedOf, firstNo, All}
-use Rattle.util.proofs.Tests.{all-each, and-left, and-right, same-words}
-use Rattle.util.proofs.All.{all-from, all-join}
-use Rattle.util.proofs.First.{first-yes, Numbered, first-append, first-both, first-of, numbered-of}
+use Rattle.lists.specs.Lists.{total, allOf, askedOf, firstNo, All}
+use Rattle.lists.proofs.Tests.{all-each, and-left, and-right, same-words}
+use Rattle.lists.proofs.All.{all-from, all-join}
+use Rattle.lists.proofs.First.{first-yes, Numbered, first-append, first-both, first-of, numbered-of}
 use Rattle.backend.specs.Circuit.{circuitOf, rowsOf, numWitness, numUser}
 use Rattle.backend.specs.Questions.{circuitQuestions, small}
 use Rattle.preprocessor.specs.Compose.{composedWords}
-use Rattle.calls.specs.Build.{Lent, buildQuestions, checkBuild, columnWords, q12, q13}
-use Rattle.calls.specs.RowSum.{LentSum, sumQuestions, checkSum, q16}
+use Rattle.hyperplonk_spec.specs.Build.{Lent, buildQuestions, checkBuild, columnWords, q12, q13}
+use Rattle.hyperplonk_spec.specs.RowSum.{LentSum, sumQuestions, checkSum, q16}
 
 pub numbered : All Numbered circuitQuestions
 unfolding circuitQuestions

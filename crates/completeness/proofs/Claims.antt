@@ -1,7 +1,7 @@
 -- All claims, proved. Assumes nothing.
-use Rattle.calls.proofs.ReadsBack as ReadsBack
-use Rattle.calls.proofs.ConstraintZero as ConstraintZero
-use Rattle.calls.proofs.Powers as Powers
+use Rattle.hyperplonk_spec.proofs.ReadsBack as ReadsBack
+use Rattle.hyperplonk_spec.proofs.ConstraintZero as ConstraintZero
+use Rattle.hyperplonk_spec.proofs.Powers as Powers
 use Rattle.completeness.specs.Claims.{Claims}
 use Rattle.completeness.proofs.Counts as Counts
 use Rattle.completeness.proofs.Cuts as Cuts

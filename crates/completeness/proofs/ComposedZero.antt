@@ -6,8 +6,8 @@ use mathlib.Core.List.{List, [], _∷_, _++_, map}
 use Prim.Native.Nat.{ℕ, zero, _<_}
 use lib.ListN.{length, getD}
 use Rattle.field.specs.Algebra.{Field, zero-mul}
-use Rattle.util.specs.Lists.{column, All}
-use Rattle.util.proofs.All.{all-get, all-from, all-column}
+use Rattle.lists.specs.Lists.{column, All}
+use Rattle.lists.proofs.All.{all-get, all-from, all-column}
 use Rattle.identities.proofs.Totals.{upTo-cong}
 use Rattle.identities.specs.Lookup as Lookup
 use Rattle.identities.proofs.Lookup.{h-fits}
@@ -19,10 +19,10 @@ use Rattle.preprocessor.specs.Compose.{composedConstraints, compose}
 use Rattle.prover.specs.Lookup.{sumRows, hAt}
 use Rattle.prover.specs.Log.{Log}
 use Rattle.prover.specs.Columns.{powerSum, inputAt, tableAt, mAt, lookupHAt, allCovered, composedEnvironment}
-use Rattle.calls.specs.Meaning.{Embeds, Admitted, EachRow, Premises}
-use Rattle.calls.specs.Composed.{zeroCheckIn, column-at, alpha, LookupHolds}
-use Rattle.calls.proofs.ConstraintZero.{lookup-zero}
-use Rattle.calls.proofs.Powers.{compose-value, sum-composed, power-zeros}
+use Rattle.hyperplonk_spec.specs.Meaning.{Embeds, Admitted, EachRow, Premises}
+use Rattle.hyperplonk_spec.specs.Composed.{zeroCheckIn, column-at, alpha, LookupHolds}
+use Rattle.hyperplonk_spec.proofs.ConstraintZero.{lookup-zero}
+use Rattle.hyperplonk_spec.proofs.Powers.{compose-value, sum-composed, power-zeros}
 use Rattle.completeness.specs.Scope.{Scoped}
 use Rattle.completeness.proofs.ReadColumns.{reads, user-value, constraints-in, gamma-value}
 use Rattle.completeness.proofs.Counts.{h-sums}

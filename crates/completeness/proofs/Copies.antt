@@ -13,8 +13,8 @@ use Rattle.field.specs.Algebra as Algebra
 use Rattle.bh.specs.Sums.{upTo}
 use Rattle.bh.specs.Rows.{rowAt}
 use Rattle.bh.proofs.Order.{row-sum-but-0}
-use Rattle.util.specs.Lists.{below, column, concat, All}
-use Rattle.util.proofs.Columns.{below-length, below-get}
+use Rattle.lists.specs.Lists.{below, column, concat, All}
+use Rattle.lists.proofs.Columns.{below-length, below-get}
 use Rattle.identities.specs.Cycles.{labels}
 use Rattle.identities.specs.Cycles as Cycles
 use Rattle.identities.specs.Copies.{atCell}
@@ -30,8 +30,8 @@ use Rattle.preprocessor.proofs.Cycles.{source-all}
 use Rattle.preprocessor.proofs.Copied.{cells-placed}
 use Rattle.prover.specs.Log.{Log}
 use Rattle.prover.specs.Columns.{copiedAt, permutationAt, identityFactorAt, permutationFactorAt, ratioAt, partAt, stepAt, runningAt}
-use Rattle.calls.specs.Meaning.{Admitted, cellValue, EqualCells, NoZeroFactor}
-use Rattle.calls.specs.Copies.{σ, AreFactors, overCells, Balanced, Keeps, Balances, WholeProduct, ClosesWhen, Closes}
+use Rattle.hyperplonk_spec.specs.Meaning.{Admitted, cellValue, EqualCells, NoZeroFactor}
+use Rattle.hyperplonk_spec.specs.Copies.{σ, AreFactors, overCells, Balanced, Keeps, Balances, WholeProduct, ClosesWhen, Closes}
 use Rattle.completeness.proofs.CellNumbers.{Placed, source-agree, label-agree}
 use Rattle.completeness.proofs.CycleNumbers.{cycles-good, copied-good, value-at}
 use Rattle.completeness.proofs.DemandThreeOf.{eleven-yes, k-positive, k-below-21}

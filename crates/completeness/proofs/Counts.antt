@@ -7,8 +7,8 @@ use mathlib.Core.List.{[], _∷_, _++_}
 use mathlib.Core.Option.{Option, none, some, Option·none-ne-some}
 use Prim.Native.Nat.{ℕ, zero, suc, _+_, _<_}
 use Rattle.field.specs.Algebra.{Field}
-use Rattle.util.specs.Lists.{column, below, allOf, lastWhere, isSome, isAt}
-use Rattle.util.proofs.Tests.{false-true, cond-ite, cond-eqb, all-each, all-not, all-append}
+use Rattle.lists.specs.Lists.{column, below, allOf, lastWhere, isSome, isAt}
+use Rattle.lists.proofs.Tests.{false-true, cond-ite, cond-eqb, all-each, all-not, all-append}
 use Rattle.identities.proofs.Totals.{upTo-cong, count-upTo}
 use Rattle.identities.specs.Counts as Counts
 use Rattle.identities.specs.Counts.{lastRow, hit, both, given, counts, allFound, counted, AllStand}
@@ -20,8 +20,8 @@ use Rattle.backend.specs.Circuit.{rowsOf}
 use Rattle.prover.specs.Lookup.{sumCounts, same, lastEqual, multiplicity, covered, hAt, sumRows, Turns}
 use Rattle.prover.specs.Log.{Log}
 use Rattle.prover.specs.Columns.{inputAt, tableAt, countAt, mAt, lookupHAt, allCovered}
-use Rattle.calls.specs.Meaning.{Embeds, EachLookup, NoCounts}
-use Rattle.calls.proofs.Embeds.{embeds-num}
+use Rattle.hyperplonk_spec.specs.Meaning.{Embeds, EachLookup, NoCounts}
+use Rattle.hyperplonk_spec.proofs.Embeds.{embeds-num}
 
 -- ---- what all of a list hold
 -- ---- over one lookup

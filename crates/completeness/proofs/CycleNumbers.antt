@@ -8,10 +8,10 @@ use native.Mathlib.Omega.{arith}
 use lib.ListN.{length, getD}
 use Rattle.field.specs.Algebra.{Field}
 use Rattle.bh.proofs.Perm.{Nodup}
-use Rattle.util.specs.Lists.{countOf, All}
-use Rattle.util.proofs.Tests.{false-true}
-use Rattle.util.proofs.All.{all-from, all-weaken, all-mapped, all-both}
-use Rattle.util.proofs.Places.{get-index}
+use Rattle.lists.specs.Lists.{countOf, All}
+use Rattle.lists.proofs.Tests.{false-true}
+use Rattle.lists.proofs.All.{all-from, all-weaken, all-mapped, all-both}
+use Rattle.lists.proofs.Places.{get-index}
 use Rattle.identities.specs.Cycles as Cycles
 use Rattle.identities.specs.Copies.{atCell}
 use Rattle.expression.specs.Value.{polyOf}
@@ -22,7 +22,7 @@ use Rattle.preprocessor.proofs.Cycles.{Other, Distinct, apart-distinct}
 use Rattle.preprocessor.proofs.Copied.{Good, cells-good, cells-placed}
 use Rattle.prover.specs.Log.{Log}
 use Rattle.prover.specs.Columns.{givenPolys, copiedAt}
-use Rattle.calls.specs.Meaning.{noCell, cellValue, EqualCells}
+use Rattle.hyperplonk_spec.specs.Meaning.{noCell, cellValue, EqualCells}
 use Rattle.completeness.proofs.CellNumbers.{out-all, Placed, number-div, number-mod, number-in, same-true}
 
 module _ (c : Circuit) where

@@ -9,9 +9,9 @@ use native.Mathlib.Omega.{arith}
 use lib.ListN.{length, getD, take, drop, length-take}
 use lib.Dec.{eqb, ltb}
 use lib.IntN.{pos}
-use Rattle.util.specs.Lists.{column, below, largest, All}
-use Rattle.util.proofs.All.{all-get, all-join, all-left, all-right, all-column}
-use Rattle.util.proofs.Totals.{get-cut}
+use Rattle.lists.specs.Lists.{column, below, largest, All}
+use Rattle.lists.proofs.All.{all-get, all-join, all-left, all-right, all-column}
+use Rattle.lists.proofs.Totals.{get-cut}
 use Rattle.expression.specs.Expr.{Expr, evaluate, degreeOps, degree, distributePowers, productFrom, productOf}
 use Rattle.backend.specs.Circuit.{Circuit, numUser, numLookups, numCopied, hNumber, zNumber}
 use Rattle.backend.specs.Constraints.{lookupConstraints, maxDegree}
@@ -29,7 +29,7 @@ use Rattle.preprocessor.specs.Compose.{
   zeroCheck,
   compose,
 }
-use Rattle.calls.specs.Composed.{PartDegree, ComposedDegree, ComposeDegree}
+use Rattle.hyperplonk_spec.specs.Composed.{PartDegree, ComposedDegree, ComposeDegree}
 use Rattle.completeness.proofs.Cuts.{degree-two}
 
 -- a product of factors of degree 1

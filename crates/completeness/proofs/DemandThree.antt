@@ -8,7 +8,7 @@ use native.Mathlib.Omega.{arith}
 use lib.ListN.{length, getD, take, length-map, length-take}
 use Rattle.field.specs.Prime.{P}
 use Rattle.field.specs.Field.{𝔾, el}
-use Rattle.util.proofs.All.{all-from}
+use Rattle.lists.proofs.All.{all-from}
 use Rattle.identities.proofs.Totals.{upTo-cong}
 use Rattle.expression.specs.Expr.{Expr}
 use Rattle.expression.specs.Nodes.{exprOf}
@@ -18,14 +18,14 @@ use Rattle.preprocessor.specs.Compose.{compose, composedWords, composedNodes}
 use Rattle.prover.specs.Log.{Log}
 use Rattle.prover.specs.Columns.{allCovered, writtenPolys, composedEnvironment}
 use Rattle.prover.proofs.Words.{words-small}
-use Rattle.calls.specs.Build.{Output, logOf, wordsOf, checkBuild, buildOf, made, zeroed}
-use Rattle.calls.specs.RowSum.{rowSumOf, sumOf, lentEnvironment}
-use Rattle.calls.specs.Meaning.{Each, Admitted, Premises, Conclusions}
-use Rattle.calls.specs.Demand.{Succeeds, Demand3, DemandThreeAt, DemandThree}
+use Rattle.hyperplonk_spec.specs.Build.{Output, logOf, wordsOf, checkBuild, buildOf, made, zeroed}
+use Rattle.hyperplonk_spec.specs.RowSum.{rowSumOf, sumOf, lentEnvironment}
+use Rattle.hyperplonk_spec.specs.Meaning.{Each, Admitted, Premises, Conclusions}
+use Rattle.hyperplonk_spec.specs.Demand.{Succeeds, Demand3, DemandThreeAt, DemandThree}
 use Rattle.field.proofs.Elements.{val-zero}
-use Rattle.calls.proofs.Embeds.{embeds}
-use Rattle.calls.proofs.Building.{columns-length, fifteen-by, built-by, written-by}
-use Rattle.calls.proofs.ReadsBack.{reads-back}
+use Rattle.hyperplonk_spec.proofs.Embeds.{embeds}
+use Rattle.hyperplonk_spec.proofs.Building.{columns-length, fifteen-by, built-by, written-by}
+use Rattle.hyperplonk_spec.proofs.ReadsBack.{reads-back}
 use Rattle.completeness.proofs.Passed.{yes-all, k-small}
 use Rattle.completeness.proofs.Asked.{Lending, lending, sum-yes}
 use Rattle.completeness.proofs.RowSumReads.{lent-value}

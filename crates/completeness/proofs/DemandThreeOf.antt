@@ -7,9 +7,9 @@ use native.Mathlib.Omega.{arith}
 use lib.Dec.{eqb}
 use borrow.Author.Tests.{eq-eqb}
 use Rattle.field.specs.Algebra.{Field}
-use Rattle.util.specs.Lists.{column, All}
-use Rattle.util.proofs.Tests.{false-true}
-use Rattle.util.proofs.All.{all-get, all-join, all-column}
+use Rattle.lists.specs.Lists.{column, All}
+use Rattle.lists.proofs.Tests.{false-true}
+use Rattle.lists.proofs.All.{all-get, all-join, all-column}
 use Rattle.expression.specs.Expr.{Expr}
 use Rattle.expression.specs.Value.{valueAt}
 use Rattle.backend.specs.Circuit.{Circuit, numCopied}
@@ -18,7 +18,7 @@ use Rattle.backend.specs.Questions.{q11}
 use Rattle.preprocessor.specs.Compose.{numZ, startConstraint, partConstraint, permutationConstraints, composedConstraints}
 use Rattle.prover.specs.Log.{Log}
 use Rattle.prover.specs.Columns.{allCovered, composedEnvironment}
-use Rattle.calls.specs.Meaning.{Admitted, EachRow, Premises, Conclusions, Demand3Of, DemandThreeOf}
+use Rattle.hyperplonk_spec.specs.Meaning.{Admitted, EachRow, Premises, Conclusions, Demand3Of, DemandThreeOf}
 use Rattle.completeness.proofs.Counts.{refused-when, m-sums, h-sums}
 use Rattle.completeness.proofs.Passed.{Yes, yes-all, k-pos, k-small}
 use Rattle.completeness.proofs.ComposedZero.{user-zeros, lookup-zeros, composed-zero}

@@ -10,18 +10,18 @@ use lib.Seq.{take-at}
 use lib.Pow.{pow-mono}
 use Rattle.field.specs.Prime.{P}
 use Rattle.field.specs.Field.{𝔾, el, val, val-el}
-use Rattle.util.specs.Lists.{column, below, All}
-use Rattle.util.proofs.All.{all-right}
-use Rattle.util.proofs.Lists.{get-past, split-length}
-use Rattle.util.proofs.Columns.{column-length}
-use Rattle.util.proofs.Searches.{count-le}
+use Rattle.lists.specs.Lists.{column, below, All}
+use Rattle.lists.proofs.All.{all-right}
+use Rattle.lists.proofs.Lists.{get-past, split-length}
+use Rattle.lists.proofs.Columns.{column-length}
+use Rattle.lists.proofs.Searches.{count-le}
 use Rattle.backend.specs.Circuit.{Section, wordK, entries, bodyOf, pairAt, Circuit, circuitOf, rowsOf, numUser, numPoly, numLookups, numCopied, copied, copiedIn}
 use Rattle.backend.specs.Questions.{largestK}
 use Rattle.backend.proofs.Sections.{body-length}
 use Rattle.prover.specs.Log.{Log}
-use Rattle.calls.specs.Build.{logOf, checkBuild}
-use Rattle.calls.specs.Meaning.{Premises}
-use Rattle.calls.specs.Insurer.{drawn, denominators, Good, NoneZero, Passes, FewTurnedAway, OddsLimit}
+use Rattle.hyperplonk_spec.specs.Build.{logOf, checkBuild}
+use Rattle.hyperplonk_spec.specs.Meaning.{Premises}
+use Rattle.hyperplonk_spec.specs.Insurer.{drawn, denominators, Good, NoneZero, Passes, FewTurnedAway, OddsLimit}
 use Rattle.completeness.proofs.Passed.{Yes, yes-all}
 use Rattle.completeness.proofs.Asked.{lending}
 use Rattle.completeness.proofs.GoodLog.{good-log}

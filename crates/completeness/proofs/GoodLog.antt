@@ -8,19 +8,19 @@ use native.Mathlib.Omega.{arith}
 use lib.ListN.{getD}
 use Rattle.field.specs.Algebra.{Field}
 use Rattle.field.specs.Field.{𝔾}
-use Rattle.util.specs.Lists.{All}
-use Rattle.util.proofs.Tests.{true-all}
-use Rattle.util.proofs.All.{all-from}
+use Rattle.lists.specs.Lists.{All}
+use Rattle.lists.proofs.Tests.{true-all}
+use Rattle.lists.proofs.All.{all-from}
 use Rattle.expression.specs.Value.{valueAt}
 use Rattle.backend.specs.Circuit.{Pair, rowsOf}
 use Rattle.backend.specs.Constraints.{inputsOf, tablesOf}
 use Rattle.prover.specs.Lookup.{covered}
 use Rattle.prover.specs.Log.{Log}
 use Rattle.prover.specs.Columns.{powerSum, instancePolys, preprocessPolys, witnessPolys, givenPolys, userEnvironment, compressedAt, inputAt, tableAt, allCovered}
-use Rattle.calls.specs.Build.{Output, logOf, checkBuild, buildOf, made, zeroed}
-use Rattle.calls.specs.Meaning.{Premises}
-use Rattle.calls.specs.Insurer.{noPair, drawn, ReadingsStand, ReadingsCovered, SumsToZero, GoodLog, ZeroWhen}
-use Rattle.calls.proofs.Building.{refused-by, fifteen-by, built-by}
+use Rattle.hyperplonk_spec.specs.Build.{Output, logOf, checkBuild, buildOf, made, zeroed}
+use Rattle.hyperplonk_spec.specs.Meaning.{Premises}
+use Rattle.hyperplonk_spec.specs.Insurer.{noPair, drawn, ReadingsStand, ReadingsCovered, SumsToZero, GoodLog, ZeroWhen}
+use Rattle.hyperplonk_spec.proofs.Building.{refused-by, fifteen-by, built-by}
 use Rattle.completeness.proofs.Counts.{stand-covered}
 use Rattle.completeness.proofs.DemandThree.{demand-three}
 

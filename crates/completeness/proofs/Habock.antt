@@ -11,8 +11,8 @@ use native.Mathlib.Omega.{arith}
 use borrow.Author.Tests.{eq-eqb, ne-eqb}
 use Rattle.field.specs.Algebra.{Field, one-mul, zero-mul, mul-left-comm, mul-one}
 use Rattle.bh.specs.Sums.{upTo}
-use Rattle.util.specs.Lists.{isAt}
-use Rattle.util.proofs.Tests.{false-true, by-test}
+use Rattle.lists.specs.Lists.{isAt}
+use Rattle.lists.proofs.Tests.{false-true, by-test}
 use Rattle.identities.proofs.Totals.{upTo-cong, upTo-op, upTo-unit, upTo-units, upTo-swap, upTo-only, nats, le-total, count-upTo}
 use Rattle.identities.proofs.Fields.{adds, sum-mul}
 use Rattle.identities.specs.Lookup as Lookup
@@ -21,8 +21,8 @@ use Rattle.identities.specs.Counts.{lastRow, counts, IsLast}
 use Rattle.identities.proofs.Counts.{last-is, count-turns, turns-stand}
 use Rattle.identities.proofs.Lookup.{sum-neg, h-fits, h-only, haboeck}
 use Rattle.prover.specs.Lookup.{sumCounts, same, covered, multiplicity, Turns, hAt}
-use Rattle.calls.specs.Meaning.{Embeds}
-use Rattle.calls.specs.Papers.{
+use Rattle.hyperplonk_spec.specs.Meaning.{Embeds}
+use Rattle.hyperplonk_spec.specs.Papers.{
   paperH,
   often,
   sharedM,
@@ -36,7 +36,7 @@ use Rattle.calls.specs.Papers.{
   TotalsDecide,
   SharedIdentity,
 }
-use Rattle.calls.proofs.Embeds.{embeds-one, embeds-sum, embeds-num}
+use Rattle.hyperplonk_spec.proofs.Embeds.{embeds-one, embeds-sum, embeds-num}
 use Rattle.completeness.proofs.Counts.{counts-agree, turns-agree, covered-stand, stand-covered, h-sum-of}
 
 few : (t : ℕ → Bool) (n : ℕ) → upTo _+_ 0 (λ r. cond (t r) 1 0) n ≤ n

@@ -15,11 +15,11 @@ use Rattle.field.specs.Algebra.{Field}
 use Rattle.field.specs.Algebra as Algebra
 use Rattle.bh.specs.Sums.{upTo}
 use Rattle.bh.specs.Rows.{nextRow, rotated, iter}
-use Rattle.util.specs.Lists.{below, concat, ceilDiv, cut, All}
-use Rattle.util.proofs.Lists.{get-left, get-past, get-map}
-use Rattle.util.proofs.All.{all-get, all-getD, map-same}
-use Rattle.util.proofs.Columns.{below-length, below-get}
-use Rattle.util.proofs.Totals.{concat-cut, cut-length}
+use Rattle.lists.specs.Lists.{below, concat, ceilDiv, cut, All}
+use Rattle.lists.proofs.Lists.{get-left, get-past, get-map}
+use Rattle.lists.proofs.All.{all-get, all-getD, map-same}
+use Rattle.lists.proofs.Columns.{below-length, below-get}
+use Rattle.lists.proofs.Totals.{concat-cut, cut-length}
 use Rattle.identities.specs.Running.{Met, NoZero}
 use Rattle.identities.specs.Running as Running
 use Rattle.identities.proofs.Running.{must-balance}
@@ -34,11 +34,11 @@ use Rattle.preprocessor.specs.Compose.{numZ, constraintCut, identityFactor, per
 use Rattle.prover.specs.Log.{Log}
 use Rattle.prover.specs.Columns.{givenPolys, permutationPolys, mPolys, hPolys, zPolys, allPolys, copiedAt, permutationAt, identityFactorAt, permutationFactorAt, zAt, composedEnvironment}
 use Rattle.prover.proofs.Lengths.{given-length, permutations-length, m-length, h-length}
-use Rattle.calls.specs.Meaning.{Embeds, Admitted, NoZeroFactor}
-use Rattle.calls.specs.Composed.{column-at, nextIn, over-part}
-use Rattle.calls.specs.Copies.{overCells, Balanced, ButForZ, withZ, AnyZ, ZeroIn, MustClose}
-use Rattle.calls.proofs.Embeds.{embeds-add}
-use Rattle.calls.proofs.ConstraintZero.{start-zero, part-zero}
+use Rattle.hyperplonk_spec.specs.Meaning.{Embeds, Admitted, NoZeroFactor}
+use Rattle.hyperplonk_spec.specs.Composed.{column-at, nextIn, over-part}
+use Rattle.hyperplonk_spec.specs.Copies.{overCells, Balanced, ButForZ, withZ, AnyZ, ZeroIn, MustClose}
+use Rattle.hyperplonk_spec.proofs.Embeds.{embeds-add}
+use Rattle.hyperplonk_spec.proofs.ConstraintZero.{start-zero, part-zero}
 use Rattle.completeness.proofs.Cuts.{degree-two, z-pos}
 use Rattle.completeness.proofs.ReadColumns.{copied-below, copied-poly, poly-permutation, beta-value, gamma-value}
 use Rattle.completeness.proofs.ComposedZero.{embeds-in}

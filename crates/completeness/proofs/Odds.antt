@@ -7,14 +7,14 @@ use native.Mathlib.Nat.{mul-comm, mul-add, mul-left-comm, mul-le-mul-left}
 use native.Mathlib.Omega.{arith}
 use lib.ListN.{length, getD, length-append}
 use Rattle.field.specs.Algebra.{Field, add-comm, add-neg, neg-unique}
-use Rattle.util.specs.Lists.{column, concat, All}
-use Rattle.util.proofs.All.{all-get, all-join, all-left, all-right, all-column, all-concat}
-use Rattle.util.proofs.Columns.{columns-length, get-columns}
-use Rattle.util.proofs.Walks.{entry-inside}
+use Rattle.lists.specs.Lists.{column, concat, All}
+use Rattle.lists.proofs.All.{all-get, all-join, all-left, all-right, all-column, all-concat}
+use Rattle.lists.proofs.Columns.{columns-length, get-columns}
+use Rattle.lists.proofs.Walks.{entry-inside}
 use Rattle.backend.specs.Circuit.{rowsOf, numCopied, numLookups}
 use Rattle.prover.specs.Log.{Log}
 use Rattle.prover.specs.Columns.{instancePolys, preprocessPolys, witnessPolys, givenPolys, userEnvironment, compressedAt, inputAt, tableAt, permutationAt, copiedAt, permutationFactorAt}
-use Rattle.calls.specs.Insurer.{drawn, denominators, NoneZero, Odds}
+use Rattle.hyperplonk_spec.specs.Insurer.{drawn, denominators, NoneZero, Odds}
 
 -- ---- all of a grid
 module _ {A : Type 0} (Q : A → Type 0) (rows : ℕ) (f : ℕ → ℕ → A) (n : ℕ) where

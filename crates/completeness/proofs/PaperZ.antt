@@ -8,16 +8,16 @@ use Rattle.field.specs.Algebra as Algebra
 use Rattle.bh.specs.Sums.{upTo}
 use Rattle.bh.specs.Rows.{rowAt, placeOf}
 use Rattle.bh.proofs.Place.{place-row}
-use Rattle.util.specs.Lists.{below, column, concat, ceilDiv, cut, All}
-use Rattle.util.proofs.Lists.{concat-end}
-use Rattle.util.proofs.All.{all-take, all-drop, all-column, all-concat, map-same}
+use Rattle.lists.specs.Lists.{below, column, concat, ceilDiv, cut, All}
+use Rattle.lists.proofs.Lists.{concat-end}
+use Rattle.lists.proofs.All.{all-take, all-drop, all-column, all-concat, map-same}
 use Rattle.identities.proofs.Totals.{upTo-cong}
 use Rattle.backend.specs.Circuit.{Cell, rowsOf, numCopied}
 use Rattle.preprocessor.specs.Compose.{numZ, zCut}
 use Rattle.prover.specs.Log.{Log}
 use Rattle.prover.specs.Columns.{ratioAt, zAtPlace, zAt}
-use Rattle.calls.specs.Papers.{plonkZ}
-use Rattle.calls.specs.Copies.{copiedCell, σ, factor, cellsAt, cellsBefore, paperZ, IsPaperZ}
+use Rattle.hyperplonk_spec.specs.Papers.{plonkZ}
+use Rattle.hyperplonk_spec.specs.Copies.{copiedCell, σ, factor, cellsAt, cellsBefore, paperZ, IsPaperZ}
 use Rattle.completeness.proofs.DemandThreeOf.{k-positive, k-below-21}
 use Rattle.completeness.proofs.Plonk.{is-plonk-z}
 use Rattle.completeness.proofs.Copies.{are-factors}

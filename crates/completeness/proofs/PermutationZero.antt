@@ -53,9 +53,9 @@ use Rattle.prover.specs.Columns.{
   zAt,
   composedEnvironment,
 }
-use Rattle.calls.specs.Meaning.{Admitted, EachRow, Premises}
-use Rattle.calls.specs.Composed.{column-at, nextIn, over-part, PartHolds}
-use Rattle.calls.proofs.ConstraintZero.{start-zero, part-zero}
+use Rattle.hyperplonk_spec.specs.Meaning.{Admitted, EachRow, Premises}
+use Rattle.hyperplonk_spec.specs.Composed.{column-at, nextIn, over-part, PartHolds}
+use Rattle.hyperplonk_spec.proofs.ConstraintZero.{start-zero, part-zero}
 use Rattle.completeness.proofs.CellNumbers.{label-agree}
 use Rattle.completeness.proofs.CycleNumbers.{cycles-good, copied-good}
 use Rattle.completeness.proofs.Cuts.{z-pos, partSize, covers, z-part, parts-alike}

@@ -13,12 +13,12 @@ use Rattle.field.specs.Algebra.{Field}
 use Rattle.field.specs.Field.{𝔾, el}
 use Rattle.field.proofs.Elements.{el-injective}
 use Rattle.bh.proofs.Perm.{Keeps, onto}
-use Rattle.util.specs.Lists.{below, concat, indexOf, All}
-use Rattle.util.proofs.Tests.{by-test}
-use Rattle.util.proofs.All.{all-get, all-from, all-weaken}
-use Rattle.util.proofs.Columns.{below-length}
-use Rattle.util.proofs.Places.{get-index}
-use Rattle.util.proofs.Searches.{count-le}
+use Rattle.lists.specs.Lists.{below, concat, indexOf, All}
+use Rattle.lists.proofs.Tests.{by-test}
+use Rattle.lists.proofs.All.{all-get, all-from, all-weaken}
+use Rattle.lists.proofs.Columns.{below-length}
+use Rattle.lists.proofs.Places.{get-index}
+use Rattle.lists.proofs.Searches.{count-le}
 use Rattle.identities.specs.Cycles.{labels as movedTo}
 use Rattle.identities.proofs.Cycles.{labels-good}
 use Rattle.backend.specs.Circuit.{Circuit, Cell, circuitOf, sameCell, rowsOf, numPoly, numWitness, cellsName, copied, copiedIn, numCopied}
@@ -30,9 +30,9 @@ use Rattle.preprocessor.proofs.Cycles.{source-all}
 use Rattle.preprocessor.proofs.Labels.{cell-number, cell-placed}
 use Rattle.preprocessor.proofs.Copied.{Good as GoodCell, cells-good, cells-placed, copied-once}
 use Rattle.prover.specs.Log.{Log}
-use Rattle.calls.specs.Meaning.{Admitted, noCell}
-use Rattle.calls.specs.Copies.{copiedCell, IsCopied, σ, IsPermutation, Permutes, IsLabelling, LabelsDifferWhere, LabelsDifferAt𝔾}
-use Rattle.calls.proofs.Embeds.{embeds, embeds-num}
+use Rattle.hyperplonk_spec.specs.Meaning.{Admitted, noCell}
+use Rattle.hyperplonk_spec.specs.Copies.{copiedCell, IsCopied, σ, IsPermutation, Permutes, IsLabelling, LabelsDifferWhere, LabelsDifferAt𝔾}
+use Rattle.hyperplonk_spec.proofs.Embeds.{embeds, embeds-num}
 use Rattle.completeness.proofs.CellNumbers.{Placed, number-in, same-true, source-agree}
 use Rattle.completeness.proofs.CycleNumbers.{cycles-good}
 use Rattle.completeness.proofs.Passed.{yes-all}

@@ -11,10 +11,10 @@ use Rattle.field.specs.Algebra.{Field}
 use Rattle.field.specs.Algebra as Algebra
 use Rattle.bh.specs.Sums.{upTo}
 use Rattle.bh.specs.Rows.{rowAt}
-use Rattle.util.specs.Lists.{indexOf, All, below, concat}
-use Rattle.util.proofs.Tests.{by-test}
-use Rattle.util.proofs.Parts.{div-row, mod-row}
-use Rattle.util.proofs.Totals.{concat-cut}
+use Rattle.lists.specs.Lists.{indexOf, All, below, concat}
+use Rattle.lists.proofs.Tests.{by-test}
+use Rattle.lists.proofs.Parts.{div-row, mod-row}
+use Rattle.lists.proofs.Totals.{concat-cut}
 use Rattle.identities.proofs.Cycles.{labels-good}
 use Rattle.identities.proofs.Totals.{upTo-cong, upTo-add, upTo-flat}
 use Rattle.identities.proofs.Fields.{muls}
@@ -28,7 +28,7 @@ use Rattle.preprocessor.specs.Permutation.{lastCell, beforeFrom, before, source
 use Rattle.preprocessor.specs.Compose.{numZ, zCut}
 use Rattle.prover.specs.Log.{Log}
 use Rattle.prover.specs.Columns.{ratioAt, partAt, stepAt, runningAt, zAtPlace}
-use Rattle.calls.specs.Papers.{plonkZ, IsPlonkZ}
+use Rattle.hyperplonk_spec.specs.Papers.{plonkZ, IsPlonkZ}
 use Rattle.completeness.proofs.CellNumbers.{Placed, same-true, source-agree}
 use Rattle.completeness.proofs.CycleNumbers.{cycles-good}
 use Rattle.completeness.proofs.Cuts.{partSize, size-pos, parts-of-z, none-z}

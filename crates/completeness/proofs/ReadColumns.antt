@@ -6,10 +6,10 @@ use native.Mathlib.Omega.{arith}
 use lib.ListN.{length, getD}
 use Rattle.field.specs.Algebra.{Field}
 use Rattle.bh.specs.Rows.{rotated, iter}
-use Rattle.util.specs.Lists.{below, All}
-use Rattle.util.proofs.Lists.{get-left, get-past, get-map}
-use Rattle.util.proofs.Columns.{below-length, below-get}
-use Rattle.util.proofs.All.{all-get, all-column, all-those, all-mapped, map-same}
+use Rattle.lists.specs.Lists.{below, All}
+use Rattle.lists.proofs.Lists.{get-left, get-past, get-map}
+use Rattle.lists.proofs.Columns.{below-length, below-get}
+use Rattle.lists.proofs.All.{all-get, all-column, all-those, all-mapped, map-same}
 use Rattle.expression.specs.Expr.{Expr, evaluate, distributePowers}
 use Rattle.expression.specs.Value.{polyOf, valueOps, valueAt}
 use Rattle.expression.proofs.Agree.{agree-value}
@@ -33,10 +33,10 @@ use Rattle.preprocessor.specs.Compose.{numZ, identityFactor, permutationFactor}
 use Rattle.prover.specs.Log.{Log}
 use Rattle.prover.specs.Columns.{powerSum, givenPolys, userEnvironment, compressedAt, inputAt, tableAt, mAt, lookupHAt, permutationAt, copiedAt, identityFactorAt, permutationFactorAt, zAt, permutationPolys, mPolys, hPolys, zPolys, allPolys, composedEnvironment}
 use Rattle.prover.proofs.Lengths.{given-length, permutations-length, m-length, h-length}
-use Rattle.calls.proofs.Embeds.{embeds-add}
-use Rattle.calls.specs.Meaning.{Admitted}
-use Rattle.calls.specs.Composed.{inputIn, tableIn, ReadAs}
-use Rattle.calls.proofs.Powers.{powers-value}
+use Rattle.hyperplonk_spec.proofs.Embeds.{embeds-add}
+use Rattle.hyperplonk_spec.specs.Meaning.{Admitted}
+use Rattle.hyperplonk_spec.specs.Composed.{inputIn, tableIn, ReadAs}
+use Rattle.hyperplonk_spec.proofs.Powers.{powers-value}
 use Rattle.completeness.specs.Scope.{userScope, Scoped}
 use Rattle.completeness.proofs.Passed.{yes-all, constraints-scoped, lookups-scoped}
 

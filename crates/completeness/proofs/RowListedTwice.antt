@@ -10,11 +10,11 @@ use lib.Pow.{pow-mono}
 use Rattle.field.specs.Prime.{P}
 use Rattle.field.specs.Field.{𝔾, el, val, el-val, val-el}
 use Rattle.field.proofs.Elements.{val-zero}
-use Rattle.util.specs.Lists.{below, written}
-use Rattle.util.proofs.Lists.{get-left, get-past, get-map}
-use Rattle.util.proofs.Columns.{column-length}
-use Rattle.util.proofs.Searches.{count-le}
-use Rattle.util.proofs.Walks.{entry-inside}
+use Rattle.lists.specs.Lists.{below, written}
+use Rattle.lists.proofs.Lists.{get-left, get-past, get-map}
+use Rattle.lists.proofs.Columns.{column-length}
+use Rattle.lists.proofs.Searches.{count-le}
+use Rattle.lists.proofs.Walks.{entry-inside}
 use Rattle.identities.proofs.Totals.{upTo-cong}
 use Rattle.expression.specs.Value.{polyOf}
 use Rattle.backend.specs.Circuit.{Pair, Circuit, circuitOf, rowsOf, numInstance, numCopied, numLookups}
@@ -23,11 +23,11 @@ use Rattle.prover.specs.Log.{Log}
 use Rattle.prover.specs.Columns.{inputAt, tableAt, countAt, mAt, lookupHAt, allCovered, instancePolys, permutationPolys, compressedPolys, mPolys, hPolys, writtenPolys}
 use Rattle.prover.proofs.Words.{words-get, words-length}
 use Rattle.prover.proofs.Lengths.{instances-length, permutations-length, compressed-length, m-length, h-length, written-length}
-use Rattle.calls.specs.Build.{Output, wordsOf, logOf, checkBuild, buildOf, made}
-use Rattle.calls.specs.Papers.{fraction, paperH}
-use Rattle.calls.specs.Insurer.{mWord, hWord, CountsUnspoilt, RowListedTwice}
-use Rattle.calls.proofs.Building.{built-by}
-use Rattle.calls.proofs.Embeds.{embeds}
+use Rattle.hyperplonk_spec.specs.Build.{Output, wordsOf, logOf, checkBuild, buildOf, made}
+use Rattle.hyperplonk_spec.specs.Papers.{fraction, paperH}
+use Rattle.hyperplonk_spec.specs.Insurer.{mWord, hWord, CountsUnspoilt, RowListedTwice}
+use Rattle.hyperplonk_spec.proofs.Building.{built-by}
+use Rattle.hyperplonk_spec.proofs.Embeds.{embeds}
 use Rattle.completeness.proofs.Passed.{yes-all, k-small}
 use Rattle.completeness.proofs.Asked.{lending}
 use Rattle.completeness.proofs.Counts.{covered-each, counts-sum, h-sums}

@@ -6,8 +6,8 @@ use native.Mathlib.Omega.{arith}
 use lib.ListN.{length, getD, take, length-append, drop-of-length-le}
 use lib.Seq.{split-at, drop-cons}
 use Rattle.field.specs.Field.{𝔾, el, el-val}
-use Rattle.util.specs.Lists.{column}
-use Rattle.util.proofs.Lists.{get-left, get-past}
+use Rattle.lists.specs.Lists.{column}
+use Rattle.lists.proofs.Lists.{get-left, get-past}
 use Rattle.expression.specs.Expr.{Expr}
 use Rattle.expression.specs.Value.{polyOf, valueAt}
 use Rattle.expression.proofs.SameRows.{Same, same-refl, same-append, same-column, same-at, values-agree}
@@ -18,8 +18,8 @@ use Rattle.prover.specs.Log.{Log}
 use Rattle.prover.specs.Columns.{instancePolys, preprocessPolys, witnessPolys, givenPolys, permutationPolys, compressedPolys, mPolys, hPolys, zPolys, allPolys, writtenPolys, composedEnvironment}
 use Rattle.prover.proofs.Words.{words-get}
 use Rattle.prover.proofs.Lengths.{instances-length, permutations-length, compressed-length, m-length, h-length, z-length, written-length}
-use Rattle.calls.specs.Build.{logOf, wordsOf}
-use Rattle.calls.specs.RowSum.{lentColumn, lentPolys, lentEnvironment}
+use Rattle.hyperplonk_spec.specs.Build.{logOf, wordsOf}
+use Rattle.hyperplonk_spec.specs.RowSum.{lentColumn, lentPolys, lentEnvironment}
 
 module _ (g : Log 𝔾) where
   abbrev rest : List (ℕ → 𝔾 .F)

@@ -11,9 +11,9 @@ use Rattle.field.proofs.Elements.{val-zero, val-one}
 use Rattle.bh.specs.Sums.{upTo}
 use Rattle.bh.specs.Rows.{rowAt}
 use Rattle.bh.proofs.Order.{row-lt}
-use Rattle.util.specs.Lists.{below, column, concat}
-use Rattle.util.proofs.Lists.{get-left, get-past, get-map}
-use Rattle.util.proofs.Columns.{below-length, below-get}
+use Rattle.lists.specs.Lists.{below, column, concat}
+use Rattle.lists.proofs.Lists.{get-left, get-past, get-map}
+use Rattle.lists.proofs.Columns.{below-length, below-get}
 use Rattle.expression.specs.Value.{polyOf}
 use Rattle.backend.specs.Circuit.{Circuit, circuitOf, rowsOf, numInstance, numCopied, numLookups}
 use Rattle.preprocessor.specs.Permutation.{firstLabel, label}
@@ -35,10 +35,10 @@ use Rattle.prover.specs.Columns.{
   zAt,
 }
 use Rattle.prover.proofs.Lengths.{instances-length, permutations-length, compressed-length, m-length, h-length, written-length}
-use Rattle.calls.specs.Build.{logOf, buildOf}
-use Rattle.calls.specs.Meaning.{Admitted}
-use Rattle.calls.specs.Copies.{copiedCell, σ, wholeRunning, paperZ, cellsBefore}
-use Rattle.calls.specs.RunningProduct.{zWord, ProductCloses, RunningProduct}
+use Rattle.hyperplonk_spec.specs.Build.{logOf, buildOf}
+use Rattle.hyperplonk_spec.specs.Meaning.{Admitted}
+use Rattle.hyperplonk_spec.specs.Copies.{copiedCell, σ, wholeRunning, paperZ, cellsBefore}
+use Rattle.hyperplonk_spec.specs.RunningProduct.{zWord, ProductCloses, RunningProduct}
 use Rattle.completeness.proofs.DemandThree.{admitted}
 use Rattle.completeness.proofs.DemandThreeOf.{eleven-yes, k-positive, k-below-21}
 use Rattle.completeness.proofs.Permuted.{labels, permutes, labels-small}

@@ -8,7 +8,7 @@ use lib.ListN.{length, getD, take, drop}
 use Rattle.field.specs.Prime.{P}
 use Rattle.field.specs.Algebra.{Field}
 use Rattle.field.specs.Field.{𝔾}
-use Rattle.util.specs.Lists.{below, ceilDiv}
+use Rattle.lists.specs.Lists.{below, ceilDiv}
 use Rattle.expression.specs.Expr.{Expr}
 use Rattle.expression.specs.Value.{Environment, valueAt}
 use Rattle.backend.specs.Circuit.{Circuit, circuitOf, rowsOf, numCopied, numPoly, numUser}
@@ -16,11 +16,11 @@ use Rattle.backend.specs.Questions.{PassedIsWellFormed}
 use Rattle.preprocessor.specs.Compose.{numZ, constraintCut, zCut, composedWords}
 use Rattle.prover.specs.Log.{Log}
 use Rattle.prover.specs.Columns.{allCovered, writtenPolys, userEnvironment, composedEnvironment}
-use Rattle.calls.specs.Build.{logOf, wordsOf, checkBuild}
-use Rattle.calls.specs.RowSum.{rowSumOf}
-use Rattle.calls.specs.Meaning.{Each, Admitted, NoCounts, Conclusions, DemandThreeOf}
-use Rattle.calls.specs.Demand.{DemandThree}
-use Rattle.calls.specs.Composed.{
+use Rattle.hyperplonk_spec.specs.Build.{logOf, wordsOf, checkBuild}
+use Rattle.hyperplonk_spec.specs.RowSum.{rowSumOf}
+use Rattle.hyperplonk_spec.specs.Meaning.{Each, Admitted, NoCounts, Conclusions, DemandThreeOf}
+use Rattle.hyperplonk_spec.specs.Demand.{DemandThree}
+use Rattle.hyperplonk_spec.specs.Composed.{
   ReadsBack,
   PartDegree,
   ComposedDegree,
@@ -31,7 +31,7 @@ use Rattle.calls.specs.Composed.{
   ComposeValue,
   Reads,
 }
-use Rattle.calls.specs.Papers.{
+use Rattle.hyperplonk_spec.specs.Papers.{
   PartsOfZ,
   SameTotals,
   CountsTurn,
@@ -43,7 +43,7 @@ use Rattle.calls.specs.Papers.{
   SharedIdentity,
   IsPlonkZ,
 }
-use Rattle.calls.specs.Copies.{
+use Rattle.hyperplonk_spec.specs.Copies.{
   Permutes,
   Labels,
   LabelsDifferWhere,
@@ -58,8 +58,8 @@ use Rattle.calls.specs.Copies.{
   MustClose,
   IsPaperZ,
 }
-use Rattle.calls.specs.Insurer.{ReadingsCovered, Odds, OddsLimit, GoodLog, FewTurnedAway, RowListedTwice, ZeroWhen}
-use Rattle.calls.specs.RunningProduct.{RunningProduct}
+use Rattle.hyperplonk_spec.specs.Insurer.{ReadingsCovered, Odds, OddsLimit, GoodLog, FewTurnedAway, RowListedTwice, ZeroWhen}
+use Rattle.hyperplonk_spec.specs.RunningProduct.{RunningProduct}
 use Rattle.completeness.specs.Scope.{Scoped}
 
 -- "Then 15 is given exactly when, for some lookup, no column of whole counts turns the compressed table into the compressed inputs"

@@ -9,8 +9,8 @@ use lib.ListN.{length, getD, take, drop, set, length-set}
 use lib.Seq.{take-all, take-suc-set, length-take-le, drop-cons, drop-length}
 use lib.Dec.{eqb, ltb, leb}
 use borrow.Author.Tests.{eqb-true, eqb-false, ne-eqb, lt-ltb, le-ltb, leb-true, lt-leb}
-use Rattle.util.specs.Lists.{allOf, those, within}
-use Rattle.util.proofs.Tests.{by-test, false-true, and-left, and-right}
+use Rattle.lists.specs.Lists.{allOf, those, within}
+use Rattle.lists.proofs.Tests.{by-test, false-true, and-left, and-right}
 use Rattle.decimal.specs.Text.{isNewline, isHash, isBlank, isDigit, noDigit, Parts, every, parts, lines, before, pieces, tooLarge, tooMany, noNumber, number, Word, word, wrong, wordAfter, wordsOf, Placed, placed, placedAt, nextLine, inLines, Said, words, fault, kept, says}
 use Rattle.decimal.specs.Reading.{inNumber, inComment, valueBegun, told, heard, follows, lineAhead, wordsAhead, ahead, begun, Takes, Ended, Stopped}
 use Rattle.decimal.specs.declared.Scan.{Scan}

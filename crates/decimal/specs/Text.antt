@@ -5,7 +5,7 @@ use mathlib.Core.List.{List, [], _∷_, _++_, map}
 use Prim.Native.Nat.{ℕ, _+_, _-_, _*_, _%_, _^_}
 use lib.ListN.{length}
 use lib.Dec.{eqb, ltb}
-use Rattle.util.specs.Lists.{allOf, those, within}
+use Rattle.lists.specs.Lists.{allOf, those, within}
 
 -- ---- bytes
 

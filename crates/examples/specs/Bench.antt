@@ -9,15 +9,15 @@ use lib.ListN.{take, replicate}
 use Rattle.field.specs.Field.{𝔾, el, val}
 use Rattle.field.specs.Algebra.{product}
 use Rattle.bh.specs.Rows.{prevRow, order, lagrangeRow}
-use Rattle.util.specs.Lists.{column, firstNo}
+use Rattle.lists.specs.Lists.{column, firstNo}
 use Rattle.backend.specs.Questions.{q10, circuitQuestions, goodK}
 use Rattle.preprocessor.specs.Compose.{constraintCut, zCut, CutsAlike, composedWords}
 use Rattle.preprocessor.specs.Permutation.{label}
-use Rattle.calls.specs.Build.{checkBuild, buildOf}
-use Rattle.calls.specs.RowSum.{checkSum}
-use Rattle.calls.specs.Stages.{mOf}
+use Rattle.hyperplonk_spec.specs.Build.{checkBuild, buildOf}
+use Rattle.hyperplonk_spec.specs.RowSum.{checkSum}
+use Rattle.hyperplonk_spec.specs.Stages.{mOf}
 use Rattle.field.specs.Prime.{P}
-use Rattle.goldilocks.specs.Parse.{Among, parsed, numberOf}
+use Rattle.field.specs.Parse.{Among, parsed, numberOf}
 use Rattle.expression.specs.Expr.{Expr}
 use Rattle.backend.specs.Circuit.{Circuit, Cell, circuitOf}
 use Rattle.examples.specs.Open.{everything}

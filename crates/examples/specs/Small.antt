@@ -4,8 +4,8 @@ use mathlib.Core.Path.{_≡_, refl}
 use mathlib.Core.List.{List, [], _∷_}
 use Prim.Native.Nat.{ℕ}
 use Rattle.examples.specs.Open.{everything}
-use Rattle.calls.specs.Build.{buildOf}
-use Rattle.calls.specs.RowSum.{rowSumOf}
+use Rattle.hyperplonk_spec.specs.Build.{buildOf}
+use Rattle.hyperplonk_spec.specs.RowSum.{rowSumOf}
 
 -- number 0
 pub build-1 : buildOf (1 ∷ 0 ∷ 20 ∷ 0 ∷ 20 ∷ 0 ∷ 20 ∷ 1 ∷ 22 ∷ 0 ∷ 22 ∷ 0 ∷ 22 ∷ 0 ∷ 22 ∷ 0 ∷ 22 ∷ 1 ∷ 23 ∷ 1 ∷ 1 ∷ 0 ∷ 1 ∷ 0 ∷ 1 ∷ []) ([]) (3 ∷ 4 ∷ []) (5 ∷ 6 ∷ []) (21 ∷ 58 ∷ 95 ∷ 43 ∷ 80 ∷ 28 ∷ 65 ∷ 13 ∷ []) (21 ∷ 58 ∷ 95 ∷ 43 ∷ 80 ∷ 28 ∷ 65 ∷ 13 ∷ 50 ∷ 87 ∷ 35 ∷ 72 ∷ 20 ∷ 57 ∷ 94 ∷ 42 ∷ 79 ∷ 27 ∷ 64 ∷ 12 ∷ 49 ∷ 86 ∷ 34 ∷ 71 ∷ 19 ∷ 56 ∷ 93 ∷ 41 ∷ 78 ∷ 26 ∷ 63 ∷ 11 ∷ 48 ∷ 85 ∷ 33 ∷ 70 ∷ 18 ∷ 55 ∷ 92 ∷ 40 ∷ 77 ∷ 25 ∷ 62 ∷ 10 ∷ 47 ∷ 84 ∷ 32 ∷ 69 ∷ 17 ∷ 54 ∷ 91 ∷ 39 ∷ 76 ∷ 24 ∷ 61 ∷ 98 ∷ 46 ∷ 83 ∷ 31 ∷ 68 ∷ 16 ∷ 53 ∷ 90 ∷ 38 ∷ 75 ∷ 23 ∷ 60 ∷ 97 ∷ 45 ∷ 82 ∷ 30 ∷ 67 ∷ 15 ∷ 52 ∷ 89 ∷ 37 ∷ 74 ∷ 22 ∷ 59 ∷ 96 ∷ 44 ∷ 81 ∷ 29 ∷ 66 ∷ 14 ∷ 51 ∷ 88 ∷ 36 ∷ 73 ∷ 21 ∷ 58 ∷ 95 ∷ 43 ∷ 80 ∷ 28 ∷ 65 ∷ 13 ∷ 50 ∷ 87 ∷ 35 ∷ 72 ∷ 20 ∷ 57 ∷ 94 ∷ 42 ∷ 79 ∷ 27 ∷ 64 ∷ 12 ∷ 49 ∷ 86 ∷ 34 ∷ 71 ∷ 19 ∷ 56 ∷ 93 ∷ 41 ∷ 78 ∷ 26 ∷ 63 ∷ 11 ∷ 48 ∷ 85 ∷ 33 ∷ 70 ∷ 18 ∷ 55 ∷ 92 ∷ 40 ∷ 77 ∷ 25 ∷ 62 ∷ 10 ∷ 47 ∷ 84 ∷ 32 ∷ 69 ∷ 17 ∷ 54 ∷ 91 ∷ 39 ∷ 76 ∷ [])

@@ -5,8 +5,8 @@ use mathlib.Core.Path.{_≡_, ap, ap₂, _∙_}
 use mathlib.Core.List.{List, [], _∷_}
 use Prim.Native.Nat.{ℕ}
 use lib.IntN.{ℤ}
-use Rattle.util.specs.Lists.{All}
-use Rattle.util.proofs.All.{all-join}
+use Rattle.lists.specs.Lists.{All}
+use Rattle.lists.proofs.All.{all-join}
 use Rattle.expression.specs.Expr.{Expr, Exprs, Ops, running, evaluate, spread, values, collectOps}
 use Rattle.expression.proofs.Within.{Scope, anything, Within, WithinAll, within-anything}
 

@@ -3,8 +3,8 @@ use mathlib.Core.Path.{_≡_, refl, sym}
 use mathlib.Core.Bool.{or-false}
 use Prim.Native.Nat.{min}
 use native.Mathlib.Omega.{arith}
-use Rattle.util.specs.Lists.{anyOf}
-use Rattle.util.proofs.Tests.{any-append}
+use Rattle.lists.specs.Lists.{anyOf}
+use Rattle.lists.proofs.Tests.{any-append}
 use Rattle.expression.specs.Expr.{Expr, Query, sameQuery, evaluate, degreeOps, degree, queryOps, usedQuery}
 use Rattle.expression.specs.Walks.{capSum, capOps, usedOps}
 use Rattle.expression.proofs.Evaluate.{Hom, evaluate-hom}

@@ -9,11 +9,11 @@ use native.Mathlib.Omega.{arith}
 use lib.Dec.{lit<}
 use lib.ListN.{length, set, length-append, length-set}
 use borrow.Author.Tests.{le-leb, lt-leb}
-use Rattle.util.specs.Lists.{column, those, countOf, concat, written, over}
-use Rattle.util.proofs.Lists.{concat-append, pairs-length}
-use Rattle.util.proofs.Columns.{column-suc, column-append}
-use Rattle.util.proofs.Tests.{those-append, count-append}
-use Rattle.util.proofs.Over.{over-none, over-snoc, over-written, length-over}
+use Rattle.lists.specs.Lists.{column, those, countOf, concat, written, over}
+use Rattle.lists.proofs.Lists.{concat-append, pairs-length}
+use Rattle.lists.proofs.Columns.{column-suc, column-append}
+use Rattle.lists.proofs.Tests.{those-append, count-append}
+use Rattle.lists.proofs.Over.{over-none, over-snoc, over-written, length-over}
 use Rattle.expression.specs.Expr.{Query}
 use Rattle.expression.specs.Nodes.{kept}
 use Rattle.expression.specs.Queries.{queryOf, queryWords, queriesInto}

@@ -6,9 +6,9 @@ use native.Mathlib.Nat.{mul-le-mul, zero-add}
 use native.Mathlib.Omega.{arith}
 use lib.ListN.{length, getD}
 use Rattle.field.specs.Field.{𝔾, el, el-zero}
-use Rattle.util.specs.Lists.{column}
-use Rattle.util.proofs.Lists.{get-left, get-past, get-none}
-use Rattle.util.proofs.Columns.{column-length, get-column}
+use Rattle.lists.specs.Lists.{column}
+use Rattle.lists.proofs.Lists.{get-left, get-past, get-none}
+use Rattle.lists.proofs.Columns.{column-length, get-column}
 use Rattle.expression.specs.Value.{polyOf}
 use Rattle.expression.specs.Reader.{polysOf}
 use Rattle.expression.specs.declared.poly.Layout.{Layout}

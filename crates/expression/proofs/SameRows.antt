@@ -8,9 +8,9 @@ use lib.ListN.{length, getD, length-append}
 use Rattle.field.specs.Algebra.{Field}
 use Rattle.bh.specs.Rows.{rotated}
 use Rattle.bh.proofs.Turn.{rotated-lt}
-use Rattle.util.specs.Lists.{column}
-use Rattle.util.proofs.Lists.{get-left, get-past, get-none}
-use Rattle.util.proofs.Columns.{get-column, column-length}
+use Rattle.lists.specs.Lists.{column}
+use Rattle.lists.proofs.Lists.{get-left, get-past, get-none}
+use Rattle.lists.proofs.Columns.{get-column, column-length}
 use Rattle.expression.specs.Expr.{Expr}
 use Rattle.expression.proofs.Within.{anything, within-anything}
 use Rattle.expression.proofs.Agree.{agree-value}

@@ -14,7 +14,7 @@ use mir.Val.{Fits, SFits, toZ, ofZ}
 use mir.Facts.{sfits-widen, toZ-ofZ, toZ-pos}
 use borrow.Author.Tests.{lt-ltb, le-ltb, eq-eqb, ne-eqb, eqb-true, eqb-false, ltb-true, ltb-false}
 use mathlib.Core.Logic.{_≢_}
-use Rattle.util.proofs.Tests.{by-test}
+use Rattle.lists.proofs.Tests.{by-test}
 use Rattle.bh.specs.Rows.{iter, nextRow, prevRow, rowAt, placeOf, rotated, modZ, lagrangeRow}
 use Rattle.bh.proofs.Iter.{iter-add, iter-zero, iter-comm}
 use Rattle.bh.proofs.Order.{walk-undo, back-walk-lt, row-nought, row-suc, next-nought, next-returns}

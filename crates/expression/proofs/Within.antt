@@ -6,7 +6,7 @@ use Prim.Native.Nat.{ℕ, zero, suc, _<_}
 use native.Mathlib.Omega.{arith}
 use lib.Dec.{T, ltb, eqb, ltb→lt}
 use lib.IntN.{ℤ}
-use Rattle.util.specs.Lists.{All}
+use Rattle.lists.specs.Lists.{All}
 use Rattle.expression.specs.Expr.{Expr, Exprs, exprsOf, distributePowers, productFrom, productOf}
 use Rattle.expression.specs.Nodes.{
   wordOf,

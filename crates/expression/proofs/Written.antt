@@ -6,8 +6,8 @@ use Prim.Native.Nat.{ℕ, _+_, _-_, _*_, _<_}
 use native.Mathlib.Omega.{arith}
 use lib.IntN.{ℤ}
 use lib.ListN.{length, length-append}
-use Rattle.util.specs.Lists.{laid}
-use Rattle.util.proofs.Window.{laid-then}
+use Rattle.lists.specs.Lists.{laid}
+use Rattle.lists.proofs.Window.{laid-then}
 use Rattle.expression.specs.Expr.{Expr, Exprs, minus, at, exprsOf, distributePowers, productFrom}
 use Rattle.expression.specs.Nodes.{kept}
 use Rattle.expression.specs.Flat.{body, sizes, extra, size, root, words, flat, flats, chain}

@@ -4,7 +4,7 @@ use mathlib.Core.List.{List, [], _∷_, _++_, map}
 use Prim.Native.Nat.{ℕ, _+_, _-_, _*_, _/_, _%_}
 use lib.Dec.{leb}
 use lib.ListN.{length}
-use Rattle.util.specs.Lists.{column, those, concat, written}
+use Rattle.lists.specs.Lists.{column, those, concat, written}
 use Rattle.expression.specs.Expr.{Expr, Query, usedQuery}
 use Rattle.expression.specs.Nodes.{signed, kept}
 

@@ -3,7 +3,7 @@ use mathlib.Core.List.{List, _++_}
 use Prim.Native.Nat.{ℕ, _+_, _*_, _≤_}
 use lib.ListN.{getD}
 use Rattle.field.specs.Field.{𝔾, el}
-use Rattle.util.specs.Lists.{column}
+use Rattle.lists.specs.Lists.{column}
 use Rattle.expression.specs.declared.poly.Layout.{Layout}
 
 -- "Polynomial numbers run instance, preprocess, witness, permutation, m, h, z"; "The column buffer holds instance, permutation,

@@ -3,7 +3,7 @@
 use mathlib.Core.Path.{_≡_}
 use mathlib.Core.List.{List, _++_}
 use Prim.Native.Nat.{ℕ, _+_, _-_, _*_}
-use Rattle.util.specs.Lists.{laid}
+use Rattle.lists.specs.Lists.{laid}
 use Rattle.expression.specs.Expr.{Expr, Exprs}
 use Rattle.expression.specs.Flat.{sizes, extra, size, root, words, flat, flats, chain}
 

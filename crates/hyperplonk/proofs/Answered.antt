@@ -7,12 +7,12 @@ use native.Mathlib.Omega.{arith}
 use lib.Dec.{leb}
 use lib.ListN.{length, set}
 use borrow.Author.Tests.{le-leb, lt-leb}
-use Rattle.util.specs.Lists.{written}
-use Rattle.util.proofs.Over.{over-sets, over-written}
-use Rattle.calls.specs.Build.{Output}
-use Rattle.calls.specs.Entries.{BuildEntry, SumEntry, answered, buildEntry, sumEntry}
-use Rattle.calls.specs.declared.Built.{Built}
-use Rattle.calls.specs.declared.RowSum.{RowSum}
+use Rattle.lists.specs.Lists.{written}
+use Rattle.lists.proofs.Over.{over-sets, over-written}
+use Rattle.hyperplonk_spec.specs.Build.{Output}
+use Rattle.hyperplonk_spec.specs.Entries.{BuildEntry, SumEntry, answered, buildEntry, sumEntry}
+use Rattle.hyperplonk_spec.specs.declared.Built.{Built}
+use Rattle.hyperplonk_spec.specs.declared.RowSum.{RowSum}
 
 -- a buffer that is too short
 pub kept : (ws d : List ℕ) → length d < length ws → d ≡ answered ws d

@@ -1,15 +1,15 @@
 // The calls by the names that include/hyperplonk.h declares. A slice crosses as a pointer and a length.
 use crate::build;
 use crate::row_sum;
-use alone::eq_xy;
-use alone::lookup_h_poly;
-use alone::lookup_m_poly;
+use hyperplonk_stages::eq_xy;
+use hyperplonk_stages::lookup_h_poly;
+use hyperplonk_stages::lookup_m_poly;
 ghost use mathlib.Core.Path.{_≡_};
 ghost use mathlib.Core.List.{[], _∷_};
-ghost use Rattle.calls.specs.Stages.{mOf, hOf, eqOf};
-ghost use Rattle.calls.specs.Build.{buildOf};
-ghost use Rattle.calls.specs.RowSum.{rowSumOf};
-ghost use Rattle.calls.specs.Entries.{answered, buildEntry, sumEntry};
+ghost use Rattle.hyperplonk_spec.specs.Stages.{mOf, hOf, eqOf};
+ghost use Rattle.hyperplonk_spec.specs.Build.{buildOf};
+ghost use Rattle.hyperplonk_spec.specs.RowSum.{rowSumOf};
+ghost use Rattle.hyperplonk_spec.specs.Entries.{answered, buildEntry, sumEntry};
 
 #[no_mangle]
 pub extern "C" fn hyperplonk_lookup_m_poly(

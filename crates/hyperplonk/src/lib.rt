@@ -1,17 +1,17 @@
 // hyperplonk.rs: the calls, with what each promises. `entry` has them for C and Rust, as include/hyperplonk.h declares them.
 pub mod entry;
 
-pub use alone::eq_xy;
-pub use alone::lookup_h_poly;
-pub use alone::lookup_m_poly;
-pub use build_and_sum::build_and_sum;
-use calls::Built;
-use calls::RowSum;
+pub use hyperplonk_build_and_sum::build_and_sum;
+use hyperplonk_spec::Built;
+use hyperplonk_spec::RowSum;
+pub use hyperplonk_stages::eq_xy;
+pub use hyperplonk_stages::lookup_h_poly;
+pub use hyperplonk_stages::lookup_m_poly;
 ghost use mathlib.Core.Path.{_≡_};
-ghost use Rattle.calls.specs.Build.{Output, buildOf};
-ghost use Rattle.calls.specs.Demand.{DemandThreeAt};
-ghost use Rattle.calls.specs.RowSum.{rowSumOf};
-ghost use Rattle.row_sum.specs.Told.{Told};
+ghost use Rattle.hyperplonk_spec.specs.Build.{Output, buildOf};
+ghost use Rattle.hyperplonk_spec.specs.Demand.{DemandThreeAt};
+ghost use Rattle.hyperplonk_spec.specs.RowSum.{rowSumOf};
+ghost use Rattle.hyperplonk_row_sum.specs.Told.{Told};
 
 // The building call.
 pub fn build<'a>(
@@ -25,7 +25,7 @@ pub fn build<'a>(
     ensures { λ r. ⌜ record { answer = r; columns = now (columns .exit); nodes = now (nodes .exit) } ≡ buildOf (now (circuit .entry)) (now (instance .entry)) (now (witness .entry)) (now (challenges .entry)) (now (columns .entry)) (now (nodes .entry)) ⌝ }
     ensures { λ r. ⌜ DemandThreeAt (now (circuit .entry)) (now (instance .entry)) (now (witness .entry)) (now (challenges .entry)) (now (columns .entry)) (now (nodes .entry)) (record { answer = r; columns = now (columns .exit); nodes = now (nodes .exit) }) ⌝ }
 {
-    building::build(circuit, instance, witness, challenges, columns, nodes)
+    hyperplonk_build::build(circuit, instance, witness, challenges, columns, nodes)
 }
 
 // The row sum.
@@ -40,5 +40,5 @@ pub fn row_sum<'a>(
     ensures { λ r. ⌜ r ≡ rowSumOf (now (circuit .entry)) (now (witness .entry)) (now (columns .entry)) (now (nodes .entry)) (now (challenges .entry)) (now (y .entry)) ⌝ }
     ensures told { λ r. ⌜ Told (now (circuit .entry)) (now (witness .entry)) (now (columns .entry)) (now (nodes .entry)) (now (challenges .entry)) (now (y .entry)) r ⌝ }
 {
-    row_sum::row_sum(circuit, witness, columns, nodes, challenges, y)
+    hyperplonk_row_sum::row_sum(circuit, witness, columns, nodes, challenges, y)
 }

@@ -4,9 +4,9 @@ use crate::cuts::cuts_of;
 use crate::readings::tell;
 use crate::shape::shape_of;
 use crate::verdict::verdict;
-use contents::word;
-use messages::say;
-use unlisted::find;
+use backend_sections::contents::word;
+use cli_messages::say;
+use cli_unlisted::find;
 
 // Polynomials: 0 the approved table, 1 the readings, 2 the sheet's settings, 3 the knee's. The lookup is polynomial 1 in 0; the
 // cycles are (2, row 1), (3, row 3) and (2, row 2), (3, row 5).

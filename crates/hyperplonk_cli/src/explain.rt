@@ -4,9 +4,9 @@ use crate::cuts::cuts_of;
 use crate::rooms::HALF;
 use crate::shape::Shape;
 use crate::shape::shape_of;
-use messages::refusal::refusal;
-use messages::say;
-use messages::sections::sections;
+use cli_messages::refusal::refusal;
+use cli_messages::say;
+use cli_messages::sections::sections;
 
 fn copied(s: Shape) {
     let of = s.of;

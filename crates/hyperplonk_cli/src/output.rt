@@ -5,7 +5,7 @@ use crate::files::put_digits;
 use crate::shape::Shape;
 use crate::write_out::write_out;
 use check::same;
-use messages::say;
+use cli_messages::say;
 
 // Does what is open begin as a file that `build` wrote? What has no place to read from, as a pipe or a terminal, is not read.
 fn is_built(fd: i32) -> bool {

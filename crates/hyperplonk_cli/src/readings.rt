@@ -1,5 +1,5 @@
 // The readings that stand in no row of their table, for question 15.
-use unlisted::Unlisted;
+use cli_unlisted::Unlisted;
 
 // The first values of a reading, with commas between.
 fn values(fd: i32, of: [u64; 8], width: usize) {

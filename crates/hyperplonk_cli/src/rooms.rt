@@ -5,9 +5,9 @@ use crate::commands;
 use crate::explain;
 use crate::shape::Shape;
 use crate::shape::shape_of;
-use messages::refusal::refusal;
-use messages::say;
-use texts::files::read;
+use cli_messages::refusal::refusal;
+use cli_messages::say;
+use cli_texts::files::read;
 
 // The commands over files.
 pub const EXPLAIN: u64 = 1;

@@ -1,15 +1,15 @@
 // What circuit words ask for, once questions 1 to 11 have been put to them.
-use needed::column_words;
-use needed::composed_nodes;
-use prepare::copied_of;
-use prepare::numbers;
-use questions::first_no;
+use backend_questions::first_no;
+use hyperplonk_prepare::copied_of;
+use hyperplonk_prepare::needed::column_words;
+use hyperplonk_prepare::needed::composed_nodes;
+use hyperplonk_prepare::numbers;
 ghost use mathlib.Core.Path.{_≡_};
 ghost use mathlib.Core.List.{List};
 ghost use Prim.Native.Nat.{_≤_};
 ghost use lib.ListN.{take};
 ghost use Rattle.backend.specs.Circuit.{circuitOf, copied};
-ghost use Rattle.prepare.specs.Prepared.{Accepted};
+ghost use Rattle.hyperplonk_prepare.specs.Prepared.{Accepted};
 
 // The number of the first no, 0 for none; the rest is 0 for refused circuit words. `of` has the copied columns' polynomials;
 // `part` is D - 1, and `parts` is N.
@@ -51,7 +51,7 @@ fn accepted(circuit: &[u64], count: usize, of: [u64; 72]) -> Shape
     let v = numbers(circuit, count);
     let words = column_words(circuit, v);
     let nodes = composed_nodes(circuit, v);
-    let instances = contents::word(circuit, 3);
+    let instances = backend_sections::contents::word(circuit, 3);
     Shape {
         no: 0,
         instances: instances as usize,

@@ -1,5 +1,5 @@
 // How the program is called.
-use messages::say;
+use cli_messages::say;
 
 // The text, to be written on what is open.
 fn text(fd: i32) {

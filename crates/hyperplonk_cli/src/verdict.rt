@@ -1,8 +1,8 @@
 // What a sum says of a log, and what it does not say for weak challenges.
 use crate::cuts;
 use crate::cuts::Cuts;
-use contents::word;
-use messages::say;
+use backend_sections::contents::word;
+use cli_messages::say;
 
 // Why a sum may be other than 0.
 fn other(fd: i32, c: Cuts) {

@@ -7,7 +7,7 @@ use native.Mathlib.Omega.{arith}
 use lib.Pow.{pow-pos}
 use Rattle.field.specs.Algebra.{Field}
 use Rattle.bh.specs.Sums.{upTo}
-use Rattle.util.proofs.Parts.{div-row, mod-row}
+use Rattle.lists.proofs.Parts.{div-row, mod-row}
 use Rattle.identities.specs.Copies as R
 use Rattle.identities.specs.Copies.{atCell}
 use Rattle.identities.proofs.Totals.{upTo-cong, upTo-swap, upTo-cut}

@@ -8,7 +8,7 @@ use native.Mathlib.Nat.{not-suc-le-zero}
 use native.Mathlib.Decide.{ℕ-discrete}
 use native.Mathlib.Omega.{arith}
 use Rattle.bh.specs.Sums.{upTo}
-use Rattle.util.proofs.Tests.{false-true}
+use Rattle.lists.proofs.Tests.{false-true}
 use Rattle.identities.specs.Counts.{
   lastRow,
   hit,

@@ -8,9 +8,9 @@ use native.Mathlib.Nat.{lt-irrefl}
 use native.Mathlib.Decide.{ℕ-discrete}
 use Rattle.bh.specs.Sums.{upTo}
 use Rattle.bh.proofs.Perm.{Keeps, sum-through, Out, Nodup}
-use Rattle.util.specs.Lists.{All}
-use Rattle.util.proofs.All.{all-any}
-use Rattle.util.proofs.Parts.{mod-row}
+use Rattle.lists.specs.Lists.{All}
+use Rattle.lists.proofs.All.{all-any}
+use Rattle.lists.proofs.Parts.{mod-row}
 use Rattle.identities.specs.Cycles.{
   lastCell,
   beforeIn,

@@ -12,7 +12,7 @@ use Rattle.bh.specs.Rows.{nextRow, rowAt, placeOf}
 use Rattle.bh.proofs.Iter.{iter-zero}
 use Rattle.bh.proofs.Order.{row-suc, row-nought, row-next, row-last, row-lt, row-once, row-sum-but-0, next-nought}
 use Rattle.bh.proofs.Place.{row-place, place-row, place-lt}
-use Rattle.util.proofs.Parts.{div-row, mod-row}
+use Rattle.lists.proofs.Parts.{div-row, mod-row}
 use Rattle.identities.specs.Running as R
 use Rattle.identities.proofs.Totals.{sums, upTo-cong, upTo-suc, upTo-zero, upTo-op, upTo-add, upTo-flat}
 use Rattle.identities.proofs.Fields.{muls, ratio-back, ratio-only, prod-inv, prod-nonzero}

@@ -4,10 +4,10 @@ use mathlib.Core.List.{List, map}
 use Prim.Native.Nat.{ℕ, suc, _+_, _-_, _*_, _/_, _≤_}
 use native.Mathlib.Omega.{arith}
 use lib.ListN.{length, take, drop}
-use Rattle.util.specs.Lists.{column, split, below, cut, ceilDiv, over}
-use Rattle.util.proofs.Columns.{below-length}
-use Rattle.util.proofs.Totals.{cut-length}
-use Rattle.util.proofs.Window.{laid-over, laid-part}
+use Rattle.lists.specs.Lists.{column, split, below, cut, ceilDiv, over}
+use Rattle.lists.proofs.Columns.{below-length}
+use Rattle.lists.proofs.Totals.{cut-length}
+use Rattle.lists.proofs.Window.{laid-over, laid-part}
 use Rattle.expression.specs.Expr.{Expr}
 use Rattle.expression.specs.Nodes.{exprOf}
 use Rattle.expression.specs.Flat.{size, flat}

@@ -8,11 +8,11 @@ use native.Mathlib.Omega.{arith}
 use lib.ListN.{length, getD}
 use lib.Dec.{eqb, ltb, leb}
 use borrow.Author.Tests.{eq-eqb, eqb-true, ltb-true, leb-true}
-use Rattle.util.specs.Lists.{column, below, allOf, anyOf, those, countOf, concat, within, All}
-use Rattle.util.proofs.Tests.{and-left, and-right, all-true, any-at, any-concat}
-use Rattle.util.proofs.All.{all-get, all-from, all-those, all-column, all-weaken}
-use Rattle.util.proofs.Places.{Among, among-below, among-those}
-use Rattle.util.proofs.Rising.{rising-below, rising-those, rising-index}
+use Rattle.lists.specs.Lists.{column, below, allOf, anyOf, those, countOf, concat, within, All}
+use Rattle.lists.proofs.Tests.{and-left, and-right, all-true, any-at, any-concat}
+use Rattle.lists.proofs.All.{all-get, all-from, all-those, all-column, all-weaken}
+use Rattle.lists.proofs.Places.{Among, among-below, among-those}
+use Rattle.lists.proofs.Rising.{rising-below, rising-those, rising-index}
 use Rattle.backend.specs.Circuit.{Circuit, Cell, cellAt, cellsOf, sameCell, rowsOf, numPoly, copied, copiedIn, numCopied}
 use Rattle.backend.specs.Questions.{q11, cyclesGood}
 use Rattle.preprocessor.specs.Permutation.{firstLabel, label, labelColumns, permutationColumns, Placed, Once, Apart, Walkable}

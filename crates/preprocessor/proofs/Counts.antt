@@ -8,8 +8,8 @@ use native.Mathlib.Nat.{mul-le-mul-right, suc-mul, mul-one, zero-add}
 use native.Mathlib.Numerals.{add-one}
 use native.Mathlib.Omega.{arith}
 use lib.ListN.{length, getD, take}
-use Rattle.util.specs.Lists.{column, total, All}
-use Rattle.util.proofs.Columns.{column-suc, column-cong, column-of, map-column}
+use Rattle.lists.specs.Lists.{column, total, All}
+use Rattle.lists.proofs.Columns.{column-suc, column-cong, column-of, map-column}
 use Rattle.expression.specs.Expr.{Expr, distributePowers}
 use Rattle.expression.specs.Nodes.{exprOf}
 use Rattle.expression.specs.Flat.{size}

@@ -5,9 +5,9 @@ use mathlib.Core.List.{List, [], _∷_, _++_}
 use Prim.Native.Nat.{suc, _≤_}
 use native.Mathlib.Omega.{arith}
 use lib.ListN.{length}
-use Rattle.util.specs.Lists.{those, countOf, All}
-use Rattle.util.proofs.Tests.{by-test, count-cons, count-none}
-use Rattle.util.proofs.All.{all-weaken, all-both, all-any}
+use Rattle.lists.specs.Lists.{those, countOf, All}
+use Rattle.lists.proofs.Tests.{by-test, count-cons, count-none}
+use Rattle.lists.proofs.All.{all-weaken, all-both, all-any}
 use Rattle.backend.specs.Circuit.{Cell, sameCell}
 use Rattle.backend.proofs.Cells.{same-self, same-sym, same-cell}
 use Rattle.preprocessor.specs.Permutation.{lastCell, beforeFrom, before, source, Apart}

@@ -9,12 +9,12 @@ use lib.Dec.{eqb}
 use lib.IntN.{pos}
 use lib.ListN.{length, getD, take, drop, length-append, length-map}
 use borrow.Author.Tests.{eq-eqb, ne-eqb}
-use Rattle.util.specs.Lists.{column, split, total, All}
-use Rattle.util.proofs.Lists.{get-left, get-past, get-map}
-use Rattle.util.proofs.Columns.{column-length, get-column, column-cong, map-column}
-use Rattle.util.proofs.All.{all-get}
-use Rattle.util.proofs.Parts.{get-split, total-next}
-use Rattle.util.proofs.Runs.{part-column, total-first}
+use Rattle.lists.specs.Lists.{column, split, total, All}
+use Rattle.lists.proofs.Lists.{get-left, get-past, get-map}
+use Rattle.lists.proofs.Columns.{column-length, get-column, column-cong, map-column}
+use Rattle.lists.proofs.All.{all-get}
+use Rattle.lists.proofs.Parts.{get-split, total-next}
+use Rattle.lists.proofs.Runs.{part-column, total-first}
 use Rattle.expression.specs.Expr.{Expr, minus, at, distributePowers}
 use Rattle.expression.specs.Nodes.{exprOf}
 use Rattle.expression.specs.Flat.{body, size}

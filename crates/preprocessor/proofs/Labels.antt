@@ -11,14 +11,14 @@ use lib.ListN.{length, getD, drop, set, drop-of-length-le, length-map}
 use lib.Seq.{drop-cons}
 use lib.Dec.{eqb}
 use borrow.Author.Tests.{eq-eqb, ne-eqb}
-use Rattle.util.specs.Lists.{column, below, concat, indexOf, over, All}
-use Rattle.util.proofs.Tests.{false-true, by-test}
-use Rattle.util.proofs.Columns.{column-length, column-cong, column-of, columns-length, get-columns}
-use Rattle.util.proofs.Over.{over-inside, over-front, length-over}
-use Rattle.util.proofs.Parts.{div-row, mod-row, columns-flat}
-use Rattle.util.proofs.Sets.{over-set, set-column}
-use Rattle.util.proofs.Turns.{grid-lt}
-use Rattle.util.proofs.Places.{get-index}
+use Rattle.lists.specs.Lists.{column, below, concat, indexOf, over, All}
+use Rattle.lists.proofs.Tests.{false-true, by-test}
+use Rattle.lists.proofs.Columns.{column-length, column-cong, column-of, columns-length, get-columns}
+use Rattle.lists.proofs.Over.{over-inside, over-front, length-over}
+use Rattle.lists.proofs.Parts.{div-row, mod-row, columns-flat}
+use Rattle.lists.proofs.Sets.{over-set, set-column}
+use Rattle.lists.proofs.Turns.{grid-lt}
+use Rattle.lists.proofs.Places.{get-index}
 use Rattle.backend.specs.Circuit.{Cell, sameCell}
 use Rattle.backend.proofs.Cells.{same-cell, same-self}
 use Rattle.preprocessor.specs.Permutation.{lastCell, before, source, firstLabelIn, cellIn, labelIn, labelColumns, Placed, Once, Starts, cellWord, CycleIn, Moved, inOne, movedWords, Walked}

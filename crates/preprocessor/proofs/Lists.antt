@@ -8,8 +8,8 @@ use native.Mathlib.Numerals.{add-one}
 use native.Mathlib.Omega.{arith}
 use lib.ListN.{length, getD, take, drop, length-append, drop-of-length-le}
 use lib.Seq.{drop-cons}
-use Rattle.util.specs.Lists.{column, All}
-use Rattle.util.proofs.Columns.{column-suc, column-first}
+use Rattle.lists.specs.Lists.{column, All}
+use Rattle.lists.proofs.Columns.{column-suc, column-first}
 use Rattle.expression.specs.Expr.{Expr, Exprs, exprsOf, distributePowers, productFrom, productOf}
 use Rattle.expression.specs.Flat.{body, sizes, extra, size}
 use Rattle.expression.specs.Written.{Pushed, Written, WrittenBase, WrittenList}

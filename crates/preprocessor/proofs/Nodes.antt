@@ -6,10 +6,10 @@ use Prim.Native.Nat.{ℕ, zero, suc, _+_, _-_, _*_, _≤_, _<_}
 use native.Mathlib.Omega.{arith}
 use lib.Dec.{eqb}
 use lib.ListN.{length, getD, take, drop, length-append}
-use Rattle.util.specs.Lists.{column, total, cut, below, concat, ceilDiv}
-use Rattle.util.proofs.Lists.{concat-length}
-use Rattle.util.proofs.Columns.{column-length, column-cong, column-of, map-column, below-length}
-use Rattle.util.proofs.Totals.{total-append, concat-cut, cut-length}
+use Rattle.lists.specs.Lists.{column, total, cut, below, concat, ceilDiv}
+use Rattle.lists.proofs.Lists.{concat-length}
+use Rattle.lists.proofs.Columns.{column-length, column-cong, column-of, map-column, below-length}
+use Rattle.lists.proofs.Totals.{total-append, concat-cut, cut-length}
 use Rattle.expression.specs.Expr.{Expr, Exprs, at, exprsOf, distributePowers}
 use Rattle.expression.specs.Nodes.{exprOf}
 use Rattle.expression.specs.Flat.{body, sizes, extra, size}

@@ -11,11 +11,11 @@ use lib.ListN.{length, getD, take, drop, length-take, length-drop}
 use mir.Val.{Fits}
 use mir.Syntax.{w64}
 use borrow.Author.Tests.{lt-ltb, le-ltb}
-use Rattle.util.specs.Lists.{column, below, cut, ceilDiv, All}
-use Rattle.util.proofs.Columns.{column-length, column-first, map-column, below-length}
-use Rattle.util.proofs.Totals.{ceil-below, ceil-le, get-cut}
-use Rattle.util.proofs.Runs.{drop-column, take-min}
-use Rattle.util.proofs.All.{all-column}
+use Rattle.lists.specs.Lists.{column, below, cut, ceilDiv, All}
+use Rattle.lists.proofs.Columns.{column-length, column-first, map-column, below-length}
+use Rattle.lists.proofs.Totals.{ceil-below, ceil-le, get-cut}
+use Rattle.lists.proofs.Runs.{drop-column, take-min}
+use Rattle.lists.proofs.All.{all-column}
 use Rattle.expression.specs.Expr.{Expr, minus, at, productOf}
 use Rattle.expression.specs.Flat.{body, size}
 use Rattle.expression.specs.Written.{Pushed, Written}

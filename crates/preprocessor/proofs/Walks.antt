@@ -8,14 +8,14 @@ use native.Mathlib.Decide.{ℕ-discrete}
 use native.Mathlib.Omega.{arith}
 use lib.ListN.{length, getD, take, drop, set, length-set, length-map, length-drop}
 use lib.Seq.{getD-set-same, getD-set-other, getD-take, getD-drop, length-take-le, take-all, take-suc}
-use Rattle.util.specs.Lists.{column, below, indexOf, over, split, total, All}
-use Rattle.util.proofs.All.{all-get, all-weaken}
-use Rattle.util.proofs.Lists.{get-map, split-length}
-use Rattle.util.proofs.Columns.{column-length, column-cong, get-column, below-length}
-use Rattle.util.proofs.Over.{length-over, over-none, over-column, over-again}
-use Rattle.util.proofs.Parts.{total-next, total-within, get-split}
-use Rattle.util.proofs.Searches.{column-part}
-use Rattle.util.proofs.Places.{get-index}
+use Rattle.lists.specs.Lists.{column, below, indexOf, over, split, total, All}
+use Rattle.lists.proofs.All.{all-get, all-weaken}
+use Rattle.lists.proofs.Lists.{get-map, split-length}
+use Rattle.lists.proofs.Columns.{column-length, column-cong, get-column, below-length}
+use Rattle.lists.proofs.Over.{length-over, over-none, over-column, over-again}
+use Rattle.lists.proofs.Parts.{total-next, total-within, get-split}
+use Rattle.lists.proofs.Searches.{column-part}
+use Rattle.lists.proofs.Places.{get-index}
 use Rattle.backend.specs.Circuit.{Cell, cellAt, cellsOf}
 use Rattle.preprocessor.specs.Permutation.{source, before, firstLabelIn, labelColumns, permutationColumns, Placed, Once, Apart, Walkable, Starts, cellWord, CycleIn, Walked}
 use Rattle.preprocessor.proofs.Cycles.{source-end}

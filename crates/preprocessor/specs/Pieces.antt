@@ -6,7 +6,7 @@ use Prim.Native.Nat.{ℕ, zero, suc, _+_, _-_, _*_, _/_, _≤_, _<_}
 use lib.ListN.{length, getD, drop}
 use lib.Dec.{eqb, ltb}
 use lib.IntN.{ℤ, pos}
-use Rattle.util.specs.Lists.{below, column, cut, ceilDiv, split, total, laid, All}
+use Rattle.lists.specs.Lists.{below, column, cut, ceilDiv, split, total, laid, All}
 use Rattle.expression.specs.Expr.{Expr, Exprs, minus, at, exprsOf, distributePowers, productOf}
 use Rattle.expression.specs.Nodes.{exprOf}
 use Rattle.expression.specs.Flat.{size}

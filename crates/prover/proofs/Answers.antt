@@ -9,8 +9,8 @@ use lib.Dec.{eqb}
 use lib.ListN.{length, replicate}
 use Rattle.field.specs.Algebra.{Field}
 use Rattle.field.specs.Field.{𝔾}
-use Rattle.util.specs.Lists.{column, below, those, countOf, allOf, total, isSome, isAt, over}
-use Rattle.util.proofs.Columns.{column-cong}
+use Rattle.lists.specs.Lists.{column, below, those, countOf, allOf, total, isSome, isAt, over}
+use Rattle.lists.proofs.Columns.{column-cong}
 use Rattle.prover.specs.declared.Found.{Found}
 use Rattle.prover.specs.Lookup.{lastEqual, multiplicity, covered}
 use Rattle.prover.specs.Words.{countWords}

@@ -12,11 +12,11 @@ use native.Mathlib.Omega.{arith}
 use lib.ListN.{length, getD, set, replicate, length-replicate}
 use borrow.Author.Tests.{eq-eqb, ne-eqb}
 use Rattle.field.specs.Field.{𝔾}
-use Rattle.util.specs.Lists.{column, below, those, countOf, allOf, isSome, isAt, over}
-use Rattle.util.proofs.Columns.{column-length, get-column, column-suc, column-cong, column-replicate, below-length, below-get}
-use Rattle.util.proofs.Tests.{false-true, by-test, and-both, all-each, all-append, count-append, count-one}
-use Rattle.util.proofs.Over.{over-before, over-inside, over-again}
-use Rattle.util.proofs.Sets.{over-column-set}
+use Rattle.lists.specs.Lists.{column, below, those, countOf, allOf, isSome, isAt, over}
+use Rattle.lists.proofs.Columns.{column-length, get-column, column-suc, column-cong, column-replicate, below-length, below-get}
+use Rattle.lists.proofs.Tests.{false-true, by-test, and-both, all-each, all-append, count-append, count-one}
+use Rattle.lists.proofs.Over.{over-before, over-inside, over-again}
+use Rattle.lists.proofs.Sets.{over-column-set}
 use Rattle.prover.specs.Lookup.{lastEqual, multiplicity, covered}
 use Rattle.prover.specs.Words.{countWords}
 use Rattle.prover.proofs.Search.{lastRow, row-same}

@@ -15,11 +15,11 @@ use Rattle.field.proofs.Elements.{val-zero, val-el-mod}
 use Rattle.bh.specs.Rows.{rowAt, placeOf}
 use Rattle.bh.proofs.Order.{row-lt}
 use Rattle.bh.proofs.Place.{row-place, place-row}
-use Rattle.util.specs.Lists.{column, over, split, total}
-use Rattle.util.proofs.Columns.{column-cong, column-replicate}
-use Rattle.util.proofs.Lists.{get-none, get-map, split-length}
-use Rattle.util.proofs.Parts.{split-more}
-use Rattle.util.proofs.Sets.{over-column-set}
+use Rattle.lists.specs.Lists.{column, over, split, total}
+use Rattle.lists.proofs.Columns.{column-cong, column-replicate}
+use Rattle.lists.proofs.Lists.{get-none, get-map, split-length}
+use Rattle.lists.proofs.Parts.{split-more}
+use Rattle.lists.proofs.Sets.{over-column-set}
 use Rattle.prover.specs.Columns.{instanceAt}
 use Rattle.prover.specs.Words.{wordsOf}
 use Rattle.prover.proofs.Words.{words-none, words-more}
@@ -135,7 +135,7 @@ module _ (k : ℕ) (ns xs : List ℕ) (i : ℕ) (lt : i < length ns) where
 
 pub instance-start : (k : ℕ) (xs d : List ℕ) → d ≡ over d 0 (wordsOf (2 ^ k) (polys k [] xs))
 unfolding split
-instance-start k xs d = sym (ap (over d 0) (words-none (2 ^ k)) ∙ Rattle.util.proofs.Over.over-none d 0)
+instance-start k xs d = sym (ap (over d 0) (words-none (2 ^ k)) ∙ Rattle.lists.proofs.Over.over-none d 0)
 
 -- the words of column i are there
 pub words-there : (i n r at len : ℕ) → i < n → at ≡ i * r → n * r ≤ len → at + r ≤ len

@@ -4,8 +4,8 @@ use Prim.Native.Nat.{_+_, _*_}
 use native.Mathlib.Omega.{arith}
 use lib.ListN.{length, length-append, length-map}
 use Rattle.field.specs.Algebra.{Field}
-use Rattle.util.proofs.Lists.{split-length, pairs-length}
-use Rattle.util.proofs.Columns.{column-length}
+use Rattle.lists.proofs.Lists.{split-length, pairs-length}
+use Rattle.lists.proofs.Columns.{column-length}
 use Rattle.backend.specs.Circuit.{numInstance, numPoly, numCopied, numLookups}
 use Rattle.preprocessor.specs.Compose.{numZ}
 use Rattle.prover.specs.Log.{Log}

@@ -6,11 +6,11 @@ use native.Mathlib.Omega.{arith}
 use lib.ListN.{length, getD, take, drop, length-map}
 use lib.Seq.{getD-take, getD-drop}
 use Rattle.field.specs.Field.{𝔾, el, val, el-zero, el-val}
-use Rattle.util.specs.Lists.{column, concat, split}
-use Rattle.util.proofs.All.{all-any, map-same}
-use Rattle.util.proofs.Columns.{column-length, column-cong, get-column}
-use Rattle.util.proofs.Turns.{grid-lt}
-use Rattle.util.proofs.Lists.{get-map}
+use Rattle.lists.specs.Lists.{column, concat, split}
+use Rattle.lists.proofs.All.{all-any, map-same}
+use Rattle.lists.proofs.Columns.{column-length, column-cong, get-column}
+use Rattle.lists.proofs.Turns.{grid-lt}
+use Rattle.lists.proofs.Lists.{get-map}
 use Rattle.expression.specs.Expr.{Expr}
 use Rattle.expression.specs.Value.{Environment, polyOf, valueAt}
 use Rattle.expression.specs.Reader.{polysOf}

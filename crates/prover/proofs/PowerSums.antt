@@ -11,11 +11,11 @@ use lib.Seq.{getD-take, getD-drop, ext-getD, length-take-le}
 use Rattle.field.specs.Field.{𝔾, el, val, el-zero, el-one}
 use Rattle.field.specs.Algebra.{pow, mul-comm}
 use Rattle.bh.specs.Sums.{upTo}
-use Rattle.util.specs.Lists.{column, concat, over, split, total}
-use Rattle.util.proofs.Columns.{column-length, column-cong, get-column, map-column}
-use Rattle.util.proofs.Lists.{get-none, concat-end, pairs-length, split-length}
-use Rattle.util.proofs.Over.{over-none, over-over, over-before}
-use Rattle.util.proofs.Parts.{split-more}
+use Rattle.lists.specs.Lists.{column, concat, over, split, total}
+use Rattle.lists.proofs.Columns.{column-length, column-cong, get-column, map-column}
+use Rattle.lists.proofs.Lists.{get-none, concat-end, pairs-length, split-length}
+use Rattle.lists.proofs.Over.{over-none, over-over, over-before}
+use Rattle.lists.proofs.Parts.{split-more}
 use Rattle.identities.proofs.Totals.{upTo-cong, upTo-suc}
 use Rattle.expression.specs.Expr.{Expr, evaluate}
 use Rattle.expression.specs.Nodes.{wordOf, nodeOf, kindOf, noExpr, noExprs, under, exprOf, itemsOf}

@@ -10,7 +10,7 @@ use Rattle.bh.specs.Rows.{rowAt, placeOf, nextRow}
 use Rattle.bh.proofs.Iter.{iter-zero}
 use Rattle.bh.proofs.Order.{row-suc, row-next, row-lt}
 use Rattle.bh.proofs.Place.{row-place, place-row, place-lt}
-use Rattle.util.proofs.Turns.{Turns}
+use Rattle.lists.proofs.Turns.{Turns}
 
 pub row-turns : (k : ℕ) → 0 < k → k < 21 → Turns (2 ^ k) (placeOf k) (rowAt k)
 row-turns k hk lk =

@@ -8,7 +8,7 @@ use native.Mathlib.Omega.{arith}
 use Rattle.field.specs.Prime.{P}
 use Rattle.field.specs.Field.{𝔾, el}
 use Rattle.field.proofs.Elements.{el-injective}
-use Rattle.util.specs.Lists.{lastWhere}
+use Rattle.lists.specs.Lists.{lastWhere}
 use Rattle.prover.specs.declared.Found.{Found}
 use Rattle.prover.specs.Lookup.{same, lastEqual}
 use Rattle.prover.specs.Answers.{answered, found}

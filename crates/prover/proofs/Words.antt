@@ -7,11 +7,11 @@ use native.Mathlib.Omega.{arith}
 use lib.ListN.{length, getD, length-append}
 use Rattle.field.specs.Prime.{P}
 use Rattle.field.specs.Field.{𝔾, val, val-lt}
-use Rattle.util.specs.Lists.{column, concat, over, All}
-use Rattle.util.proofs.All.{all-join, all-column}
-use Rattle.util.proofs.Columns.{column-length, get-column}
-use Rattle.util.proofs.Lists.{get-left, get-past, concat-append}
-use Rattle.util.proofs.Over.{over-over}
+use Rattle.lists.specs.Lists.{column, concat, over, All}
+use Rattle.lists.proofs.All.{all-join, all-column}
+use Rattle.lists.proofs.Columns.{column-length, get-column}
+use Rattle.lists.proofs.Lists.{get-left, get-past, concat-append}
+use Rattle.lists.proofs.Over.{over-over}
 use Rattle.expression.specs.Value.{polyOf}
 use Rattle.prover.specs.Words.{wordsOf}
 

@@ -8,7 +8,7 @@ use Prim.Native.Nat.{ℕ}
 use lib.Dec.{eqb}
 use lib.ListN.{replicate}
 use Rattle.field.specs.Algebra.{Field}
-use Rattle.util.specs.Lists.{column, below, total}
+use Rattle.lists.specs.Lists.{column, below, total}
 use Rattle.prover.specs.declared.Found.{Found}
 use Rattle.prover.specs.declared.Found.the-variants.{At, Nothing}
 use Rattle.prover.specs.Lookup.{lastEqual}

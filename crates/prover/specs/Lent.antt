@@ -5,7 +5,7 @@ use Prim.Native.Nat.{ℕ, _+_, _*_, _%_, _^_, _≤_, _<_}
 use lib.ListN.{length, getD}
 use Rattle.field.specs.Algebra.{Field}
 use Rattle.field.specs.Field.{𝔾, el}
-use Rattle.util.specs.Lists.{column, concat}
+use Rattle.lists.specs.Lists.{column, concat}
 use Rattle.expression.specs.Expr.{Expr}
 use Rattle.expression.specs.Nodes.{exprOf}
 use Rattle.expression.specs.Value.{Environment, polyOf, valueAt}

@@ -5,7 +5,7 @@ use Prim.Native.Nat.{ℕ, _+_, _<_}
 use lib.ListN.{length, getD, replicate}
 use Rattle.field.specs.Prime.{P}
 use Rattle.field.specs.Field.{𝔾, el, val}
-use Rattle.util.specs.Lists.{column, concat}
+use Rattle.lists.specs.Lists.{column, concat}
 use Rattle.prover.specs.Lookup.{multiplicity, covered}
 
 -- columns as words, "each 2^k words"

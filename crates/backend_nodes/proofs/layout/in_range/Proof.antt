@@ -1,0 +1,120 @@
+use borrow.Author.Needs.{needs}
+use mathlib.Core.Path.{_≡_, refl, sym, ap, _∙_}
+use mathlib.Core.Bool.{Bool, true, false}
+use Prim.Native.Nat.{ℕ, _+_, _*_, _-_, _/_, _≤_, _<_}
+use native.Mathlib.Omega.{arith}
+use lib.ListN.{length, getD, take}
+use mathlib.Core.Bool.{_&&_}
+use lib.Dec.{ltb}
+use Rattle.expression.specs.Nodes.{kindOf}
+use Rattle.backend.specs.Layout.{inRange}
+use Rattle.backend_nodes.proofs.layout.Nodes.{by-kind, no-number}
+use Rattle.backend_nodes.proofs.layout.in_range.Statement.{statement}
+use Rattle.backend_nodes.proofs.layout.in_range.Tie as tie
+use Rattle.backend_nodes.proofs.layout.in_range.Reads as reads
+use Rattle.backend_nodes.proofs.layout.in_range.Lts as lts
+use Rattle.backend_nodes.proofs.layout.near.Reads as near-reads
+
+-- src/layout.rt:217:14
+mul-at : tie.Need-mul-at
+mul-at c = search needs
+
+-- src/layout.rt:218:11
+mul-match : tie.Need-mul-match
+mul-match c = search needs
+
+-- src/layout.rt:218:11
+shared-slice-read-match : tie.Need-shared-slice-read-match
+shared-slice-read-match c = search needs
+
+-- src/layout.rt:220:21
+add-result : tie.Need-add-result
+add-result c = search needs
+
+-- src/layout.rt:220:15
+mul-result : tie.Need-mul-result
+mul-result c = search needs
+
+-- src/layout.rt:220:15
+shared-slice-read-result : tie.Need-shared-slice-read-result
+shared-slice-read-result c = search needs
+
+-- src/layout.rt:220:51
+add-near : tie.Need-add-near
+add-near c = search needs
+
+-- src/layout.rt:220:45
+mul-near : tie.Need-mul-near
+mul-near c = search needs
+
+-- src/layout.rt:220:45
+shared-slice-read-near : tie.Need-shared-slice-read-near
+shared-slice-read-near c = search needs
+
+-- src/layout.rt:220:40
+near-requires : tie.Need-near-requires
+near-requires c κs = search needs
+
+-- src/layout.rt:221:20
+add-result-2 : tie.Need-add-result-2
+add-result-2 c = search needs
+
+-- src/layout.rt:221:14
+mul-result-2 : tie.Need-mul-result-2
+mul-result-2 c = search needs
+
+-- src/layout.rt:221:14
+shared-slice-read-result-2 : tie.Need-shared-slice-read-result-2
+shared-slice-read-result-2 c = search needs
+
+-- src/layout.rt:213:1
+returns : tie.Need-returns
+unfolding kindOf
+returns c =
+    let a = c .before .before .before .args in
+    by-kind (a .nodes .now) (a .n) (inRange (a .polys) (a .user) (a .k)) 4 (c .match .keys1)
+
+-- src/layout.rt:213:1
+returns-2 : tie.Need-returns-2
+unfolding kindOf
+returns-2 c =
+    let a = c .before .before .before .before .before .before .args in
+    ap (λ (t : Bool). ltb (getD (a .nodes .now) (a .n * 4 + 1) 0) (a .polys) && t) (c .near .ensures)
+    ∙ by-kind (a .nodes .now) (a .n) (inRange (a .polys) (a .user) (a .k)) 5 (c .before .before .before .match .keys2)
+
+-- src/layout.rt:213:1
+returns-3 : tie.Need-returns-3
+unfolding kindOf
+returns-3 c =
+    let a = c .before .before .before .before .args in
+    by-kind (a .nodes .now) (a .n) (inRange (a .polys) (a .user) (a .k)) 6 (c .before .match .keys3)
+
+-- src/layout.rt:213:1
+returns-4 : tie.Need-returns-4
+returns-4 c =
+    let a = c .before .before .before .args in
+    let w = getD (a .nodes .now) (a .n * 4) 0 in
+    no-number (a .polys) (a .user) (a .k) w (getD (a .nodes .now) (a .n * 4 + 1) 0) (getD (a .nodes .now) (a .n * 4 + 2) 0) (getD (a .nodes .now) (a .n * 4 + 3) 0) (c .match .rest)
+    ∙ by-kind (a .nodes .now) (a .n) (inRange (a .polys) (a .user) (a .k)) w refl
+
+pub in-range-spec : {M : Type 1} → statement M
+in-range-spec =
+    tie.close
+    (tie.spec
+    mul-at
+    mul-match
+    shared-slice-read-match
+    add-result
+    mul-result
+    shared-slice-read-result
+    add-near
+    mul-near
+    shared-slice-read-near
+    near-requires
+    add-result-2
+    mul-result-2
+    shared-slice-read-result-2
+    returns
+    returns-2
+    returns-3
+    returns-4)

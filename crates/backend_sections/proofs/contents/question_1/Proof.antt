@@ -1,0 +1,14 @@
+use mathlib.Core.Path.{refl}
+use Rattle.backend.specs.Questions.{q1}
+use Rattle.backend_sections.proofs.contents.question_1.Statement.{statement}
+use Rattle.backend_sections.proofs.contents.question_1.Tie as tie
+use Rattle.backend_sections.proofs.contents.question_1.Reads as reads
+use Rattle.backend_sections.proofs.contents.question_1.Lts as lts
+
+-- src/contents.rt:37:1
+returns : tie.Need-returns
+unfolding q1
+returns c = refl
+
+pub question-1-spec : {M : Type 1} → statement M
+question-1-spec = tie.close (tie.spec returns)

@@ -1,0 +1,60 @@
+// The numbers of a circuit, from its bodies.
+use crate::reader::k_of;
+use crate::reader::rounds_of;
+use crate::words::total_to;
+ghost use mathlib.Core.Path.{_≡_};
+ghost use Prim.Native.Nat.{_^_, min};
+ghost use Rattle.backend.specs.Circuit.{wordK, circuitOf, numWitness, numUser, numPoly};
+ghost use Rattle.backend.specs.Laid.{Laid, Counted};
+
+// Rows: 2^k.
+pub fn rows(circuit: &[u64]) -> u64
+    requires { ⌜ Laid (now circuit) ⌝ }
+    ensures { λ r. ⌜ r ≡ 2 ^ wordK (now (circuit .entry)) ⌝ }
+{
+    let k = k_of(circuit);
+    1 << k
+}
+
+// Witness columns in all, the limit where they are more.
+pub fn witness_to(circuit: &[u64], limit: u64) -> u64
+    requires { ⌜ Laid (now circuit) ⌝ }
+    ensures { λ r. ⌜ r ≡ min (numWitness (circuitOf (now (circuit .entry)))) limit ⌝ }
+{
+    let rounds = rounds_of(circuit);
+    total_to(rounds, 2, 0, rounds.len() / 2, limit)
+}
+
+// User challenges in all, the limit where they are more.
+pub fn user_to(circuit: &[u64], limit: u64) -> u64
+    requires { ⌜ Laid (now circuit) ⌝ }
+    ensures { λ r. ⌜ r ≡ min (numUser (circuitOf (now (circuit .entry)))) limit ⌝ }
+{
+    let rounds = rounds_of(circuit);
+    total_to(rounds, 2, 1, rounds.len() / 2, limit)
+}
+
+// Witness columns in all.
+pub fn num_witness(circuit: &[u64]) -> u64
+    requires { ⌜ Laid (now circuit) × Counted (now circuit) ⌝ }
+    ensures { λ r. ⌜ r ≡ numWitness (circuitOf (now (circuit .entry))) ⌝ }
+{
+    witness_to(circuit, 33)
+}
+
+// User challenges in all.
+pub fn num_user(circuit: &[u64]) -> u64
+    requires { ⌜ Laid (now circuit) × Counted (now circuit) ⌝ }
+    ensures { λ r. ⌜ r ≡ numUser (circuitOf (now (circuit .entry))) ⌝ }
+{
+    user_to(circuit, 17)
+}
+
+// Rust `num_poly`: instance, preprocess and witness columns.
+pub fn num_poly(circuit: &[u64]) -> u64
+    requires { ⌜ Laid (now circuit) × Counted (now circuit) ⌝ }
+    ensures { λ r. ⌜ r ≡ numPoly (circuitOf (now (circuit .entry))) ⌝ }
+{
+    let witness = num_witness(circuit);
+    circuit[3] + circuit[5] + witness
+}

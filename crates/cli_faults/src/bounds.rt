@@ -1,0 +1,96 @@
+// The contents of circuit words as they stand, read with no question asked: a word past the last is 0.
+use backend_sections::contents::word;
+
+// No place.
+pub const NONE: usize = 18446744073709551615;
+
+// p
+pub const MODULUS: u64 = 18446744069414584321;
+
+// A place some words on.
+pub fn after(at: usize, words: usize) -> usize {
+    std::num::wrapping_add_usize(at, words)
+}
+
+// Starts and counts, and the sums that questions 7 to 11 go by.
+pub struct Bounds {
+    pub k: u64,
+    pub rows: u64,
+    pub polys: u64,
+    pub witness: u64,
+    pub user: u64,
+    pub rounds: u64,
+    pub nodes_start: usize,
+    pub nodes: u64,
+    pub constraints_start: usize,
+    pub constraints: u64,
+    pub pairs_start: usize,
+    pub pair_words: u64,
+    pub lengths_start: usize,
+    pub lengths: u64,
+    pub cells_start: usize,
+    pub cells: u64,
+}
+
+// A count, and no more than there are words.
+pub fn at_most_all(circuit: &[u64], count: u64) -> u64 {
+    let all = circuit.len() as u64;
+    if count < all { count } else { all }
+}
+
+// The sum, 2^64 - 1 where it is more.
+fn plus(a: u64, b: u64) -> u64 {
+    if 18446744073709551615 - b < a {
+        return 18446744073709551615;
+    }
+    a + b
+}
+
+// The sum of every `step`-th word of `count`, from a place on, 2^64 - 1 where it is more.
+pub fn sum_of(circuit: &[u64], start: usize, step: usize, count: u64) -> u64 {
+    let turns = at_most_all(circuit, count);
+    let mut sum: u64 = 0;
+    let mut at = start;
+    let mut j: u64 = 0;
+    while j < turns {
+        sum = plus(sum, word(circuit, at));
+        at = after(at, step);
+        j += 1;
+    }
+    sum
+}
+
+// 2^k, 0 for a k of 64 or more.
+pub fn rows_of(k: u64) -> u64 {
+    if k < 64 {
+        return 1 << k;
+    }
+    0
+}
+
+pub fn bounds_of(circuit: &[u64]) -> Bounds {
+    let k = word(circuit, 0);
+    let rounds_start = word(circuit, 6) as usize;
+    let rounds = word(circuit, 7);
+    let witness = sum_of(circuit, rounds_start, 2, rounds);
+    let user = sum_of(circuit, after(rounds_start, 1), 2, rounds);
+    let given = std::num::wrapping_add_u64(word(circuit, 3), word(circuit, 5));
+    Bounds {
+        k: k,
+        rows: rows_of(k),
+        polys: std::num::wrapping_add_u64(given, witness),
+        witness: witness,
+        user: user,
+        rounds: rounds,
+        nodes_start: word(circuit, 8) as usize,
+        nodes: word(circuit, 9),
+        constraints_start: word(circuit, 10) as usize,
+        constraints: word(circuit, 11),
+        pairs_start: word(circuit, 14) as usize,
+        pair_words: word(circuit, 15) << 1,
+        lengths_start: word(circuit, 16) as usize,
+        lengths: word(circuit, 17),
+        cells_start: word(circuit, 18) as usize,
+        cells: word(circuit, 19),
+    }
+}

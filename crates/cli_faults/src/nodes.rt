@@ -1,0 +1,191 @@
+// Faults of one node's words, for questions 6, 7 and 8: the place of the first offending word, or NONE; and what is wrong with it.
+use crate::bounds::Bounds;
+use crate::bounds::NONE;
+use crate::bounds::after;
+use backend_sections::contents::word;
+use backend_sections::words::is_element;
+
+// What is wrong with a word of a node: nothing; it is not used, and not 0; it is above the largest value; it names a node that
+// is not lower, an Item, a node that is no Item, the last Item.
+pub const RIGHT: u64 = 0;
+
+pub const UNUSED: u64 = 1;
+
+pub const LARGE: u64 = 2;
+
+pub const HIGH: u64 = 3;
+
+pub const ITEM: u64 = 4;
+
+pub const NO_ITEM: u64 = 5;
+
+pub const LAST_ITEM: u64 = 6;
+
+// Question 6: Constants and scalars below p.
+pub fn value_fault(circuit: &[u64], at: usize) -> usize {
+    let kind = word(circuit, at);
+    let held = (kind == 1) | (kind == 10);
+    let value = after(at, 3);
+    if held & !is_element(word(circuit, value)) {
+        return value;
+    }
+    NONE
+}
+
+// Is it one of the kinds?
+pub fn is_kind(kind: u64) -> bool {
+    (1 <= kind) & (kind <= 12)
+}
+
+// The words that a kind uses: does it name a node, a polynomial or a challenge first, a node second, and hold a value?
+fn uses_first(kind: u64) -> bool {
+    (5 <= kind) & (kind <= 12)
+}
+
+pub fn uses_second(kind: u64, value: u64) -> bool {
+    (kind == 8) | (kind == 9) | (kind == 11) | ((kind == 12) & (value == 1))
+}
+
+fn uses_value(kind: u64) -> bool {
+    (kind == 1) | (3 <= kind) & (kind <= 5) | (kind == 10) | (kind == 12)
+}
+
+// The largest value that a kind may hold.
+pub fn largest(kind: u64) -> u64 {
+    match kind {
+        3 => 4294967295,
+        5 => 4294967295,
+        12 => 1,
+        _ => 18446744073709551615,
+    }
+}
+
+// The place of node n's first word.
+pub fn node_at(start: usize, n: u64) -> usize {
+    after(start, (n << 2) as usize)
+}
+
+// What is wrong with n as the number of a node below `limit` that is an Item, or is none, as asked.
+pub fn name_why(circuit: &[u64], start: usize, limit: u64, n: u64, item: bool) -> u64 {
+    if limit <= n {
+        return HIGH;
+    }
+    let is_item = word(circuit, node_at(start, n)) == 12;
+    if is_item == item {
+        return RIGHT;
+    }
+    if item { NO_ITEM } else { ITEM }
+}
+
+// Does the kind name a node first?
+pub fn names_first(kind: u64) -> bool {
+    (7 <= kind) & (kind <= 12)
+}
+
+// What is wrong with the first word of node n, which begins at a place: "an unused word is 0", "A node names lower nodes only",
+// and an Item is "named only as the second of kind 11 or 12".
+pub fn first_why(circuit: &[u64], start: usize, at: usize, n: u64) -> u64 {
+    let kind = word(circuit, at);
+    let first = word(circuit, after(at, 1));
+    if !uses_first(kind) & (first != 0) {
+        return UNUSED;
+    }
+    if names_first(kind) {
+        return name_why(circuit, start, n, first, false);
+    }
+    RIGHT
+}
+
+// Is the node the last Item, by its value?
+fn is_last(circuit: &[u64], start: usize, n: u64) -> bool {
+    word(circuit, after(node_at(start, n), 3)) != 1
+}
+
+// What is wrong with the Item that kind 11 or 12 names second: after 11 it is not the last.
+fn item_why(circuit: &[u64], start: usize, limit: u64, kind: u64, n: u64) -> u64 {
+    let why = name_why(circuit, start, limit, n, true);
+    if why != RIGHT {
+        return why;
+    }
+    if (kind == 11) & is_last(circuit, start, n) {
+        return LAST_ITEM;
+    }
+    RIGHT
+}
+
+// What is wrong with the second word of node n. Of an Item whose value is above 1 it is not known whether it names another.
+pub fn second_why(circuit: &[u64], start: usize, at: usize, n: u64) -> u64 {
+    let kind = word(circuit, at);
+    let second = word(circuit, after(at, 2));
+    let value = word(circuit, after(at, 3));
+    if !uses_second(kind, value) {
+        let known = (kind != 12) | (value == 0);
+        if known & (second != 0) {
+            return UNUSED;
+        }
+        return RIGHT;
+    }
+    if kind < 11 {
+        return name_why(circuit, start, n, second, false);
+    }
+    item_why(circuit, start, n, kind, second)
+}
+
+// What is wrong with the value of a node.
+pub fn value_why(circuit: &[u64], at: usize) -> u64 {
+    let kind = word(circuit, at);
+    let value = word(circuit, after(at, 3));
+    if !uses_value(kind) & (value != 0) {
+        return UNUSED;
+    }
+    if largest(kind) < value {
+        return LARGE;
+    }
+    RIGHT
+}
+
+// Question 7, of one node by itself: kind, first, second and value in this order.
+pub fn layout_fault(circuit: &[u64], start: usize, at: usize, n: u64) -> usize {
+    if !is_kind(word(circuit, at)) {
+        return at;
+    }
+    if first_why(circuit, start, at, n) != RIGHT {
+        return after(at, 1);
+    }
+    if second_why(circuit, start, at, n) != RIGHT {
+        return after(at, 2);
+    }
+    if value_why(circuit, at) != RIGHT {
+        return after(at, 3);
+    }
+    NONE
+}
+
+// Is a kept rotation from -k to k?
+fn is_near(kept: u64, k: u64) -> bool {
+    if kept < 2147483648 {
+        2147483648 - kept <= k
+    } else {
+        kept - 2147483648 <= k
+    }
+}
+
+// Question 8.
+pub fn range_fault(circuit: &[u64], b: Bounds, at: usize) -> usize {
+    let kind = word(circuit, at);
+    let first = after(at, 1);
+    let value = after(at, 3);
+    if kind == 4 {
+        return at;
+    }
+    if (kind == 5) & (b.polys <= word(circuit, first)) {
+        return first;
+    }
+    if (kind == 5) & !is_near(word(circuit, value), b.k) {
+        return value;
+    }
+    if (kind == 6) & (b.user <= word(circuit, first)) {
+        return first;
+    }
+    NONE
+}

@@ -1,0 +1,64 @@
+// What circuit words have, section by section.
+use backend_sections::contents::word;
+use cli_faults::bounds::Bounds;
+use cli_faults::bounds::bounds_of;
+use cli_faults::bounds::sum_of;
+use cli_texts::say;
+
+fn size(b: Bounds, stated: u64) {
+    say::out(b"k is ");
+    say::number(b.k);
+    say::line(b", rows: ", b.rows);
+    if stated == 0 {
+        say::out(b"maximum degree: none stated\n");
+    } else {
+        say::line(b"maximum degree: ", std::num::wrapping_sub_u64(stated, 1));
+    }
+}
+
+// A count and another after it, each with its name.
+fn two(first: &[u8], n: u64, second: &[u8], m: u64) {
+    say::out(first);
+    say::number(n);
+    say::line(second, m);
+}
+
+fn columns(circuit: &[u64], b: Bounds) {
+    let instances = word(circuit, 3);
+    let values = sum_of(circuit, word(circuit, 2) as usize, 1, instances);
+    two(
+        b"instance columns: ",
+        instances,
+        b", values in all: ",
+        values,
+    );
+    say::line(b"preprocess columns: ", word(circuit, 5));
+    say::out(b"rounds: ");
+    say::number(b.rounds);
+    two(
+        b", witness columns in all: ",
+        b.witness,
+        b", user challenges in all: ",
+        b.user,
+    );
+}
+
+fn expressions(circuit: &[u64], b: Bounds) {
+    say::line(b"nodes: ", b.nodes);
+    say::line(b"constraints: ", b.constraints);
+    two(
+        b"lookups: ",
+        word(circuit, 13),
+        b", pairs in all: ",
+        word(circuit, 15),
+    );
+    two(b"cycles: ", b.lengths, b", cells in all: ", b.cells);
+}
+
+// The sections with their counts.
+pub fn sections(circuit: &[u64]) {
+    let b = bounds_of(circuit);
+    size(b, word(circuit, 1));
+    columns(circuit, b);
+    expressions(circuit, b);
+}

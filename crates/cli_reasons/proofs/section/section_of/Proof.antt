@@ -1,0 +1,54 @@
+-- `section_of` is safe and ends. The measure is the sections left. Assumes nothing.
+use Prim.Native.Nat.{_-_}
+use borrow.Author.Needs.{needs}
+use Rattle.cli_reasons.proofs.section.section_of.Statement.{statement}
+use Rattle.cli_reasons.proofs.section.section_of.Tie as tie
+
+abbrev Inv-loop : tie.InvT-loop
+Inv-loop circuit at next₀ s₀ next s = Unit {0}
+
+abbrev μ-loop : tie.MeasureT-loop
+μ-loop circuit at next₀ s₀ next s = 8 - s
+
+returns : tie.Need-returns Inv-loop μ-loop
+returns c = search needs
+
+loop-holds : tie.Need-loop-holds Inv-loop μ-loop
+loop-holds c = search needs
+
+word-requires : tie.Need-word-requires Inv-loop μ-loop
+word-requires c κs = search needs
+
+returns-2 : tie.Need-returns-2 Inv-loop μ-loop
+returns-2 c = search needs
+
+after-requires : tie.Need-after-requires Inv-loop μ-loop
+after-requires c κs = search needs
+
+add-s : tie.Need-add-s Inv-loop μ-loop
+add-s c = search needs
+
+loop-less : tie.Need-loop-less Inv-loop μ-loop
+loop-less c = search needs
+
+loop-again : tie.Need-loop-again Inv-loop μ-loop
+loop-again c = search needs
+
+returns-3 : tie.Need-returns-3 Inv-loop μ-loop
+returns-3 c = search needs
+
+pub section-of-spec : {M : Type 1} → statement M
+section-of-spec =
+    tie.close
+    (tie.spec
+    Inv-loop
+    μ-loop
+    returns
+    loop-holds
+    word-requires
+    returns-2
+    after-requires
+    add-s
+    loop-less
+    loop-again
+    returns-3)

@@ -1,0 +1,201 @@
+// What is said of questions 5, 6 and 8 to 11.
+use backend_sections::contents::word;
+use cli_faults::bounds::Bounds;
+use cli_faults::bounds::MODULUS;
+use cli_faults::bounds::NONE;
+use cli_faults::bounds::after;
+use cli_faults::bounds::bounds_of;
+use cli_faults::cells::stood;
+use cli_faults::degrees::ABOVE;
+use cli_faults::degrees::degree_of;
+use cli_faults::degrees::lookup_degree;
+use cli_faults::degrees::lookup_start;
+use cli_texts::say;
+
+// One less than a count.
+fn last(count: u64) -> u64 {
+    std::num::wrapping_sub_u64(count, 1)
+}
+
+// How far a place is behind a start.
+fn behind(place: usize, start: u64) -> u64 {
+    std::num::wrapping_sub_u64(place as u64, start)
+}
+
+fn round_why(part: u64) {
+    say::error_count(b"round ", part / 2);
+    if part % 2 == 0 {
+        say::error(b" has no witness column, at least 1 is asked\n");
+    } else {
+        say::error(b" has no challenge, every round but the last has at least 1\n");
+    }
+}
+
+// Question 5.
+pub fn columns_why(circuit: &[u64], place: usize) {
+    let b = bounds_of(circuit);
+    if (place as u64) < word(circuit, 4) {
+        say::error_count(b"instance column ", behind(place, word(circuit, 2)));
+        say::error_count(b" has ", word(circuit, place));
+        say::error_count(b" values, at most ", last(b.rows));
+        say::error(b"\n");
+        return;
+    }
+    round_why(behind(place, word(circuit, 6)));
+}
+
+// The column of a word of the preprocess columns.
+fn column_of(part: u64, k: u64) -> u64 {
+    if k < 64 {
+        return part >> k;
+    }
+    0
+}
+
+// Question 6.
+pub fn value_why(circuit: &[u64], place: usize) {
+    let b = bounds_of(circuit);
+    if (place as u64) < word(circuit, 6) {
+        let part = behind(place, word(circuit, 4));
+        say::error_count(b"preprocess column ", column_of(part, b.k));
+        say::error_count(b", row ", part & last(b.rows));
+    } else {
+        say::error(b"a Constant or scalar");
+    }
+    say::error_count(b": at most p - 1, which is ", last(MODULUS));
+    say::error(b"\n");
+}
+
+// A polynomial number out of range.
+fn poly_why(b: Bounds, n: u64) {
+    say::error_range(b"polynomial ", n, 0, last(b.polys));
+}
+
+// A user challenge number out of range.
+fn user_why(b: Bounds, n: u64) {
+    if b.user == 0 {
+        say::error_count(b"user challenge ", n);
+        say::error(b", there is none\n");
+        return;
+    }
+    say::error_range(b"user challenge ", n, 0, last(b.user));
+}
+
+// A kept rotation out of range.
+fn rotation_why(kept: u64, k: u64) {
+    if kept < 2147483648 {
+        say::error_count(b"rotation -", std::num::wrapping_sub_u64(2147483648, kept));
+    } else {
+        say::error_count(b"rotation ", std::num::wrapping_sub_u64(kept, 2147483648));
+    }
+    say::error_two(b", from -", k, b" to ", k);
+}
+
+// Question 8.
+pub fn range_why(circuit: &[u64], place: usize) {
+    let b = bounds_of(circuit);
+    let part = std::num::wrapping_sub_usize(place, b.nodes_start) % 4;
+    let kind = word(circuit, std::num::wrapping_sub_usize(place, part));
+    let held = word(circuit, place);
+    if part == 0 {
+        say::error(b"kind 4, EqXY, stands in the composed expression only\n");
+        return;
+    }
+    if part == 3 {
+        rotation_why(held, b.k);
+        return;
+    }
+    if kind == 5 {
+        poly_why(b, held);
+    } else {
+        user_why(b, held);
+    }
+}
+
+// Question 9.
+pub fn width_why(circuit: &[u64], place: usize) {
+    if place == 11 {
+        say::error(b"there is no constraint, no lookup and no cycle, at least one is asked\n");
+        return;
+    }
+    say::error_count(b"lookup ", behind(place, word(circuit, 12)));
+    say::error(b" has width 0, at least 1 is asked\n");
+}
+
+// A degree, which is known up to a number.
+fn degree(n: u64, known: u64) {
+    if known < n {
+        say::error(b" has a degree above 1024");
+    } else {
+        say::error_count(b" has degree ", n);
+    }
+}
+
+// The number of the lookup whose pairs begin at a place.
+fn lookup_at(circuit: &[u64], b: Bounds, place: usize) -> u64 {
+    let mut i: u64 = 0;
+    while i < 8 {
+        if lookup_start(circuit, b, i) == place {
+            return i;
+        }
+        i += 1;
+    }
+    8
+}
+
+// A lookup of too large a degree.
+fn lookup_why(circuit: &[u64], b: Bounds, place: usize) {
+    let i = lookup_at(circuit, b, place);
+    let at = after(word(circuit, 12) as usize, i as usize);
+    let n = lookup_degree(circuit, b, place, word(circuit, at));
+    say::error_count(b"lookup ", i);
+    degree(n, last(ABOVE));
+    say::error(b", at most 1024\n");
+}
+
+// Question 10.
+pub fn degree_why(circuit: &[u64], place: usize) {
+    let b = bounds_of(circuit);
+    let stated = word(circuit, 1);
+    if b.pairs_start <= place {
+        lookup_why(circuit, b, place);
+        return;
+    }
+    let j = std::num::wrapping_sub_usize(place, b.constraints_start);
+    say::error_count(b"constraint ", j as u64);
+    degree(degree_of(circuit, b, word(circuit, place)), 1024);
+    if stated == 0 {
+        say::error(b", at most 1024\n");
+        return;
+    }
+    say::error_count(b", at most ", last(stated));
+    say::error(b" is stated\n");
+}
+
+// Where the cell at a place stood before in its cycle, or NONE.
+pub fn stood_before(circuit: &[u64], place: usize) -> usize {
+    let b = bounds_of(circuit);
+    let part = std::num::wrapping_sub_usize(place, b.cells_start);
+    if (place < b.cells_start) | (part % 2 != 0) {
+        return NONE;
+    }
+    stood(circuit, b, place, (part / 2) as u64)
+}
+
+// Question 11, but for a cell that stood in its cycle before.
+pub fn cell_why(circuit: &[u64], place: usize) {
+    let b = bounds_of(circuit);
+    let held = word(circuit, place);
+    if place < b.cells_start {
+        say::error_count(b"cycle ", behind(place, b.lengths_start as u64));
+        say::error(b" has no cell, at least 1 is asked\n");
+        return;
+    }
+    if std::num::wrapping_sub_usize(place, b.cells_start) % 2 != 0 {
+        say::error_range(b"row ", held, 1, last(b.rows));
+        return;
+    }
+    if b.polys <= held {
+        poly_why(b, held);
+    }
+}

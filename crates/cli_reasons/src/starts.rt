@@ -1,0 +1,139 @@
+// What is said of questions 2 to 4: k, counts and sums with their limits, starts and lengths.
+use crate::section::section_name;
+use crate::section::section_of;
+use backend_sections::contents::word;
+use cli_faults::bounds::Bounds;
+use cli_faults::bounds::bounds_of;
+use cli_faults::bounds::sum_of;
+use cli_faults::fault::begins;
+use cli_faults::fault::limit_of;
+use cli_faults::fault::widths_sum;
+use cli_texts::say;
+
+// Question 2.
+pub fn size_why(circuit: &[u64]) {
+    say::error_range(b"k: ", word(circuit, 0), 1, 10);
+}
+
+// What a word of the contents counts.
+fn early_count(at: usize) {
+    match at {
+        1 => say::error(b"maximum degree"),
+        3 => say::error(b"instance columns"),
+        5 => say::error(b"preprocess columns"),
+        7 => say::error(b"rounds"),
+        _ => say::error(b"nodes"),
+    }
+}
+
+fn late_count(at: usize) {
+    match at {
+        11 => say::error(b"constraints"),
+        13 => say::error(b"lookups"),
+        17 => say::error(b"cycles"),
+        _ => say::error(b"cells"),
+    }
+}
+
+// A count, or the maximum degree, which word 1 is one more than.
+fn count_why(circuit: &[u64], at: usize) {
+    if at < 10 {
+        early_count(at);
+    } else {
+        late_count(at);
+    }
+    if at == 7 {
+        say::error_range(b": ", word(circuit, at), 1, 4);
+        return;
+    }
+    let more = (at == 1) as u64;
+    let count = std::num::wrapping_sub_u64(word(circuit, at), more);
+    let limit = std::num::wrapping_sub_u64(limit_of(at), more);
+    say::error_two(b": ", count, b", at most ", limit);
+}
+
+// A sum, 2^64 - 1 where it is more.
+fn sum_why(name: &[u8], sum: u64, limit: u64) {
+    say::error_count(name, sum);
+    if sum == 18446744073709551615 {
+        say::error(b" or more");
+    }
+    say::error_count(b", at most ", limit);
+    say::error(b"\n");
+}
+
+fn rounds_why(circuit: &[u64], b: Bounds, place: usize) {
+    let part = std::num::wrapping_sub_u64(place as u64, word(circuit, 6));
+    if part % 2 == 0 {
+        sum_why(b"witness columns in all: ", b.witness, 32);
+    } else {
+        sum_why(b"user challenges in all: ", b.user, 16);
+    }
+}
+
+// Question 3.
+pub fn limit_why(circuit: &[u64], place: usize) {
+    let b = bounds_of(circuit);
+    let s = section_of(circuit, place as u64);
+    if s == 9 {
+        count_why(circuit, place);
+        return;
+    }
+    if s == 2 {
+        rounds_why(circuit, b, place);
+        return;
+    }
+    if s == 5 {
+        let lookup = std::num::wrapping_sub_u64(place as u64, word(circuit, 12));
+        say::error_count(b"width of lookup ", lookup);
+        say::error_two(b": ", word(circuit, place), b", at most ", 8);
+        return;
+    }
+    let sum = sum_of(circuit, b.lengths_start, 1, b.lengths);
+    sum_why(b"cells in all, by the cycle lengths: ", sum, 4096);
+}
+
+// Lookup pairs that are not as many as the widths say, or more than there are words.
+fn pairs_why(circuit: &[u64]) {
+    let pairs = word(circuit, 15);
+    if (circuit.len() as u64) < pairs {
+        say::error_count(b"lookup pairs: ", pairs);
+        say::error(b", more than the circuit has words\n");
+        return;
+    }
+    say::error_two(
+        b"lookup pairs: ",
+        pairs,
+        b", the widths sum to ",
+        widths_sum(circuit),
+    );
+}
+
+// Question 4, at a word of the contents.
+pub fn start_why(circuit: &[u64], place: usize) {
+    if place == 15 {
+        pairs_why(circuit);
+        return;
+    }
+    if place == 19 {
+        let b = bounds_of(circuit);
+        let sum = sum_of(circuit, b.lengths_start, 1, b.lengths);
+        say::error_two(b"cells: ", b.cells, b", the cycle lengths sum to ", sum);
+        return;
+    }
+    let s = std::num::wrapping_sub_u64(place as u64, 2) / 2;
+    say::error_count(b"word ", place as u64);
+    say::error_count(b" is ", word(circuit, place));
+    say::error_count(b", expected ", begins(circuit, s));
+    say::error(b" (the start of ");
+    section_name(s);
+    say::error(b")\n");
+}
+
+// Question 4, where the contents do not end where the words do.
+pub fn length_why(circuit: &[u64]) {
+    let words = circuit.len() as u64;
+    say::error_count(b": the circuit has ", words);
+    say::error_count(b" words, the contents end at ", begins(circuit, 9));
+    say::error(b"\n");
+}

@@ -1,0 +1,34 @@
+-- `see_lookup` is safe and ends. The measure is the rows left. Assumes nothing.
+use Prim.Native.Nat.{_-_}
+use borrow.Author.Needs.{needs}
+use Rattle.cli_unlisted.proofs.see_lookup.Statement.{statement}
+use Rattle.cli_unlisted.proofs.see_lookup.Tie as tie
+
+abbrev Inv-loop : tie.InvT-loop
+Inv-loop columns lookup input rows seen₀ row₀ seen row = Unit {0}
+
+abbrev μ-loop : tie.MeasureT-loop
+μ-loop columns lookup input rows seen₀ row₀ seen row = rows - row
+
+loop-holds : tie.Need-loop-holds Inv-loop μ-loop
+loop-holds c = search needs
+
+see-row-requires : tie.Need-see-row-requires Inv-loop μ-loop
+see-row-requires c κs = search needs
+
+add-row : tie.Need-add-row Inv-loop μ-loop
+add-row c = search needs
+
+loop-less : tie.Need-loop-less Inv-loop μ-loop
+loop-less c = search needs
+
+loop-again : tie.Need-loop-again Inv-loop μ-loop
+loop-again c = search needs
+
+returns : tie.Need-returns Inv-loop μ-loop
+returns c = search needs
+
+pub see-lookup-spec : {M : Type 1} → statement M
+see-lookup-spec =
+    tie.close
+    (tie.spec Inv-loop μ-loop loop-holds see-row-requires add-row loop-less loop-again returns)

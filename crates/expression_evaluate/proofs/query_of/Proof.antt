@@ -1,0 +1,35 @@
+use mathlib.Core.Path.{ap₂, _∙_, subst⁻¹}
+use Prim.Native.Nat.{ℕ}
+use Rattle.field.specs.Field.{𝔾}
+use Rattle.expression.specs.Value.{polyOf}
+use Rattle.expression.specs.Reader.{polysOf, Small}
+use Rattle.expression.specs.Point.{polyValue}
+use Rattle.expression.specs.declared.poly.Layout.{Layout}
+use Rattle.expression_evaluate.specs.Lent.{lent}
+use borrow.Author.Needs.{needs}
+use Rattle.expression_evaluate.proofs.query_of.Statement.{statement}
+use Rattle.expression_evaluate.proofs.query_of.Tie as tie
+
+layout-of-requires : tie.Need-layout-of-requires
+layout-of-requires c κs = search needs
+
+turned-requires : tie.Need-turned-requires
+turned-requires c κs = search needs
+
+poly-of-requires : tie.Need-poly-of-requires
+poly-of-requires c κs = (
+  subst⁻¹ Small (c .layout-of .ensures) (c .before .before .pre .layout),
+  c .before .turned .ensures .1,
+)
+
+returns : tie.Need-returns
+unfolding polyValue
+returns c =
+    let a = c .before .before .before .args in
+    c .poly-of .ensures
+    ∙ ap₂ (λ (l : Layout) (b : ℕ). polyOf 𝔾 (polysOf l (lent (a .s .now) 1) (lent (a .s .now) 2) (lent (a .s .now) 3)) (a .polynomial) b)
+    (c .before .layout-of .ensures)
+    (c .before .before .turned .ensures .0)
+
+pub query-of-spec : {M : Type 1} → statement M
+query-of-spec = tie.close (tie.spec turned-requires layout-of-requires poly-of-requires returns)

@@ -1,0 +1,108 @@
+// The leaves of an expression at a point, and the field's operations.
+use crate::index;
+use crate::rotation_of;
+use bh::rotations::rotate;
+use expression::poly::Layout;
+use expression::value::Point;
+use field::goldilocks::Goldilocks;
+ghost use mathlib.Core.Path.{_≡_};
+ghost use mathlib.Core.Bool.{cond};
+ghost use Prim.Native.Nat.{_^_, _<_};
+ghost use lib.Dec.{eqb};
+ghost use Rattle.bh.specs.Rows.{placeOf, rotated, lagrangeRow};
+ghost use Rattle.field.specs.Field.{𝔾, el};
+ghost use Rattle.expression.specs.Nodes.{signed};
+ghost use Rattle.expression.specs.Point.{Ready, pointOf, layoutOf, contextOf};
+
+// The point and the layout as the walk hands them down: twelve numbers.
+pub fn context(layout: Layout, point: Point) -> [usize; 12]
+    ensures { λ r. ⌜ r ≡ contextOf layout point ⌝ }
+{
+    [
+        point.k,
+        point.row,
+        point.place,
+        index(point.eq),
+        layout.rows,
+        layout.instances,
+        layout.preprocess,
+        layout.start,
+        layout.witness,
+        layout.permutations,
+        layout.skipped,
+        layout.rest,
+    ]
+}
+
+// Lagrange at a row, by the row's place: 2^k divides 2^31, so the number kept in a word has the word's remainder.
+pub fn lagrange(word: u64, k: usize, row: usize, place: usize) -> u64
+    requires { ⌜ ((0 < k) × (k < 21)) × ((row < 2 ^ k) × (place ≡ placeOf k row)) ⌝ }
+    ensures { λ r. ⌜ el r ≡ cond (eqb row (lagrangeRow k (signed word))) (𝔾 .one) (𝔾 .zero) ⌝ }
+{
+    if index(word & ((1 << k) - 1)) == place {
+        return Goldilocks::ONE.word();
+    }
+    Goldilocks::ZERO.word()
+}
+
+// A number as a word.
+pub fn word(x: usize) -> u64
+    ensures { λ r. ⌜ r ≡ x ⌝ }
+{
+    x as u64
+}
+
+pub fn layout_of(c: &[usize; 12]) -> Layout
+    ensures { λ r. ⌜ r ≡ layoutOf (now (c .entry)) ⌝ }
+{
+    let rows = c[4];
+    let instances = c[5];
+    let preprocess = c[6];
+    let start = c[7];
+    let witness = c[8];
+    let permutations = c[9];
+    let skipped = c[10];
+    let rest = c[11];
+    Layout {
+        rows,
+        instances,
+        preprocess,
+        start,
+        witness,
+        permutations,
+        skipped,
+        rest,
+    }
+}
+
+// The row that the rotation kept in a word leads to.
+pub fn turned(c: &[usize; 12], rotation: u64) -> usize
+    requires { ⌜ Ready (now c) ⌝ }
+    ensures { λ r. ⌜ (r ≡ rotated (pointOf (now (c .entry)) .k) (pointOf (now (c .entry)) .row) (signed rotation)) × (r < 1048576) ⌝ }
+{
+    let k = c[0];
+    let row = c[1];
+    if rotation == 2147483648 {
+        return row;
+    }
+    rotate(row, rotation_of(rotation, k), k)
+}
+
+// The field's operations on words, each word standing for its element.
+pub fn add(a: u64, b: u64) -> u64
+    ensures { λ r. ⌜ el r ≡ 𝔾 .add (el a) (el b) ⌝ }
+{
+    Goldilocks::from_u64(a).add(Goldilocks::from_u64(b)).word()
+}
+
+pub fn mul(a: u64, b: u64) -> u64
+    ensures { λ r. ⌜ el r ≡ 𝔾 .mul (el a) (el b) ⌝ }
+{
+    Goldilocks::from_u64(a).mul(Goldilocks::from_u64(b)).word()
+}
+
+pub fn neg(a: u64) -> u64
+    ensures { λ r. ⌜ el r ≡ 𝔾 .neg (el a) ⌝ }
+{
+    Goldilocks::from_u64(a).neg().word()
+}

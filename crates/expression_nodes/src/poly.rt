@@ -1,0 +1,67 @@
+// The value of a polynomial at a row, from the three places where polynomials stand.
+use crate::index;
+use crate::word_at;
+use expression::poly::Layout;
+ghost use mathlib.Core.Path.{_≡_};
+ghost use Prim.Native.Nat.{_+_, _*_, _≤_, _<_};
+ghost use lib.ListN.{getD};
+ghost use Rattle.field.specs.Field.{𝔾, el};
+ghost use Rattle.expression.specs.Value.{polyOf};
+ghost use Rattle.expression.specs.Reader.{polysOf, Small};
+
+// Column i of columns that begin at a word, at a row; 0 where there is none.
+pub fn cell(ws: &[u64], start: usize, i: usize, rows: usize, row: usize) -> u64
+    requires { ⌜ ((start ≤ 1152921504606846976) × (i ≤ 4194304)) × ((rows ≤ 1048576) × (row < 1048576)) ⌝ }
+    ensures { λ r. ⌜ r ≡ getD (now (ws .entry)) (start + i * rows + row) 0 ⌝ }
+{
+    word_at(ws, start + i * rows + row)
+}
+
+// Polynomial q at a row, 0 where there is none.
+pub fn poly_at(
+    circuit: &[u64],
+    witness: &[u64],
+    columns: &[u64],
+    layout: Layout,
+    q: u64,
+    row: usize,
+) -> u64
+    requires { ⌜ Small layout × (row < 1048576) ⌝ }
+    ensures { λ r. ⌜ el r ≡ polyOf 𝔾 (polysOf layout (now (circuit .entry)) (now (witness .entry)) (now (columns .entry))) q row ⌝ }
+{
+    let rows = layout.rows;
+    let instances = layout.instances;
+    let preprocess = layout.preprocess;
+    let start = layout.start;
+    let witnesses = layout.witness;
+    let permutations = layout.permutations;
+    let skipped = layout.skipped;
+    let rest = layout.rest;
+    let at = index(q);
+    if at < instances {
+        return cell(columns, 0, at, rows, row);
+    }
+    let at1 = at - instances;
+    if at1 < preprocess {
+        return cell(circuit, start, at1, rows, row);
+    }
+    let at2 = at1 - preprocess;
+    if at2 < witnesses {
+        return cell(witness, 0, at2, rows, row);
+    }
+    let at3 = at2 - witnesses;
+    if at3 < permutations {
+        return cell(columns, 0, instances + at3, rows, row);
+    }
+    let at4 = at3 - permutations;
+    if at4 < rest {
+        return cell(
+            columns,
+            0,
+            instances + permutations + skipped + at4,
+            rows,
+            row,
+        );
+    }
+    0
+}

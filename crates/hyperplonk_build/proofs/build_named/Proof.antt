@@ -1,0 +1,82 @@
+-- `build_named` meets its contract. Assumes nothing.
+use mathlib.Core.Path.{_≡_, refl, sym, _∙_}
+use Prim.Native.Nat.{ℕ}
+use native.Mathlib.Omega.{arith}
+use borrow.Author.Needs.{needs}
+use Rattle.backend.proofs.Answers.{says-no, says-yes}
+use Rattle.hyperplonk_prepare.proofs.Asked.{no-14, no-none}
+use Rattle.hyperplonk_build.proofs.Built.{refuses, checked, count-is, first-names}
+use Rattle.hyperplonk_build.proofs.build_named.Statement.{statement}
+use Rattle.hyperplonk_build.proofs.build_named.Tie as tie
+
+fourteen : _≡_ {A = ℕ} 14 0 → ⊥
+fourteen e = omega arith
+
+numbers-requires : tie.Need-numbers-requires
+numbers-requires c κs =
+    let s = c .before .before .before .before .before .before .before in
+    (s .pre .0, count-is (s .args .circuit .now) (s .args .names .now) (s .args .count) (omega (arith, s .pre .3)) (s .pre .4))
+
+question-14-requires : tie.Need-question-14-requires
+question-14-requires c κs = (c .before .before .before .before .before .before .before .before .pre .0, (c .numbers .ensures, omega arith))
+
+refused-requires : tie.Need-refused-requires
+refused-requires c κs = search needs
+
+returns : tie.Need-returns
+returns c =
+    let s = c .before .before .before .before .before .before .before .before .before .before .before in
+    let a = s .args in
+    refuses (a .circuit .now) (a .instance .now) (a .witness .now) (a .challenges .now) (a .columns .now) (a .nodes .now) _ 14 (c .refused .ensures) (λ e. fourteen e)
+    (no-14 (a .circuit .now) (a .instance .now) (a .witness .now) (a .challenges .now) (a .columns .now) (a .nodes .now) (s .pre .0) (s .pre .1) (s .pre .2)
+    (says-no _ _ (c .before .before .question-14 .ensures (a .columns .now) (a .nodes .now) refl refl) (c .before .if1 .taken)))
+
+sub-build-checked : tie.Need-sub-build-checked
+sub-build-checked c = search needs
+
+part-build-checked-start : tie.Need-part-build-checked-start
+part-build-checked-start c = search needs
+
+part-build-checked-end : tie.Need-part-build-checked-end
+part-build-checked-end c = search needs
+
+build-checked-requires : tie.Need-build-checked-requires
+build-checked-requires c κs =
+    let s = c .before .before .before .before .before .before .before .before .before .before .before .before .before in
+    let a = s .args in (
+      first-names (a .circuit .now) (a .names .now) (a .count) _ (record { accepted = s .pre .0; copied-are = s .pre .4; numbers-are = c .before .before .before .before .before .numbers .ensures }),
+      s .pre .1,
+      says-yes _ _ (c .before .before .before .before .question-14 .ensures (a .columns .now) (a .nodes .now) refl refl) (c .before .before .before .if1 .left),
+    )
+
+same-length : tie.Need-same-length
+same-length c = search needs
+
+same-length-2 : tie.Need-same-length-2
+same-length-2 c = search needs
+
+returns-2 : tie.Need-returns-2
+returns-2 c =
+    let s = c .before .before .before .before .before .before .before .before .before .before .before .before .before .before .before .before .before .before in
+    let a = s .args in
+    c .before .before .before .before .build-checked .ensures
+    ∙ sym
+    (checked (a .circuit .now) (a .instance .now) (a .witness .now) (a .challenges .now) (a .columns .now) (a .nodes .now)
+    (no-none (a .circuit .now) (a .instance .now) (a .witness .now) (a .challenges .now) (a .columns .now) (a .nodes .now) (s .pre .0) (s .pre .1) (s .pre .2)
+    (says-yes _ _ (c .before .before .before .before .before .before .before .before .before .question-14 .ensures (a .columns .now) (a .nodes .now) refl refl) (c .before .before .before .before .before .before .before .before .if1 .left))))
+
+pub build-named-spec : {M : Type 1} → statement M
+build-named-spec =
+    tie.close
+    (tie.spec
+    numbers-requires
+    question-14-requires
+    refused-requires
+    returns
+    sub-build-checked
+    part-build-checked-start
+    part-build-checked-end
+    build-checked-requires
+    same-length
+    same-length-2
+    returns-2)

@@ -1,0 +1,90 @@
+-- Demand 3, of what the one call returned and left. Assumes nothing.
+use mathlib.Core.Path.{_≡_}
+use mathlib.Core.Logic.{_≢_, _↔_}
+use mathlib.Core.List.{List}
+use Prim.Native.Nat.{ℕ, _-_, _*_, _<_}
+use lib.ListN.{length, take, drop}
+use Rattle.field.specs.Prime.{P}
+use Rattle.field.specs.Field.{𝔾}
+use Rattle.expression.specs.Expr.{Expr}
+use Rattle.expression.specs.Nodes.{exprOf}
+use Rattle.expression.specs.Value.{valueAt}
+use Rattle.backend.specs.Circuit.{Circuit, circuitOf, rowsOf}
+use Rattle.preprocessor.specs.Compose.{CutsAlike, numZ, compose, composedConstraints, composedWords, composedNodes}
+use Rattle.prover.specs.Lookup.{sumRows, sumCounts}
+use Rattle.prover.specs.Log.{Log}
+use Rattle.prover.specs.Columns.{countAt, lookupHAt, composedEnvironment, writtenPolys}
+use Rattle.hyperplonk_spec.specs.Build.{logOf, wordsOf, columnWords, checkBuild}
+use Rattle.hyperplonk_spec.specs.Meaning.{
+  Each,
+  EachRow,
+  EachLookup,
+  NoCounts,
+  ZeroConstraints,
+  EqualCells,
+  NoZeroInput,
+  NoZeroTable,
+  NoZeroFactor,
+}
+use Rattle.hyperplonk_build_and_sum.specs.Call.{beforeAlpha, alphaOf, Left}
+
+-- a call that was lent these words and buffers, and what it returned and left
+module _ (ws instances witness challenges y columns nodes : List ℕ) (left : Left) where
+  abbrev circuit : Circuit
+  circuit = circuitOf ws
+
+  -- the log of the build: all words but α and y
+  abbrev log : Log 𝔾
+  log = logOf ws instances witness (beforeAlpha challenges)
+
+  pub record Concluded : Type 0 where
+    -- "the number is 0"; and "the row sum, given what that build wrote, answers so": "its number and its sum are both 0"
+    pub number : left .answer .number ≡ 0
+    pub sum : left .answer .sum ≡ 0
+    -- "column words written, nodes written and z columns"
+    pub column-words : left .answer .«column_words» ≡ columnWords circuit
+    pub node-count : left .answer .nodes ≡ composedNodes circuit
+    pub z-columns : left .answer .«z_columns» ≡ numZ circuit
+    -- "the columns and nodes written are those document 01 defines"; "Words past those written stay untouched"
+    pub columns-written : take (columnWords circuit) (left .columns) ≡ wordsOf (rowsOf circuit) (writtenPolys 𝔾 log)
+    pub columns-past : drop (columnWords circuit) (left .columns) ≡ drop (columnWords circuit) columns
+    pub nodes-written : take (composedNodes circuit * 4) (left .nodes) ≡ composedWords circuit
+    pub nodes-past : drop (composedNodes circuit * 4) (left .nodes) ≡ drop (composedNodes circuit * 4) nodes
+    -- "at each row that value is the one `compose` above gives": the nodes written are read as that tree
+    pub nodes-read : exprOf (take (composedNodes circuit * 4) (left .nodes)) (composedNodes circuit - 1) ≡ compose circuit
+    -- "every composed constraint is zero on every row"
+    pub constraints-zero : (α : 𝔾 .F) (ys : ℕ → 𝔾 .F)
+        → Each (Expr.constant 0) (composedConstraints circuit)
+        (λ e. EachRow 𝔾 log (λ b. valueAt 𝔾 (composedEnvironment 𝔾 log α ys) e b ≡ 𝔾 .zero))
+    -- "each h sums to 0, each m sums to 2^k"
+    pub h-sums : EachLookup 𝔾 log (λ l. sumRows 𝔾 (rowsOf circuit) (lookupHAt 𝔾 log l) ≡ 𝔾 .zero)
+    pub m-sums : EachLookup 𝔾 log (λ l. sumCounts (rowsOf circuit) (countAt 𝔾 log l) ≡ rowsOf circuit)
+    -- "and for every alpha and every y the composed expression sums to 0"
+    pub composed-sum : (α : 𝔾 .F) (ys : ℕ → 𝔾 .F)
+        → sumRows 𝔾 (rowsOf circuit) (valueAt 𝔾 (composedEnvironment 𝔾 log α ys) (compose circuit)) ≡ 𝔾 .zero
+
+  pub record Demanded : Type 0 where
+    -- "Then 15 is given exactly when, for some lookup, no column of whole counts turns the compressed table into the compressed inputs."
+    pub fifteen : (left .answer .number ≡ 15) ↔ NoCounts 𝔾 log
+    pub otherwise :
+        -- "Let further every user constraint be zero on every row,"
+        ZeroConstraints 𝔾 log
+        -- "the cells of each cycle equal,": "a cycle's cells are equal if all hold one value"
+        → EqualCells 𝔾 log
+        -- "no denominator zero,": "γ + input and γ + table on all rows, and the inverted factors on every row but 0"
+        → NoZeroInput 𝔾 log
+        → NoZeroTable 𝔾 log
+        → NoZeroFactor 𝔾 log
+        -- "and both cuts of the copied columns alike."
+        → CutsAlike circuit
+        -- "Then, unless 15 is given, …"
+        → left .answer .number ≢ 15
+        -- "for every alpha and every y": "any α and any k values y of the field"
+        → alphaOf challenges < P
+        → length y ≡ circuit .k
+        → Each 0 y (λ v. v < P)
+        → Concluded
+
+  -- "Let the building call be lent any words and buffers for which questions 1 to 14 are yes."
+  abbrev pub DemandThreeWhole : Type 0
+  DemandThreeWhole = checkBuild ws instances witness (beforeAlpha challenges) columns nodes ≡ 0 → Demanded

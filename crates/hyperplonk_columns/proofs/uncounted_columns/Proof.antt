@@ -1,0 +1,65 @@
+-- `uncounted_columns` meets its contract. Assumes nothing.
+use mathlib.Core.Path.{_∙_}
+use lib.ListN.{length}
+use Rattle.hyperplonk_columns.proofs.Stages.{instance-asked, permutation-asked, compressed-asked, uncounted-end}
+use Rattle.hyperplonk_columns.proofs.uncounted_columns.Statement.{statement}
+use Rattle.hyperplonk_columns.proofs.uncounted_columns.Tie as tie
+
+instance-columns-requires : tie.Need-instance-columns-requires
+instance-columns-requires c κs =
+    let s = c .before .before .before .before .before .before .before in
+    instance-asked (s .args .circuit .now) (s .args .instance .now) (s .args .witness .now) (s .args .challenges .now) (s .pre .0) (s .pre .2)
+    (length (s .args .columns .now))
+    (s .pre .3)
+
+permutation-columns-requires : tie.Need-permutation-columns-requires
+permutation-columns-requires c κs =
+    let s = c .before .before .before .before .before .before .before .before .before .before .before in
+    permutation-asked (s .args .circuit .now) (s .args .instance .now) (s .args .witness .now) (s .args .challenges .now) (s .pre .0)
+    (s .pre .2)
+    (length (s .args .columns .now))
+    (s .pre .3)
+    (s .args .copied .now)
+    (s .pre .1)
+    _
+    (c .before .before .before .instance-columns .kept .1 .1 .0)
+
+compressed-columns-requires : tie.Need-compressed-columns-requires
+compressed-columns-requires c κs =
+    let s = c .before .before .before .before .before .before .before .before .before .before .before .before .before .before .before in
+    compressed-asked (s .args .circuit .now) (s .args .instance .now) (s .args .witness .now) (s .args .challenges .now) (s .pre .0)
+    (s .pre .2)
+    (length (s .args .columns .now))
+    (s .pre .3)
+    (s .args .copied .now)
+    (s .pre .1)
+    _
+    (c .before .before .before .permutation-columns .kept .1 .1 .0 ∙ c .before .before .before .before .before .before .before .instance-columns .kept .1 .1 .0)
+
+same-length : tie.Need-same-length
+same-length c =
+    c .before .before .compressed-columns .kept .1 .1 .0 ∙ c .before .before .before .before .before .before .permutation-columns .kept .1 .1 .0
+    ∙ c .before .before .before .before .before .before .before .before .before .before .instance-columns .kept .1 .1 .0
+
+returns : tie.Need-returns
+returns c =
+    let s = c .before .before .before .before .before .before .before .before .before .before .before .before .before .before .before .before .before .before in
+    uncounted-end (s .args .circuit .now) (s .args .instance .now) (s .args .witness .now) (s .args .challenges .now) (s .pre .0)
+    (s .args .columns .now)
+    _
+    _
+    _
+    (s .pre .3)
+    (c .before .before .before .before .before .before .before .before .before .before .instance-columns .ensures)
+    (c .before .before .before .before .before .before .permutation-columns .ensures)
+    (c .before .before .compressed-columns .ensures)
+
+pub uncounted-columns-spec : {M : Type 1} → statement M
+uncounted-columns-spec =
+    tie.close
+    (tie.spec
+    instance-columns-requires
+    permutation-columns-requires
+    compressed-columns-requires
+    same-length
+    returns)

@@ -1,0 +1,116 @@
+// The columns of a build: the stages one after another on the one column buffer.
+pub mod stages;
+
+use crate::stages::compressed_columns;
+use crate::stages::instance_columns;
+use crate::stages::permutation_columns;
+use crate::stages::z_columns;
+use field::goldilocks::Goldilocks;
+use hyperplonk_prepare::needed::column_words;
+use preprocessor::Numbers;
+use prover_instance::blank_column::clear;
+use prover_lookup::lookup_h_polys;
+use prover_lookup::lookup_m_polys;
+ghost use mathlib.Core.Path.{_≡_};
+ghost use mathlib.Core.Bool.{true, cond};
+ghost use mathlib.Core.List.{List};
+ghost use Prim.Native.Nat.{ℕ, _+_, _≤_};
+ghost use lib.ListN.{length, take, replicate};
+ghost use Rattle.field.specs.Field.{𝔾};
+ghost use Rattle.lists.specs.Lists.{over, written};
+ghost use Rattle.backend.specs.Circuit.{circuitOf, rowsOf, numUser, copied as copiedOf};
+ghost use Rattle.preprocessor.specs.Pieces.{numbersOf};
+ghost use Rattle.prover.specs.Columns.{allCovered, writtenPolys};
+ghost use Rattle.prover.specs.Words.{wordsOf};
+ghost use Rattle.hyperplonk_spec.specs.Build.{logOf, columnWords, q12};
+ghost use Rattle.hyperplonk_prepare.specs.Prepared.{Accepted, Prepared, compressedAt, countsAt, hsAt};
+ghost use Rattle.hyperplonk_columns.specs.Kinds.{uncountedPolys, countedPolys, lastPolys};
+
+// The words at which the compressed columns, m and h begin.
+struct Places {
+    compressed: usize,
+    counts: usize,
+    hs: usize,
+}
+
+fn places_of(circuit: &[u64], v: Numbers) -> Places
+    requires { ⌜ Accepted (now circuit) × (v ≡ numbersOf (circuitOf (now circuit))) ⌝ }
+    ensures { λ r. ⌜ (r .compressed ≡ compressedAt (circuitOf (now (circuit .entry)))) × (r .counts ≡ countsAt (circuitOf (now (circuit .entry)))) × (r .hs ≡ hsAt (circuitOf (now (circuit .entry)))) ⌝ }
+{
+    let instances = circuit[3] as usize;
+    let named = instances + v.copied;
+    Places {
+        compressed: named * v.rows,
+        counts: (named + v.lookups * 2) * v.rows,
+        hs: (named + v.lookups * 3) * v.rows,
+    }
+}
+
+// The columns before the counts: instance, permutation and compressed columns.
+fn uncounted_columns<'a>(
+    circuit: &'a [u64],
+    instance: &[u64],
+    witness: &'a [u64],
+    challenges: &'a [u64],
+    columns: &mut [u64],
+    copied: &[u64],
+)
+    requires { ⌜ Accepted (now circuit) × (now copied ≡ copiedOf (circuitOf (now circuit))) × (q12 (circuitOf (now circuit)) (now instance) (now witness) (now challenges) ≡ true) × (columnWords (circuitOf (now circuit)) ≤ length (now columns)) ⌝ }
+    ensures { λ _. ⌜ now (columns .exit) ≡ over (now (columns .entry)) 0 (wordsOf (rowsOf (circuitOf (now (circuit .entry)))) (uncountedPolys 𝔾 (logOf (now (circuit .entry)) (now (instance .entry)) (now (witness .entry)) (now (challenges .entry))))) ⌝ }
+{
+    instance_columns(circuit, instance, columns);
+    permutation_columns(circuit, copied, columns);
+    compressed_columns(circuit, witness, columns, challenges, copied.len());
+}
+
+// h and z, behind the counts, of any log whose columns to the counts stand at the front of the buffer.
+fn last_columns(
+    circuit: &[u64],
+    witness: &[u64],
+    challenges: &[u64],
+    columns: &mut [u64],
+    copied: &[u64],
+    v: Numbers,
+)
+    requires { ⌜ Prepared (now circuit) (now copied) v × (length (now challenges) ≡ numUser (circuitOf (now circuit)) + 2) × (columnWords (circuitOf (now circuit)) ≤ length (now columns)) ⌝ }
+    ensures { λ _. ⌜ ((instances : List ℕ) → take (hsAt (circuitOf (now (circuit .entry)))) (now (columns .entry)) ≡ wordsOf (rowsOf (circuitOf (now (circuit .entry)))) (countedPolys 𝔾 (logOf (now (circuit .entry)) instances (now (witness .entry)) (now (challenges .entry)))) → now (columns .exit) ≡ over (now (columns .entry)) (hsAt (circuitOf (now (circuit .entry)))) (wordsOf (rowsOf (circuitOf (now (circuit .entry)))) (lastPolys 𝔾 (logOf (now (circuit .entry)) instances (now (witness .entry)) (now (challenges .entry)))))) ⌝ }
+{
+    let at = places_of(circuit, v);
+    let user = v.user;
+    let gamma = Goldilocks::at(challenges, user + 1);
+    lookup_h_polys(
+        columns,
+        v.lookups,
+        at.compressed,
+        at.counts,
+        at.hs,
+        gamma,
+        v.rows,
+    );
+    z_columns(circuit, witness, columns, challenges, copied, v.parts);
+}
+
+// All columns. Where an input of a lookup is in no table row, false, and the column words needed become 0.
+pub fn write_columns<'a>(
+    circuit: &'a [u64],
+    instance: &[u64],
+    witness: &'a [u64],
+    challenges: &'a [u64],
+    columns: &mut [u64],
+    copied: &[u64],
+    v: Numbers,
+) -> bool
+    requires { ⌜ Prepared (now circuit) (now copied) v × (q12 (circuitOf (now circuit)) (now instance) (now witness) (now challenges) ≡ true) × (columnWords (circuitOf (now circuit)) ≤ length (now columns)) ⌝ }
+    ensures { λ r. ⌜ (r ≡ allCovered 𝔾 (logOf (now (circuit .entry)) (now (instance .entry)) (now (witness .entry)) (now (challenges .entry)))) × (now (columns .exit) ≡ cond (allCovered 𝔾 (logOf (now (circuit .entry)) (now (instance .entry)) (now (witness .entry)) (now (challenges .entry)))) (written (wordsOf (rowsOf (circuitOf (now (circuit .entry)))) (writtenPolys 𝔾 (logOf (now (circuit .entry)) (now (instance .entry)) (now (witness .entry)) (now (challenges .entry))))) (now (columns .entry))) (written (replicate (columnWords (circuitOf (now (circuit .entry)))) 0) (now (columns .entry)))) ⌝ }
+{
+    uncounted_columns(circuit, instance, witness, challenges, columns, copied);
+    let at = places_of(circuit, v);
+    let covered = lookup_m_polys(columns, v.lookups, at.compressed, at.counts, v.rows);
+    if !covered {
+        let words = column_words(circuit, v);
+        clear(columns, 0, words);
+        return false;
+    }
+    last_columns(circuit, witness, challenges, columns, copied, v);
+    true
+}

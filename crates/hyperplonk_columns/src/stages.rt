@@ -1,0 +1,167 @@
+// The stages that read sections of circuit words for which questions 1 to 11 are yes: each writes its columns in the one column buffer.
+use backend_sections::bodies::num_user;
+use backend_sections::bodies::num_witness;
+use backend_sections::bodies::rows;
+use backend_sections::reader::cells_of;
+use backend_sections::reader::instances_of;
+use backend_sections::reader::k_of;
+use backend_sections::reader::lengths_of;
+use backend_sections::reader::nodes_of;
+use backend_sections::reader::pairs_of;
+use backend_sections::reader::widths_of;
+use expression::poly::Layout;
+use expression_nodes::index;
+use expression_nodes::word_at;
+use field::goldilocks::Goldilocks;
+use preprocessor_permutation::permutation_polys;
+use prover_compressed::lookup_compressed_polys;
+use prover_instance::instance_polys;
+use prover_z::permutation_z_polys;
+ghost use mathlib.Core.Path.{_≡_};
+ghost use Prim.Native.Nat.{_+_, _*_, _^_, _≤_};
+ghost use lib.ListN.{length};
+ghost use Rattle.field.specs.Field.{𝔾};
+ghost use Rattle.field.specs.Element.{elem};
+ghost use Rattle.lists.specs.Lists.{over, total};
+ghost use Rattle.backend.specs.Circuit.{Section, bodyOf, circuitOf, rowsOf, numInstance, numUser, numLookups, copied as copiedOf, numCopied};
+ghost use Rattle.preprocessor.specs.Compose.{numZ};
+ghost use Rattle.prover.specs.Words.{wordsOf};
+ghost use Rattle.prover.specs.Lent.{lentEnvironment, compressedPolysIn};
+ghost use Rattle.hyperplonk_prepare.specs.Prepared.{Accepted, layoutOf, permutationsAt, compressedAt, zsAt};
+ghost use Rattle.hyperplonk_columns.specs.Stages.{instanceWords, permutationWords, compressedWords, zWords};
+
+// Where the polynomials that are given stand.
+pub fn layout_of(circuit: &[u64]) -> Layout
+    requires { ⌜ Accepted (now circuit) ⌝ }
+    ensures { λ r. ⌜ r ≡ layoutOf (now (circuit .entry)) ⌝ }
+{
+    let all = rows(circuit);
+    let witness = num_witness(circuit);
+    Layout {
+        rows: index(all),
+        instances: index(word_at(circuit, 3)),
+        preprocess: index(word_at(circuit, 5)),
+        start: index(word_at(circuit, 4)),
+        witness: index(witness),
+        permutations: 0,
+        skipped: 0,
+        rest: 0,
+    }
+}
+
+// The instance columns, at the front of the buffer.
+pub fn instance_columns(circuit: &[u64], instance: &[u64], columns: &mut [u64])
+    requires { ⌜ Accepted (now circuit) × (total (bodyOf (now circuit) Section.instances) ≡ length (now instance)) × (numInstance (circuitOf (now circuit)) * rowsOf (circuitOf (now circuit)) ≤ length (now columns)) ⌝ }
+    ensures { λ _. ⌜ now (columns .exit) ≡ over (now (columns .entry)) 0 (instanceWords (now (circuit .entry)) (now (instance .entry))) ⌝ }
+{
+    let k = index(k_of(circuit));
+    let lengths = instances_of(circuit);
+    instance_polys(k, lengths, instance, columns);
+}
+
+// The permutation columns, behind the instance columns. `copied` are the copied columns.
+pub fn permutation_columns(circuit: &[u64], copied: &[u64], columns: &mut [u64])
+    requires { ⌜ Accepted (now circuit) × (now copied ≡ copiedOf (circuitOf (now circuit))) × (compressedAt (circuitOf (now circuit)) ≤ length (now columns)) ⌝ }
+    ensures { λ _. ⌜ now (columns .exit) ≡ over (now (columns .entry)) (permutationsAt (circuitOf (now (circuit .entry)))) (permutationWords (now (circuit .entry))) ⌝ }
+{
+    let layout = layout_of(circuit);
+    let at = layout.instances * layout.rows;
+    let lengths = lengths_of(circuit);
+    let cells = cells_of(circuit);
+    permutation_polys(layout.rows, copied, lengths, cells, columns, at);
+}
+
+// The compressed columns of the lookups, from word `to` on, over the user's challenges.
+fn compressed_from<'a>(
+    circuit: &'a [u64],
+    witness: &'a [u64],
+    columns: &mut [u64],
+    user: &'a [u64],
+    layout: Layout,
+    k: usize,
+    beta: Goldilocks,
+    to: usize,
+)
+    requires { ⌜ Accepted (now circuit) × (layout ≡ layoutOf (now circuit)) × (k ≡ circuitOf (now circuit) .k) × (numInstance (circuitOf (now circuit)) * 2 ^ k ≤ to) × (to + numLookups (circuitOf (now circuit)) * (2 ^ k + 2 ^ k) ≤ length (now columns)) ⌝ }
+    ensures { λ _. ⌜ now (columns .exit) ≡ over (now (columns .entry)) to (wordsOf (2 ^ k) (compressedPolysIn 𝔾 (lentEnvironment (now (circuit .entry)) (now (witness .entry)) (now (columns .entry)) (now (user .entry)) layout k) (elem beta) (circuitOf (now (circuit .entry)) .lookups))) ⌝ }
+{
+    let nodes = nodes_of(circuit);
+    let widths = widths_of(circuit);
+    let pairs = pairs_of(circuit);
+    lookup_compressed_polys(
+        nodes,
+        circuit,
+        witness,
+        columns,
+        user,
+        layout,
+        k,
+        widths,
+        pairs,
+        beta,
+        to,
+    );
+}
+
+// The compressed columns, behind the permutation columns: input and table per lookup. `challenges` are the user's, then beta and gamma;
+// `copied` is how many columns are copied.
+pub fn compressed_columns<'a>(
+    circuit: &'a [u64],
+    witness: &'a [u64],
+    columns: &mut [u64],
+    challenges: &'a [u64],
+    copied: usize,
+)
+    requires { ⌜ Accepted (now circuit) × (length (now challenges) ≡ numUser (circuitOf (now circuit)) + 2) × (copied ≡ numCopied (circuitOf (now circuit))) × (compressedAt (circuitOf (now circuit)) + numLookups (circuitOf (now circuit)) * 2 * rowsOf (circuitOf (now circuit)) ≤ length (now columns)) ⌝ }
+    ensures { λ _. ⌜ now (columns .exit) ≡ over (now (columns .entry)) (compressedAt (circuitOf (now (circuit .entry)))) (compressedWords (now (circuit .entry)) (now (witness .entry)) (now (columns .entry)) (now (challenges .entry))) ⌝ }
+{
+    let k = index(k_of(circuit));
+    let layout = layout_of(circuit);
+    let user = index(num_user(circuit));
+    let beta = Goldilocks::at(challenges, user);
+    let to = (layout.instances + copied) * layout.rows;
+    compressed_from(
+        circuit,
+        witness,
+        columns,
+        &challenges[0..user],
+        layout,
+        k,
+        beta,
+        to,
+    );
+}
+
+// The z columns, behind all others. `challenges` are the user's, then beta and gamma; `copied` are the copied columns, and `parts` is how
+// many z columns there are.
+pub fn z_columns(
+    circuit: &[u64],
+    witness: &[u64],
+    columns: &mut [u64],
+    challenges: &[u64],
+    copied: &[u64],
+    parts: usize,
+)
+    requires { ⌜ Accepted (now circuit) × (now copied ≡ copiedOf (circuitOf (now circuit))) × (parts ≡ numZ (circuitOf (now circuit))) × (zsAt (circuitOf (now circuit)) + numZ (circuitOf (now circuit)) * rowsOf (circuitOf (now circuit)) ≤ length (now columns)) ⌝ }
+    ensures { λ _. ⌜ now (columns .exit) ≡ over (now (columns .entry)) (zsAt (circuitOf (now (circuit .entry)))) (zWords (now (circuit .entry)) (now (witness .entry)) (now (columns .entry)) (now (challenges .entry))) ⌝ }
+{
+    let k = index(k_of(circuit));
+    let layout = layout_of(circuit);
+    let user = index(num_user(circuit));
+    let beta = Goldilocks::from_u64(word_at(challenges, user));
+    let gamma = Goldilocks::from_u64(word_at(challenges, user + 1));
+    let lookups = index(word_at(circuit, 13));
+    let to = (layout.instances + copied.len() + lookups * 4) * layout.rows;
+    permutation_z_polys(
+        circuit,
+        witness,
+        columns,
+        layout,
+        k,
+        copied,
+        parts,
+        beta,
+        gamma,
+        to,
+    );
+}

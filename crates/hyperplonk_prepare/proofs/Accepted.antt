@@ -1,0 +1,278 @@
+-- What questions 1 to 11 tell, in the words that the functions ask for. Assumes nothing.
+use mathlib.Core.Path.{_≡_, refl, sym, ap, _∙_, subst}
+use mathlib.Core.Bool.{Bool, true}
+use mathlib.Core.List.{List, _++_, map}
+use Prim.Native.Nat.{ℕ, _-_, _*_, _/_, _%_, _^_, _≤_, _<_, max}
+use native.Mathlib.Omega.{arith}
+use native.Mathlib.Decide.{decLt}
+use native.Mathlib.Nat.{mul-one, mul-le-mul}
+use lib.ListN.{length, getD}
+use lib.Dec.{leb}
+use lib.Pow.{pow-pos, pow-mono}
+use borrow.Author.Tests.{leb-true}
+use Rattle.lists.specs.Lists.{below, allOf, largest, total, concat, split, ceilDiv}
+use Rattle.lists.proofs.Tests.{and-left, and-right, all-each}
+use Rattle.lists.proofs.All.{all-from}
+use Rattle.lists.proofs.Columns.{below-length}
+use Rattle.lists.proofs.Lists.{split-length}
+use Rattle.lists.proofs.Totals.{ceil-le}
+use Rattle.lists.proofs.Searches.{count-le}
+use Rattle.expression.specs.Expr.{Expr, degree}
+use Rattle.backend.specs.Circuit.{Section, entry, entries, wordK, bodyOf, Cell, cellsOf, cellsName, statedOf, circuitOf, rowsOf, numInstance, numWitness, numUser, numPoly, numLookups, copiedIn, copied, numCopied}
+use Rattle.backend.specs.Constraints.{lookupConstraints, leastD, maxDegree}
+use Rattle.backend.specs.Layout.{laidOut}
+use Rattle.backend.specs.Questions.{roundsGood, atMost, q5, q7, q10}
+use Rattle.backend.specs.Laid.{Laid, Counted}
+use Rattle.backend.proofs.Sections.{body-length}
+use Rattle.backend.proofs.Numbers.{polys}
+use Rattle.backend.proofs.Degree.{all-most, root-in, left-roots, right-roots, least-high, least-low}
+use Rattle.preprocessor.specs.Compose.{numZ}
+use Rattle.preprocessor.specs.Permutation.{Walkable}
+use Rattle.preprocessor.specs.Pieces.{numbersOf, IsNode, Limits, Words, Handed, PiecesOf}
+use Rattle.preprocessor.proofs.Copied.{walkable, cells-of}
+use Rattle.preprocessor.proofs.Composed.{circuit-pieces}
+use Rattle.prover.specs.Lent.{Given}
+use Rattle.completeness.proofs.Passed.{Yes, yes-all}
+use Rattle.hyperplonk_prepare.specs.Prepared.{Accepted, layoutOf}
+
+pub answers : (ws : List ℕ) → Accepted ws → Yes ws
+answers ws a = yes-all ws a
+
+pub laid-counted : (ws : List ℕ) → Accepted ws → Laid ws × Counted ws
+laid-counted ws a = (answers ws a .laid, answers ws a .counted)
+
+-- ---- over plain numbers and lists
+
+-- the copied columns are some of the polynomials
+copied-le : (polys : ℕ) (xs : List Cell) → length (copiedIn polys xs) ≤ polys
+unfolding copiedIn
+copied-le polys xs = let q = count-le (cellsName xs) (below polys) in let e = below-length polys in omega arith
+
+ceil-fewer : (n d : ℕ) → 0 < d → ceilDiv n d ≤ n
+ceil-fewer n d h = ceil-le n d n h (let e = mul-one n in let m : n * 1 ≤ n * d = mul-le-mul (omega arith) h in omega arith)
+
+-- what D starts from
+least-in : (w : ℕ) → w ≤ 33 → (2 ≤ leastD (statedOf w)) × (leastD (statedOf w) ≤ 32)
+least-in w h = go (decLt 3 w)
+  where
+    go : Dec (3 < w) → (2 ≤ leastD (statedOf w)) × (leastD (statedOf w) ≤ 32)
+    go (yes l) = let e = least-high w l in (omega arith, omega arith)
+    go (no l) = let e = least-low w (omega arith) in (omega arith, omega arith)
+
+module _ (ws : List ℕ) (a : Accepted ws) where
+  pub laid-of : Laid ws
+  laid-of = answers ws a .laid
+
+  pub counted-of : Counted ws
+  counted-of = answers ws a .counted
+
+  -- ---- k and the rows
+  pub k-pos : 0 < wordK ws
+  k-pos = let h = laid-of .k-low in omega arith
+
+  pub k-few : wordK ws ≤ 10
+  k-few = laid-of .k-high
+
+  pub rows-few : 2 ^ wordK ws ≤ 1024
+  rows-few = pow-mono k-few
+
+  pub rows-pos : 0 < 2 ^ wordK ws
+  rows-pos = pow-pos (wordK ws)
+
+  pub k-is : circuitOf ws .k ≡ wordK ws
+  unfolding circuitOf
+  k-is = refl
+
+  pub rows-is : rowsOf (circuitOf ws) ≡ 2 ^ wordK ws
+  unfolding circuitOf
+  rows-is = refl
+
+  -- ---- the bodies, in entries
+  single : (s : Section) → entry (wordK ws) s ≡ 1 → length (bodyOf ws s) ≡ entries ws s
+  single s e = body-length ws laid-of s ∙ ap (λ (e : ℕ). entries ws s * e) e ∙ mul-one (entries ws s)
+
+  pub instances-length : length (bodyOf ws Section.instances) ≡ numInstance (circuitOf ws)
+  unfolding circuitOf
+  instances-length = refl
+
+  pub instances-entries : entries ws Section.instances ≡ numInstance (circuitOf ws)
+  instances-entries = sym (single Section.instances refl) ∙ instances-length
+
+  pub few-instances : numInstance (circuitOf ws) ≤ 8
+  few-instances = let e = instances-entries in let h = laid-of .few-instances in omega arith
+
+  pub nodes-length : length (bodyOf ws Section.nodes) ≡ entries ws Section.nodes * 4
+  nodes-length = body-length ws laid-of Section.nodes
+
+  pub nodes-whole : length (bodyOf ws Section.nodes) % 4 ≡ 0
+  nodes-whole = let e = nodes-length in omega arith
+
+  pub widths-length : length (bodyOf ws Section.widths) ≡ entries ws Section.widths
+  widths-length = single Section.widths refl
+
+  pub widths-are : numLookups (circuitOf ws) ≡ length (bodyOf ws Section.widths)
+  unfolding circuitOf
+  widths-are = split-length (bodyOf ws Section.widths) _
+
+  pub few-lookups : numLookups (circuitOf ws) ≤ 8
+  few-lookups = let e = widths-are in let w = widths-length in let h = laid-of .few-widths in omega arith
+
+  pub pairs-length : length (bodyOf ws Section.pairs) ≡ entries ws Section.pairs * 2
+  pairs-length = body-length ws laid-of Section.pairs
+
+  pub pairs-half : length (bodyOf ws Section.pairs) / 2 ≡ entries ws Section.pairs
+  pairs-half = let e = pairs-length in omega arith
+
+  pub pairs-total : total (bodyOf ws Section.widths) ≡ entries ws Section.pairs
+  pairs-total = sym (counted-of .pairs-are)
+
+  pub cells-length : length (bodyOf ws Section.cells) ≡ entries ws Section.cells * 2
+  cells-length = body-length ws laid-of Section.cells
+
+  pub cells-half : length (bodyOf ws Section.cells) / 2 ≡ entries ws Section.cells
+  cells-half = let e = cells-length in omega arith
+
+  pub cells-total : total (bodyOf ws Section.lengths) ≡ entries ws Section.cells
+  cells-total = sym (counted-of .cells-are)
+
+  -- ---- question 5
+  pub lengths-short : (i : ℕ) → i < length (bodyOf ws Section.instances) → getD (bodyOf ws Section.instances) i 0 < 2 ^ wordK ws
+  unfolding q5 circuitOf
+  lengths-short i l =
+      let test : ℕ → Bool = λ n. leb n (2 ^ wordK ws - 1) in
+      let e =
+      leb-true (getD (bodyOf ws Section.instances) i 0) (2 ^ wordK ws - 1)
+      (all-each test 0 (bodyOf ws Section.instances)
+      (and-right (roundsGood (circuitOf ws .rounds)) (allOf test (bodyOf ws Section.instances)) (answers ws a .five))
+      i
+      l)
+      in
+      let p = rows-pos in
+      omega arith
+
+  -- ---- the polynomials
+  pub few-witness : numWitness (circuitOf ws) ≤ 32
+  few-witness = counted-of .few-witness
+
+  pub few-user : numUser (circuitOf ws) ≤ 16
+  few-user = counted-of .few-user
+
+  pub few-polys : numPoly (circuitOf ws) ≤ 72
+  few-polys =
+      let e = polys ws (numWitness (circuitOf ws)) laid-of refl in
+      let i = laid-of .few-instances in
+      let p = laid-of .few-preprocess in
+      let w = few-witness in
+      omega arith
+
+  pub copied-fewer : numCopied (circuitOf ws) ≤ numPoly (circuitOf ws)
+  unfolding copied
+  copied-fewer = copied-le (numPoly (circuitOf ws)) (concat (circuitOf ws .cycles))
+
+  pub few-copied : numCopied (circuitOf ws) ≤ 72
+  few-copied = let p = copied-fewer in let q = few-polys in omega arith
+
+  -- ---- D
+  stated-in : (2 ≤ leastD (circuitOf ws .stated)) × (leastD (circuitOf ws .stated) ≤ 32)
+  unfolding circuitOf
+  stated-in = least-in (getD ws 1 0) (laid-of .degree)
+
+  degrees-in : largest (map degree (circuitOf ws .constraints ++ lookupConstraints (circuitOf ws))) ≤ 1024
+  unfolding q10
+  degrees-in =
+      let es : List Expr = circuitOf ws .constraints ++ lookupConstraints (circuitOf ws) in
+      leb-true (largest (map degree es)) 1024
+      (sym (all-most degree 1024 es)
+      ∙ and-left (allOf (λ e. leb (degree e) 1024) es) (allOf (λ e. atMost (circuitOf ws .stated) (degree e)) (circuitOf ws .constraints))
+      (answers ws a .ten))
+
+  degree-is : maxDegree (circuitOf ws)
+      ≡ max (leastD (circuitOf ws .stated)) (largest (map degree (circuitOf ws .constraints ++ lookupConstraints (circuitOf ws))))
+  unfolding maxDegree largest
+  degree-is = refl
+
+  pub two-degree : 2 ≤ maxDegree (circuitOf ws)
+  two-degree = let e = degree-is in let s = stated-in .0 in omega arith
+
+  pub degree-most : maxDegree (circuitOf ws) ≤ 1024
+  degree-most = let e = degree-is in let s = stated-in .1 in let h = degrees-in in omega arith
+
+  pub few-z : numZ (circuitOf ws) ≤ numCopied (circuitOf ws)
+  unfolding numZ
+  few-z = ceil-fewer (numCopied (circuitOf ws)) (maxDegree (circuitOf ws) - 1) (let h = two-degree in omega arith)
+
+  -- ---- the numbers, the words and the pieces
+  pub limits : Limits (numbersOf (circuitOf ws))
+  unfolding numbersOf numZ
+  limits =
+      record {
+        few-polys = few-polys;
+        few-copied = few-copied;
+        few-lookups = few-lookups;
+        few-user = few-user;
+        few-rows = let e = rows-is in let h = rows-few in omega arith;
+        some-part = let h = two-degree in omega arith;
+        parts-are = refl;
+      }
+
+  roots-laid : laidOut (bodyOf ws Section.nodes) (bodyOf ws Section.constraints ++ bodyOf ws Section.pairs) ≡ true
+  unfolding q7 circuitOf
+  roots-laid = answers ws a .seven
+
+  pub words : Words (numbersOf (circuitOf ws)) (bodyOf ws Section.nodes) (bodyOf ws Section.constraints) (bodyOf ws Section.widths)
+      (bodyOf ws Section.pairs)
+  unfolding numbersOf
+  words =
+      let nodes : List ℕ = bodyOf ws Section.nodes in
+      let cs : List ℕ = bodyOf ws Section.constraints in
+      let ps : List ℕ = bodyOf ws Section.pairs in
+      record {
+        limits = limits;
+        all-lookups = widths-are;
+        all-pairs = let e = pairs-length in let t = pairs-total in omega arith;
+        constraints-named = all-from (IsNode nodes) cs 0 (λ i l. root-in nodes cs (left-roots nodes cs ps roots-laid) i l);
+        pairs-named = all-from (IsNode nodes) ps 0 (λ i l. root-in nodes ps (right-roots nodes cs ps roots-laid) i l);
+      }
+
+  pub handed : Handed (numbersOf (circuitOf ws)) (copied (circuitOf ws)) (bodyOf ws Section.nodes) (bodyOf ws Section.constraints)
+      (bodyOf ws Section.widths)
+      (bodyOf ws Section.pairs)
+  unfolding numbersOf
+  handed = record { words = words; all-copied = omega arith }
+
+  pub pieces : PiecesOf (circuitOf ws) (numbersOf (circuitOf ws)) (copied (circuitOf ws)) (bodyOf ws Section.nodes)
+      (bodyOf ws Section.constraints)
+      (bodyOf ws Section.widths)
+      (bodyOf ws Section.pairs)
+  pieces = circuit-pieces ws pairs-half
+
+  -- ---- the cycles
+  pub cycles-are : split (bodyOf ws Section.lengths) (cellsOf (bodyOf ws Section.cells)) ≡ circuitOf ws .cycles
+  unfolding circuitOf
+  cycles-are = ap (split (bodyOf ws Section.lengths)) (sym (cells-of (bodyOf ws Section.cells) (entries ws Section.cells) cells-length))
+
+  pub walks : Walkable (copied (circuitOf ws)) (rowsOf (circuitOf ws)) (split (bodyOf ws Section.lengths) (cellsOf (bodyOf ws Section.cells)))
+  walks =
+      subst (Walkable (copied (circuitOf ws)) (rowsOf (circuitOf ws))) (sym cycles-are)
+      (walkable (circuitOf ws) (answers ws a .eleven) few-polys)
+
+  -- ---- where the given polynomials stand
+  pub given : Given (wordK ws) (layoutOf ws)
+  unfolding layoutOf
+  given =
+      record {
+        small =
+            record {
+              rows = let h = rows-few in omega arith;
+              instances = let h = laid-of .few-instances in omega arith;
+              preprocess = let h = laid-of .few-preprocess in omega arith;
+              start = let h = laid-of .few-instances in let s = laid-of .preprocess-at in let t = laid-of .instances-at in omega arith;
+              witness = let h = few-witness in omega arith;
+              permutations = omega arith;
+              skipped = omega arith;
+              rest = omega arith;
+            };
+        rows = refl;
+        permutations = refl;
+        rest = refl;
+      }

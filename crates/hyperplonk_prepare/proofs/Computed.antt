@@ -1,0 +1,189 @@
+-- What the functions compute from accepted circuit words is what the definitions say. Assumes nothing.
+use mathlib.Core.Path.{_≡_, sym, ap, ap₂, _∙_}
+use mathlib.Core.Bool.{Bool, true, _&&_}
+use mathlib.Core.List.{List, [], _∷_, _++_, map}
+use Prim.Native.Nat.{ℕ, _+_, _-_, _*_, _/_, _^_, _≤_, _<_, min}
+use native.Mathlib.Omega.{arith}
+use native.Mathlib.Nat.{mul-le-mul}
+use lib.ListN.{length, getD}
+use lib.Dec.{eqb, leb, ltb}
+use lib.Seq.{take-all}
+use borrow.Author.Tests.{le-leb, leb-true}
+use Rattle.field.specs.Prime.{P}
+use Rattle.lists.specs.Lists.{allOf, total, concat, split, All}
+use Rattle.lists.proofs.All.{all-from}
+use Rattle.lists.proofs.Columns.{column-length}
+use Rattle.lists.proofs.Once.{same-tests}
+use Rattle.lists.proofs.Parts.{concat-split}
+use Rattle.expression.specs.Nodes.{exprOf}
+use Rattle.backend.specs.Circuit.{Section, wordK, bodyOf, wordEach, cellAt, cellsOf, pairsOf, statedOf, circuitOf, rowsOf, numWitness, numUser, numPoly, numLookups, copiedIn, copied, numCopied}
+use Rattle.backend.specs.Constraints.{maxDegree}
+use Rattle.backend.specs.Degrees.{largestDegree, degreesFit}
+use Rattle.backend.specs.Layout.{laidOut}
+use Rattle.backend.specs.Questions.{q7}
+use Rattle.backend.proofs.Numbers.{each-one, not-past}
+use Rattle.backend.proofs.Degree.{ten-is, d-is}
+use Rattle.preprocessor.specs.Compose.{numZ, composedNodes}
+use Rattle.preprocessor.specs.Count.{most}
+use Rattle.preprocessor.specs.Pieces.{numbersOf, Words, PiecesOf}
+use Rattle.preprocessor.specs.declared.Numbers.{Numbers}
+use Rattle.hyperplonk_spec.specs.Build.{columnWords, q12, q13, q14}
+use Rattle.hyperplonk_prepare.specs.Prepared.{Accepted}
+use Rattle.hyperplonk_prepare.proofs.Accepted as known
+
+-- ---- over plain lists and numbers
+
+-- a sum of numbers that are at most m
+total-most : (m : ℕ) (ns : List ℕ) → All (λ n. n ≤ m) ns → total ns ≤ length ns * m
+unfolding total
+total-most m [] a = omega arith
+total-most m (n ∷ ns) a = let h = total-most m ns (a .1) in let b = a .0 in omega arith
+
+-- a count that stops at 2^60 against room for fewer than 2^62 words
+room-for : (n r room : ℕ) → r ≡ min most n → room < 2 ^ 62 → leb (r * 4) room ≡ leb (n * 4) room
+room-for n r room e h =
+    same-tests (leb (r * 4) room) (leb (n * 4) room)
+    (λ t. let q = leb-true (r * 4) room t in le-leb (n * 4) room (omega arith))
+    (λ t. let q = leb-true (n * 4) room t in le-leb (r * 4) room (omega arith))
+
+module _ (ws : List ℕ) (a : Accepted ws) where
+  -- ---- the copied columns
+  pub cells-all : concat (circuitOf ws .cycles) ≡ cellsOf (bodyOf ws Section.cells)
+  cells-all =
+      let body : List ℕ = bodyOf ws Section.cells in
+      ap concat (sym (known.cycles-are ws a)) ∙ concat-split (bodyOf ws Section.lengths) (cellsOf body)
+      ∙ take-all (total (bodyOf ws Section.lengths)) (cellsOf body)
+      (let e = column-length (cellAt body) (length body / 2) in
+      let h = known.cells-half ws a in
+      let t = known.cells-total ws a in
+      omega arith)
+
+  pub copied-from : (cells : List ℕ) → cells ≡ bodyOf ws Section.cells → (polys : ℕ) → polys ≡ numPoly (circuitOf ws)
+      → copiedIn polys (cellsOf cells) ≡ copied (circuitOf ws)
+  unfolding copied
+  copied-from cells q polys e =
+      ap₂ (λ (n : ℕ) (body : List ℕ). copiedIn n (cellsOf body)) e q ∙ ap (copiedIn (numPoly (circuitOf ws))) (sym cells-all)
+
+  -- ---- D
+  module _ (nodes roots widths pairs : List ℕ) (x : nodes ≡ bodyOf ws Section.nodes) (y : roots ≡ bodyOf ws Section.constraints)
+      (z : widths ≡ bodyOf ws Section.widths)
+      (q : pairs ≡ bodyOf ws Section.pairs) where
+    pub degree-asked : (s : ℕ) → s ≡ getD ws 1 0 → (laidOut nodes (roots ++ pairs) ≡ true)
+        × ((total widths ≡ length pairs / 2)
+        × (degreesFit (statedOf s) (map (exprOf nodes) roots) (split widths (pairsOf nodes pairs)) ≡ true))
+    unfolding q7 circuitOf
+    degree-asked s t = (
+      rw (x, y, q) (known.answers ws a .seven),
+      (
+        rw (z, q) (known.pairs-total ws a ∙ sym (known.pairs-half ws a)),
+        rw (x, y, z, q, t, known.pairs-half ws a) (sym (ten-is (circuitOf ws)) ∙ known.answers ws a .ten),
+      ),
+    )
+
+    pub degree-from : (s : ℕ) → s ≡ getD ws 1 0 → (r : ℕ) → r ≡ largestDegree (statedOf s) (map (exprOf nodes) roots) (split widths (pairsOf nodes pairs))
+        → r ≡ maxDegree (circuitOf ws)
+    unfolding circuitOf
+    degree-from s t r e = e ∙ rw (x, y, z, q, t, known.pairs-half ws a) (sym (d-is (circuitOf ws)))
+
+    -- ---- the words that are handed on
+    module _ (v : Numbers) (e : v ≡ numbersOf (circuitOf ws)) where
+      pub words-from : Words v nodes roots widths pairs
+      words-from = rw (e, x, y, z, q) (known.words ws a)
+
+      pub pieces-from : PiecesOf (circuitOf ws) v (copied (circuitOf ws)) nodes roots widths pairs
+      pieces-from = rw (e, x, y, z, q) (known.pieces ws a)
+
+  -- ---- the numbers
+  pub lookups-are : getD ws 13 0 ≡ numLookups (circuitOf ws)
+  lookups-are = sym (known.widths-are ws a ∙ known.widths-length ws a)
+
+  pub numbers-from : (polys copies lookups user rows degree : ℕ) → polys ≡ numPoly (circuitOf ws) → copies ≡ numCopied (circuitOf ws)
+      → lookups ≡ numLookups (circuitOf ws)
+      → user ≡ numUser (circuitOf ws)
+      → rows ≡ 2 ^ wordK ws
+      → degree ≡ maxDegree (circuitOf ws)
+      → _≡_ {A = Numbers}
+      (record {
+        polys = polys;
+        copied = copies;
+        lookups = lookups;
+        user = user;
+        rows = rows;
+        part = degree - 1;
+        parts = (copies + (degree - 1) - 1) / (degree - 1);
+      })
+      (numbersOf (circuitOf ws))
+  unfolding numbersOf numZ
+  numbers-from polys copies lookups user rows degree p c l u r d = rw (p, c, l, u, r ∙ sym (known.rows-is ws a), d)
+
+  -- the column words
+  module _ (v : Numbers) (e : v ≡ numbersOf (circuitOf ws)) where
+    pub columns-low : (getD ws 3 0 + v .copied + v .lookups * 4 + v .parts ≤ 184) × (v .rows ≤ 1024)
+    unfolding numbersOf
+    columns-low =
+        let i = known.instances-entries ws a in
+        let s = known.few-instances ws a in
+        let c = known.few-copied ws a in
+        let l = known.few-lookups ws a in
+        let z = known.few-z ws a in
+        let t = known.rows-is ws a in
+        let r = known.rows-few ws a in
+        rw e (omega arith, omega arith)
+
+    pub columns-fit : (getD ws 3 0 + v .copied + v .lookups * 4 + v .parts) * v .rows ≤ 188416
+    columns-fit = mul-le-mul (columns-low .0) (columns-low .1)
+
+    pub columns-from : (getD ws 3 0 + v .copied + v .lookups * 4 + v .parts) * v .rows ≡ columnWords (circuitOf ws)
+    unfolding numbersOf columnWords
+    columns-from =
+        ap (λ (v : Numbers). (getD ws 3 0 + v .copied + v .lookups * 4 + v .parts) * v .rows) e
+        ∙ ap (λ (i : ℕ). (i + numCopied (circuitOf ws) + numLookups (circuitOf ws) * 4 + numZ (circuitOf ws)) * rowsOf (circuitOf ws))
+        (known.instances-entries ws a)
+
+  -- ---- 12
+  pub instances-most : total (bodyOf ws Section.instances) ≤ 8192
+  instances-most =
+      let h =
+      total-most 1024 (bodyOf ws Section.instances)
+      (all-from (λ n. n ≤ 1024) (bodyOf ws Section.instances) 0
+      (λ i l. let s = known.lengths-short ws a i l in let r = known.rows-few ws a in omega arith))
+      in
+      let e = known.instances-length ws a in
+      let n = known.few-instances ws a in
+      omega arith
+
+  pub instances-from : (lengths : List ℕ) → lengths ≡ bodyOf ws Section.instances → (r : ℕ)
+      → r ≡ min (total (wordEach lengths 1 0 (length lengths))) 8192
+      → r ≡ total (circuitOf ws .instances)
+  unfolding circuitOf
+  instances-from lengths q r e =
+      not-past (total (bodyOf ws Section.instances)) 8192 r (e ∙ ap (λ (ns : List ℕ). min (total ns) 8192) (each-one lengths ∙ q)) instances-most
+
+  pub witness-fit : (columns rows : ℕ) → columns ≡ numWitness (circuitOf ws) → rows ≡ 2 ^ wordK ws → columns * rows ≤ 32768
+  witness-fit columns rows c r =
+      mul-le-mul (let h = known.few-witness ws a in let w : columns ≤ 32 = omega arith in w)
+      (let h = known.rows-few ws a in let w : rows ≤ 1024 = omega arith in w)
+
+  pub twelve : (is ss cs : List ℕ) (values columns rows user : ℕ) → values ≡ total (circuitOf ws .instances)
+      → columns ≡ numWitness (circuitOf ws)
+      → rows ≡ 2 ^ wordK ws
+      → user ≡ numUser (circuitOf ws)
+      → (eqb (length is) values && eqb (length ss) (columns * rows) && eqb (length cs) (user + 2)) ≡ q12 (circuitOf ws) is ss cs
+  unfolding q12
+  twelve is ss cs values columns rows user v c r u = rw (v, c, r ∙ sym (known.rows-is ws a), u)
+
+  -- ---- 14
+  pub fourteen : (words composed columns room : ℕ) → words ≡ columnWords (circuitOf ws) → composed ≡ min most (composedNodes (circuitOf ws))
+      → room < 2 ^ 62
+      → (cs ns : List ℕ) → length cs ≡ columns → length ns ≡ room
+      → (leb words columns && leb (composed * 4) room) ≡ q14 (circuitOf ws) cs ns
+  unfolding q14
+  fourteen words composed columns room w c h cs ns x y =
+      ap₂ _&&_ (ap₂ leb w (sym x))
+      (room-for (composedNodes (circuitOf ws)) composed room c h ∙ ap (leb (composedNodes (circuitOf ws) * 4)) (sym y))
+
+-- ---- 13
+pub thirteen : (is ss cs : List ℕ) (x y z : Bool) → x ≡ allOf (λ w. ltb w P) is → y ≡ allOf (λ w. ltb w P) ss → z ≡ allOf (λ w. ltb w P) cs
+    → (x && y && z) ≡ q13 is ss cs
+unfolding q13
+thirteen is ss cs x y z a b c = ap₂ _&&_ (ap₂ _&&_ a b) c

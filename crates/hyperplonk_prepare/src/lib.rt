@@ -1,0 +1,73 @@
+// What the calls compute from circuit words for which questions 1 to 11 are yes, before they build or sum: the numbers that the
+// composed expression names.
+pub mod inputs;
+pub mod needed;
+
+use backend_nodes::degrees::max_degree;
+use backend_sections::bodies::num_poly;
+use backend_sections::bodies::num_user;
+use backend_sections::bodies::rows;
+use backend_sections::copied::Copied;
+use backend_sections::copied::copied_columns;
+use backend_sections::reader::cells_of;
+use backend_sections::reader::constraints_of;
+use backend_sections::reader::nodes_of;
+use backend_sections::reader::pairs_of;
+use backend_sections::reader::stated_of;
+use backend_sections::reader::widths_of;
+use preprocessor::Numbers;
+ghost use mathlib.Core.Path.{_≡_};
+ghost use mathlib.Core.List.{_++_};
+ghost use Prim.Native.Nat.{_-_, _≤_};
+ghost use lib.ListN.{take, replicate};
+ghost use Rattle.backend.specs.Circuit.{circuitOf, numCopied};
+ghost use Rattle.backend.specs.Circuit as def;
+ghost use Rattle.backend.specs.Constraints.{maxDegree};
+ghost use Rattle.preprocessor.specs.Pieces.{numbersOf};
+ghost use Rattle.hyperplonk_prepare.specs.Prepared.{Accepted};
+
+// The copied columns of the circuit, and zeros after them.
+pub fn copied_of(circuit: &[u64]) -> Copied
+    requires { ⌜ Accepted (now circuit) ⌝ }
+    ensures { λ r. ⌜ (r .count ≤ 72) × (take (r .count) (r .of) ≡ def.copied (circuitOf (now (circuit .entry)))) × (r .count ≡ numCopied (circuitOf (now (circuit .entry)))) × (r .of ≡ def.copied (circuitOf (now (circuit .entry))) ++ replicate (72 - r .count) 0) ⌝ }
+{
+    let polys = num_poly(circuit);
+    let cells = cells_of(circuit);
+    copied_columns(cells, polys as usize)
+}
+
+// Rust `max_degree`, D.
+pub fn degree_of(circuit: &[u64]) -> usize
+    requires { ⌜ Accepted (now circuit) ⌝ }
+    ensures { λ r. ⌜ r ≡ maxDegree (circuitOf (now (circuit .entry))) ⌝ }
+{
+    let stated = stated_of(circuit);
+    let nodes = nodes_of(circuit);
+    let users = constraints_of(circuit);
+    let widths = widths_of(circuit);
+    let lookups = pairs_of(circuit);
+    let degree = max_degree(nodes, users, widths, lookups, stated);
+    degree as usize
+}
+
+// The numbers that the composed expression names, given how many columns are copied.
+pub fn numbers(circuit: &[u64], copied: usize) -> Numbers
+    requires { ⌜ Accepted (now circuit) × (copied ≡ numCopied (circuitOf (now circuit))) ⌝ }
+    ensures { λ r. ⌜ r ≡ numbersOf (circuitOf (now (circuit .entry))) ⌝ }
+{
+    let polys = num_poly(circuit);
+    let user = num_user(circuit);
+    let rows = rows(circuit);
+    let lookups = circuit[13];
+    let part = degree_of(circuit) - 1;
+    let parts = (copied + part - 1) / part;
+    Numbers {
+        polys: polys as usize,
+        copied: copied,
+        lookups: lookups as usize,
+        user: user as usize,
+        rows: rows as usize,
+        part: part,
+        parts: parts,
+    }
+}

@@ -1,0 +1,268 @@
+// The row sum: question 16, and the sum of the composed expression over the rows.
+use backend_questions::first_no;
+use backend_sections::reader::k_of;
+use backend_sections::words::all_elements;
+use expression::poly::Layout;
+use expression::value::Point;
+use expression_evaluate::value;
+use field::goldilocks::Goldilocks;
+use hyperplonk_nodes::same_nodes;
+use hyperplonk_prepare::copied_of;
+use hyperplonk_prepare::needed::column_words;
+use hyperplonk_prepare::needed::composed_nodes;
+use hyperplonk_prepare::numbers;
+use hyperplonk_spec::RowSum;
+use multilinear::eq_at;
+use preprocessor::Numbers;
+use prover_compressed::row_after;
+use prover_instance::blank_column::rows_of;
+ghost use mathlib.Core.Path.{_≡_};
+ghost use Prim.Native.Nat.{_-_, _^_, _≤_, _<_};
+ghost use lib.ListN.{take};
+ghost use Rattle.field.specs.Field.{𝔾};
+ghost use Rattle.field.specs.Element.{elem};
+ghost use Rattle.bh.specs.Rows.{rowAt};
+ghost use Rattle.expression.specs.Nodes.{exprOf};
+ghost use Rattle.expression.specs.Value.{valueAt};
+ghost use Rattle.backend.specs.Circuit.{circuitOf, copied};
+ghost use Rattle.preprocessor.specs.Compose.{composedNodes};
+ghost use Rattle.preprocessor.specs.Pieces.{numbersOf};
+ghost use Rattle.hyperplonk_spec.specs.RowSum.{q16, lentEnvironment, sumOf, rowSumOf};
+ghost use Rattle.hyperplonk_prepare.specs.Prepared.{Accepted, Prepared};
+ghost use Rattle.hyperplonk_row_sum.specs.Sum.{lengthsRight, valuesSmall, sumLayout, Summable};
+ghost use Rattle.hyperplonk_row_sum.specs.Told.{Told};
+
+// Where the polynomials stand that the row sum reads.
+pub fn sum_layout(circuit: &[u64], v: Numbers) -> Layout
+    requires { ⌜ Accepted (now circuit) × (v ≡ numbersOf (circuitOf (now circuit))) ⌝ }
+    ensures { λ r. ⌜ r ≡ sumLayout (now (circuit .entry)) ⌝ }
+{
+    let instances = circuit[3] as usize;
+    let start = circuit[4] as usize;
+    let preprocess = circuit[5] as usize;
+    Layout {
+        rows: v.rows,
+        instances: instances,
+        preprocess: preprocess,
+        start: start,
+        witness: v.polys - instances - preprocess,
+        permutations: v.copied,
+        skipped: v.lookups * 2,
+        rest: v.lookups * 2 + v.parts,
+    }
+}
+
+// Question 16, of the lengths of the words.
+fn lengths_right(
+    circuit: &[u64],
+    v: Numbers,
+    witness: usize,
+    columns: usize,
+    nodes: usize,
+    challenges: usize,
+    y: usize,
+) -> bool
+    requires { ⌜ Accepted (now circuit) × ((v ≡ numbersOf (circuitOf (now circuit))) × (nodes < 2 ^ 62)) ⌝ }
+    ensures { λ r. ⌜ r ≡ lengthsRight (circuitOf (now (circuit .entry))) witness columns nodes challenges y ⌝ }
+{
+    let layout = sum_layout(circuit, v);
+    let words = column_words(circuit, v);
+    let composed = composed_nodes(circuit, v);
+    let k = k_of(circuit) as usize;
+    (witness == layout.witness * layout.rows)
+        & (columns == words)
+        & (challenges == v.user + 3)
+        & (y == k)
+        & (nodes as u64 == composed * 4)
+}
+
+// Question 16, of the values.
+fn values_small(witness: &[u64], columns: &[u64], challenges: &[u64], y: &[u64]) -> bool
+    ensures { λ r. ⌜ r ≡ valuesSmall (now (witness .entry)) (now (columns .entry)) (now (challenges .entry)) (now (y .entry)) ⌝ }
+{
+    let first = all_elements(witness);
+    let second = all_elements(columns);
+    let third = all_elements(challenges);
+    let fourth = all_elements(y);
+    first & second & third & fourth
+}
+
+// Question 16.
+pub fn question_16(
+    circuit: &[u64],
+    witness: &[u64],
+    columns: &[u64],
+    nodes: &[u64],
+    challenges: &[u64],
+    y: &[u64],
+    copied: &[u64],
+    v: Numbers,
+) -> bool
+    requires { ⌜ Prepared (now circuit) (now copied) v ⌝ }
+    ensures { λ r. ⌜ r ≡ q16 (circuitOf (now (circuit .entry))) (now (witness .entry)) (now (columns .entry)) (now (nodes .entry)) (now (challenges .entry)) (now (y .entry)) ⌝ }
+{
+    if !lengths_right(
+        circuit,
+        v,
+        witness.len(),
+        columns.len(),
+        nodes.len(),
+        challenges.len(),
+        y.len(),
+    ) {
+        return false;
+    }
+    if !same_nodes(circuit, copied, v, nodes) {
+        return false;
+    }
+    values_small(witness, columns, challenges, y)
+}
+
+// The value of the last node at one row, EqXY(0) at that row with it.
+fn row_value<'a>(
+    circuit: &'a [u64],
+    witness: &'a [u64],
+    columns: &'a [u64],
+    nodes: &'a [u64],
+    challenges: &'a [u64],
+    y: &[u64],
+    layout: Layout,
+    k: usize,
+    row: usize,
+    place: usize,
+) -> Goldilocks
+    requires { ⌜ Summable (now circuit) (now nodes) (now y) layout k × (place < 2 ^ k) × (row ≡ rowAt k place) ⌝ }
+    ensures { λ r. ⌜ elem r ≡ valueAt 𝔾 (lentEnvironment (now (circuit .entry)) (now (witness .entry)) (now (columns .entry)) (now (challenges .entry)) (now (y .entry))) (exprOf (now (nodes .entry)) (composedNodes (circuitOf (now (circuit .entry))) - 1)) row ⌝ }
+{
+    let eq = eq_at(k, y, row).word();
+    let root = nodes.len() / 4 - 1;
+    value(
+        nodes,
+        circuit,
+        witness,
+        columns,
+        challenges,
+        layout,
+        Point {
+            k: k,
+            row: row,
+            place: place,
+            eq: eq,
+        },
+        root,
+    )
+}
+
+// The sum of the last node's values over the rows, through the row order once.
+fn sum_rows<'a>(
+    circuit: &'a [u64],
+    witness: &'a [u64],
+    columns: &'a [u64],
+    nodes: &'a [u64],
+    challenges: &'a [u64],
+    y: &[u64],
+    layout: Layout,
+    k: usize,
+) -> Goldilocks
+    requires { ⌜ Summable (now circuit) (now nodes) (now y) layout k ⌝ }
+    ensures { λ r. ⌜ elem r ≡ sumOf (now (circuit .entry)) (now (witness .entry)) (now (columns .entry)) (now (nodes .entry)) (now (challenges .entry)) (now (y .entry)) ⌝ }
+{
+    let rows = rows_of(k);
+    let mut sum = Goldilocks::ZERO;
+    let mut row: usize = 0;
+    let mut place: usize = 0;
+    while place < rows {
+        let x = row_value(
+            circuit,
+            witness,
+            columns,
+            nodes,
+            challenges,
+            y,
+            layout,
+            k,
+            row,
+            place,
+        );
+        sum = sum.add(x);
+        row = row_after(row, place, k);
+        place += 1;
+    }
+    sum
+}
+
+// The row sum of circuit words for which questions 1 to 11 are yes.
+fn sum_prepared<'a>(
+    circuit: &'a [u64],
+    witness: &'a [u64],
+    columns: &'a [u64],
+    nodes: &'a [u64],
+    challenges: &'a [u64],
+    y: &[u64],
+    copied: &[u64],
+    v: Numbers,
+) -> RowSum
+    requires { ⌜ Prepared (now circuit) (now copied) v ⌝ }
+    ensures { λ r. ⌜ r ≡ rowSumOf (now (circuit .entry)) (now (witness .entry)) (now (columns .entry)) (now (nodes .entry)) (now (challenges .entry)) (now (y .entry)) ⌝ }
+{
+    if !question_16(circuit, witness, columns, nodes, challenges, y, copied, v) {
+        return RowSum { number: 16, sum: 0 };
+    }
+    let layout = sum_layout(circuit, v);
+    let k = k_of(circuit) as usize;
+    let sum = sum_rows(circuit, witness, columns, nodes, challenges, y, layout, k);
+    RowSum {
+        number: 0,
+        sum: sum.to_u64(),
+    }
+}
+
+// The same, with the copied columns as the first `count` of an array.
+fn sum_named<'a>(
+    circuit: &'a [u64],
+    witness: &'a [u64],
+    columns: &'a [u64],
+    nodes: &'a [u64],
+    challenges: &'a [u64],
+    y: &[u64],
+    of: &[u64; 72],
+    count: usize,
+) -> RowSum
+    requires { ⌜ Accepted (now circuit) × ((count ≤ 72) × (take count (now of) ≡ copied (circuitOf (now circuit)))) ⌝ }
+    ensures { λ r. ⌜ r ≡ rowSumOf (now (circuit .entry)) (now (witness .entry)) (now (columns .entry)) (now (nodes .entry)) (now (challenges .entry)) (now (y .entry)) ⌝ }
+{
+    let all = &of[..];
+    let v = numbers(circuit, count);
+    sum_prepared(
+        circuit,
+        witness,
+        columns,
+        nodes,
+        challenges,
+        y,
+        &all[0..count],
+        v,
+    )
+}
+
+// The row sum: the number of the first question that is answered no and the sum 0, or 0 and the sum.
+pub fn row_sum<'a>(
+    circuit: &'a [u64],
+    witness: &'a [u64],
+    columns: &'a [u64],
+    nodes: &'a [u64],
+    challenges: &'a [u64],
+    y: &[u64],
+) -> RowSum
+    ensures { λ r. ⌜ r ≡ rowSumOf (now (circuit .entry)) (now (witness .entry)) (now (columns .entry)) (now (nodes .entry)) (now (challenges .entry)) (now (y .entry)) ⌝ }
+    ensures told { λ r. ⌜ Told (now (circuit .entry)) (now (witness .entry)) (now (columns .entry)) (now (nodes .entry)) (now (challenges .entry)) (now (y .entry)) r ⌝ }
+{
+    let no = first_no(circuit);
+    if no != 0 {
+        return RowSum { number: no, sum: 0 };
+    }
+    let names = copied_of(circuit);
+    let count = names.count;
+    let of = names.of;
+    sum_named(circuit, witness, columns, nodes, challenges, y, &of, count)
+}

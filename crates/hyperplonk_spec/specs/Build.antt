@@ -1,0 +1,120 @@
+-- The building call: questions 12 to 15, and what is returned and written. Assumes nothing.
+use mathlib.Core.Bool.{Bool, true, false, cond, _&&_}
+use mathlib.Core.List.{List, [], _∷_, _++_, map}
+use Prim.Native.Nat.{ℕ, _+_, _*_}
+use lib.ListN.{length, getD, take, drop, replicate}
+use lib.Dec.{eqb, leb}
+use Rattle.field.specs.Field.{𝔾, el, val}
+use Rattle.lists.specs.Lists.{column, concat, allOf, total, written, Asked, asked, askedOf, firstNo}
+use Rattle.backend.specs.Circuit.{Circuit, circuitOf, rowsOf, numInstance, numWitness, numUser, numCopied, numLookups}
+use Rattle.backend.specs.Questions.{circuitQuestions, small}
+use Rattle.preprocessor.specs.Compose.{numZ, composedWords, composedNodes}
+use Rattle.prover.specs.Log.{Log}
+use Rattle.prover.specs.Columns.{allCovered, writtenPolys}
+unfoldable pub use Rattle.prover.specs.Words.{wordsOf}
+use Rattle.hyperplonk_spec.specs.declared.Built.{Built}
+
+-- the log that the words are; "challenges (the user's, then β, γ)"
+unfoldable pub logOf : List ℕ → List ℕ → List ℕ → List ℕ → Log 𝔾
+logOf ws instances witness challenges =
+    record {
+      circuit = circuitOf ws;
+      el = el;
+      instances = instances;
+      witness = witness;
+      user = map el (take (numUser (circuitOf ws)) challenges);
+      β = el (getD challenges (numUser (circuitOf ws)) 0);
+      γ = el (getD challenges (numUser (circuitOf ws) + 1) 0);
+    }
+
+-- the column words needed: instance, permutation, two compressed, m and h for each lookup, z
+unfoldable pub columnWords : Circuit → ℕ
+columnWords c = (numInstance c + numCopied c + numLookups c * 4 + numZ c) * rowsOf c
+
+-- "Have instance, witness and challenge words the exact length?"
+unfoldable pub q12 : Circuit → List ℕ → List ℕ → List ℕ → Bool
+q12 c instances witness challenges =
+    eqb (length instances) (total (c .instances)) && eqb (length witness) (numWitness c * rowsOf c)
+    && eqb (length challenges) (numUser c + 2)
+
+-- "Are they all below p?"
+unfoldable pub q13 : List ℕ → List ℕ → List ℕ → Bool
+q13 instances witness challenges = allOf small instances && allOf small witness && allOf small challenges
+
+-- "Have both output buffers at least the words needed?"
+unfoldable pub q14 : Circuit → List ℕ → List ℕ → Bool
+q14 c columns nodes = leb (columnWords c) (length columns) && leb (composedNodes c * 4) (length nodes)
+
+-- the six lent slices
+pub record Lent : Type 0 where
+  pub circuit : List ℕ
+  pub instances : List ℕ
+  pub witness : List ℕ
+  pub challenges : List ℕ
+  pub columns : List ℕ
+  pub nodes : List ℕ
+
+-- questions 1 to 14
+unfoldable pub buildQuestions : List (Asked Lent)
+buildQuestions =
+    map (askedOf (λ (l : Lent). l .circuit)) circuitQuestions
+    ++ (asked 12 (λ (l : Lent). q12 (circuitOf (l .circuit)) (l .instances) (l .witness) (l .challenges))
+    ∷ asked 13 (λ (l : Lent). q13 (l .instances) (l .witness) (l .challenges))
+    ∷ asked 14 (λ (l : Lent). q14 (circuitOf (l .circuit)) (l .columns) (l .nodes))
+    ∷ [])
+
+-- the number that they give, 0 when all are yes
+unfoldable pub checkBuild : List ℕ → List ℕ → List ℕ → List ℕ → List ℕ → List ℕ → ℕ
+checkBuild ws instances witness challenges columns nodes =
+    firstNo buildQuestions
+    (record {
+      circuit = ws;
+      instances = instances;
+      witness = witness;
+      challenges = challenges;
+      columns = columns;
+      nodes = nodes;
+    })
+
+-- what the call returns, and what both buffers hold then
+pub record Output : Type 0 where
+  pub answer : Built
+  pub columns : List ℕ
+  pub nodes : List ℕ
+
+-- "a refusal returns three zeros after its number"
+abbrev pub refused : ℕ → Built
+refused n = record { number = n; «column_words» = 0; nodes = 0; «z_columns» = 0 }
+
+abbrev pub success : Circuit → Built
+success c = record { number = 0; «column_words» = columnWords c; nodes = composedNodes c; «z_columns» = numZ c }
+
+-- "Words past those written stay untouched. Refusals write nothing, except 15: the column words needed become 0."
+abbrev pub refusal : ℕ → List ℕ → List ℕ → Output
+refusal n columns nodes = record { answer = refused n; columns = columns; nodes = nodes }
+
+unfoldable pub zeroed : Circuit → List ℕ → List ℕ → Output
+zeroed c columns nodes =
+    record { answer = refused 15; columns = written (replicate (columnWords c) 0) columns; nodes = nodes }
+
+unfoldable pub made : Log 𝔾 → List ℕ → List ℕ → Output
+made g columns nodes =
+    record {
+      answer = success (g .circuit);
+      columns = written (wordsOf (rowsOf (g .circuit)) (writtenPolys 𝔾 g)) columns;
+      nodes = written (composedWords (g .circuit)) nodes;
+    }
+
+-- question 15 and after
+unfoldable pub buildLog : Log 𝔾 → List ℕ → List ℕ → Output
+buildLog g columns nodes =
+    let yes-15 = made g columns nodes in
+    let no-15 = zeroed (g .circuit) columns nodes in
+    cond (allCovered 𝔾 g) yes-15 no-15
+
+-- the building call
+unfoldable pub buildOf : List ℕ → List ℕ → List ℕ → List ℕ → List ℕ → List ℕ → Output
+buildOf ws instances witness challenges columns nodes =
+    let number = checkBuild ws instances witness challenges columns nodes in
+    let built = buildLog (logOf ws instances witness challenges) columns nodes in
+    cond (eqb number 0) built (refusal number columns nodes)

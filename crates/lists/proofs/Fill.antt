@@ -1,0 +1,47 @@
+-- A column written into a buffer, one word after another. Assumes nothing.
+use mathlib.Core.Path.{_≡_, refl, sym, ap, ap₂, _∙_}
+use mathlib.Core.List.{List, [], _∷_, _++_}
+use Prim.Native.Nat.{ℕ, zero, suc, _+_, _≤_, _<_}
+use native.Mathlib.Numerals.{add-one}
+use native.Mathlib.Omega.{arith}
+use lib.ListN.{length, getD, set, replicate, length-set}
+use Rattle.lists.specs.Lists.{column, over}
+use Rattle.lists.proofs.Columns.{column-length, column-replicate}
+use Rattle.lists.proofs.Over.{over-none, over-column, over-before}
+
+-- the buffer when the first i words of the column f stand from `at` on
+pub record Filled (rows : ℕ) (f : ℕ → ℕ) (d : List ℕ) (at : ℕ) (m : List ℕ) (i : ℕ) : Type 0 where
+  pub upto : i ≤ rows
+  pub size : length m ≡ length d
+  pub now : m ≡ over d at (column f i)
+
+module _ (rows : ℕ) (f : ℕ → ℕ) (d : List ℕ) (at : ℕ) where
+  pub fill-start : Filled rows f d at d 0
+  unfolding column
+  fill-start = record { upto = omega arith; size = refl; now = sym (over-none d at) }
+
+  module _ (m : List ℕ) (i : ℕ) (inv : Filled rows f d at m i) where
+    pub fill-more : at + rows ≤ length d → i < rows → (w : ℕ) → w ≡ f i → Filled rows f d at (set m (at + i) w) (i + 1)
+    fill-more room h w e =
+        record {
+          upto = omega arith;
+          size = length-set m (at + i) w ∙ inv .size;
+          now =
+              ap₂ (λ (x : List ℕ) (v : ℕ). set x (at + i) v) (inv .now) e
+              ∙ over-column d at f i (omega arith)
+              ∙ ap (λ (n : ℕ). over d at (column f n)) (sym (add-one i));
+        }
+
+    -- the same, at the word p
+    pub fill-more-at : at + rows ≤ length d → i < rows → (p : ℕ) → p ≡ at + i → (w : ℕ) → w ≡ f i → Filled rows f d at (set m p w) (i + 1)
+    fill-more-at room h p q w e = rw q (fill-more room h w e)
+
+    -- what stands before is as it was
+    pub fill-before : at ≤ length d → (j : ℕ) → j < at → getD m j 0 ≡ getD d j 0
+    fill-before room j l = ap (λ (x : List ℕ). getD x j 0) (inv .now) ∙ over-before d at (column f i) j 0 room l
+
+    pub fill-end : rows ≤ i → m ≡ over d at (column f rows)
+    fill-end h = let e : i ≡ rows = omega arith in inv .now ∙ ap (λ (n : ℕ). over d at (column f n)) e
+
+pub fill-zero : (rows : ℕ) (d : List ℕ) (at : ℕ) (m : List ℕ) → m ≡ over d at (column (λ _. 0) rows) → m ≡ over d at (replicate rows 0)
+fill-zero rows d at m e = e ∙ ap (over d at) (column-replicate 0 rows)

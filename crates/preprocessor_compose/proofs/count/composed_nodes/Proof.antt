@@ -1,0 +1,69 @@
+use Prim.Native.Nat.{ℕ, min}
+use Rattle.preprocessor.proofs.Counts as counts
+use Rattle.preprocessor.specs.Count.{listNodes, most}
+use mathlib.Core.Path.{ap, _∙_}
+use borrow.Author.Needs.{needs}
+use Rattle.preprocessor_compose.proofs.count.composed_nodes.Statement.{statement}
+use Rattle.preprocessor_compose.proofs.count.composed_nodes.Tie as tie
+
+roots-nodes-requires : tie.Need-roots-nodes-requires
+roots-nodes-requires c κs = search needs
+
+lookups-nodes-requires : tie.Need-lookups-nodes-requires
+lookups-nodes-requires c κs = search needs
+
+permutation-nodes-requires : tie.Need-permutation-nodes-requires
+permutation-nodes-requires c κs = search needs
+
+num-constraints-requires : tie.Need-num-constraints-requires
+num-constraints-requires c κs = search needs
+
+plus-requires : tie.Need-plus-requires
+plus-requires c κs = search needs
+
+plus-requires-2 : tie.Need-plus-requires-2
+plus-requires-2 c κs = search needs
+
+list-nodes-requires : tie.Need-list-nodes-requires
+list-nodes-requires c κs = search needs
+
+plus-requires-3 : tie.Need-plus-requires-3
+plus-requires-3 c κs = search needs
+
+add-plus : tie.Need-add-plus
+add-plus c = search needs
+
+plus-requires-4 : tie.Need-plus-requires-4
+plus-requires-4 c κs = search needs
+
+add-list-nodes : tie.Need-add-list-nodes
+add-list-nodes c = search needs
+
+list-nodes-requires-2 : tie.Need-list-nodes-requires-2
+list-nodes-requires-2 c κs = search needs
+
+plus-requires-5 : tie.Need-plus-requires-5
+plus-requires-5 c κs = search needs
+
+returns : tie.Need-returns
+returns c k names p =
+    counts.composed-counted (c .plus5 .result) (c .before .before .before .before .before .before .before .before .before .before .before .before .roots-nodes .result) (c .before .before .before .before .before .before .before .before .before .before .before .lookups-nodes .result) (c .before .before .before .before .before .before .before .before .before .before .permutation-nodes .result) (c .before .before .before .before .before .before .before .before .plus .result) (c .before .before .before .before .before .before .before .plus2 .result) (c .before .before .before .before .before .plus3 .result) (c .before .before .before .plus4 .result) (c .before .before .before .before .before .before .list-nodes .result) (c .before .list-nodes2 .result) (c .before .before .before .before .before .before .before .before .before .before .before .before .before .before .before .before .before .pre .limits) p (c .before .before .before .before .before .before .before .before .before .before .before .before .roots-nodes .ensures) (c .before .before .before .before .before .before .before .before .before .before .before .lookups-nodes .ensures) (c .before .before .before .before .before .before .before .before .before .before .permutation-nodes .ensures) ((c .before .before .before .before .before .before .list-nodes .ensures) ∙ ap (λ (n : ℕ). min most (listNodes n)) (c .before .before .before .before .before .before .before .before .before .num-constraints .ensures)) (c .before .list-nodes2 .ensures) (c .before .before .before .before .before .before .before .before .plus .ensures) (c .before .before .before .before .before .before .before .plus2 .ensures) (c .before .before .before .before .before .plus3 .ensures) (c .before .before .before .plus4 .ensures) (c .plus5 .ensures)
+
+pub composed-nodes-spec : {M : Type 1} → statement M
+composed-nodes-spec =
+    tie.close
+    (tie.spec
+    roots-nodes-requires
+    lookups-nodes-requires
+    permutation-nodes-requires
+    num-constraints-requires
+    plus-requires
+    plus-requires-2
+    list-nodes-requires
+    plus-requires-3
+    add-plus
+    plus-requires-4
+    add-list-nodes
+    list-nodes-requires-2
+    plus-requires-5
+    returns)

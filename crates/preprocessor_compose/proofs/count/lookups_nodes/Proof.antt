@@ -1,0 +1,98 @@
+use Rattle.lists.proofs.Runs as runs
+use Prim.Native.Nat.{ℕ, _-_, _≤_, _<_, min}
+use Rattle.expression.specs.Expr.{Expr}
+use Rattle.preprocessor.proofs.Counts as counts
+use Rattle.preprocessor.proofs.Handed as handed
+use Rattle.preprocessor.specs.Count.{nodesIn, most}
+use Rattle.preprocessor.specs.Pieces.{lookupsOf, lookupTreeOf}
+use Rattle.lists.specs.Lists.{column, total}
+use borrow.Author.Needs.{needs}
+use lib.ListN.{length, take}
+use mathlib.Core.Path.{_≡_, sym}
+use native.Mathlib.Omega.{arith}
+use Rattle.preprocessor_compose.proofs.count.lookups_nodes.Statement.{statement}
+use Rattle.preprocessor_compose.proofs.count.lookups_nodes.Tie as tie
+
+abbrev Inv-loop : tie.InvT-loop
+Inv-loop user roots widths pairs v sum₀ s₀ j₀ sum s j = (j ≤ v .lookups) × ((s ≡ total (take j widths)) × (sum ≡ min most (nodesIn (column (lookupTreeOf v (lookupsOf user widths pairs)) j))))
+
+abbrev μ-loop : tie.MeasureT-loop
+μ-loop user roots widths pairs v sum₀ s₀ j₀ sum s j = v .lookups - j
+
+loop-holds : tie.Need-loop-holds Inv-loop μ-loop
+loop-holds c =
+    let a = (c .before .before .before .before .args) in
+    (omega arith, (sym (runs.total-none (a .widths .now)), counts.count-none (lookupTreeOf (a .v) (lookupsOf (a .user .now) (a .widths .now) (a .pairs .now)))))
+
+mul-index : tie.Need-mul-index Inv-loop μ-loop
+mul-index c = omega (arith, (c .before .before .before .before .before .before .before .pre .all-lookups))
+
+shared-slice-read-index : tie.Need-shared-slice-read-index Inv-loop μ-loop
+shared-slice-read-index c = omega (arith, (c .before .before .before .before .before .before .before .before .pre .all-lookups))
+
+index-requires : tie.Need-index-requires Inv-loop μ-loop
+index-requires c κs = search needs
+
+mul-lookup-nodes : tie.Need-mul-lookup-nodes Inv-loop μ-loop
+mul-lookup-nodes c =
+    let entry = c .before .before .before .before .before .before .before .before .before in
+    let a = (entry .args) in
+    let q = handed.words-end (a .user .now) (a .widths .now) (a .pairs .now) (entry .pre .all-pairs) (c .before .before .before .before .loop .j) (omega (arith, (entry .pre .all-lookups))) in
+    omega (arith, (c .before .before .before .before .loop .inv .1 .0))
+
+lookup-nodes-requires : tie.Need-lookup-nodes-requires Inv-loop μ-loop
+lookup-nodes-requires c κs =
+    let entry = c .before .before .before .before .before .before .before .before .before in
+    let a = (entry .args) in
+    let q = handed.words-end (a .user .now) (a .widths .now) (a .pairs .now) (entry .pre .all-pairs) (c .before .before .before .before .loop .j) (omega (arith, (entry .pre .all-lookups))) in
+    ((entry .pre .pairs-named), omega (arith, (c .before .before .before .before .loop .inv .1 .0), (c .index .ensures)))
+
+plus-requires : tie.Need-plus-requires Inv-loop μ-loop
+plus-requires c κs = search needs
+
+add-s : tie.Need-add-s Inv-loop μ-loop
+add-s c =
+    let entry = c .before .before .before .before .before .before .before .before .before .before .before in
+    let a = (entry .args) in
+    let q = handed.words-end (a .user .now) (a .widths .now) (a .pairs .now) (entry .pre .all-pairs) (c .before .before .before .before .before .before .loop .j) (omega (arith, (entry .pre .all-lookups))) in
+    omega (arith, (c .before .before .before .before .before .before .loop .inv .1 .0), (c .before .before .index .ensures))
+
+add-j : tie.Need-add-j Inv-loop μ-loop
+add-j c = omega (arith, (c .before .before .before .before .before .before .before .before .before .before .before .pre .limits))
+
+loop-less : tie.Need-loop-less Inv-loop μ-loop
+loop-less c = omega arith
+
+loop-again : tie.Need-loop-again Inv-loop μ-loop
+loop-again c =
+    let entry = c .before .before .before .before .before .before .before .before .before .before .before in
+    let a = (entry .args) in
+    let f : ℕ → Expr = lookupTreeOf (a .v) (lookupsOf (a .user .now) (a .widths .now) (a .pairs .now)) in
+    let h : (c .before .before .before .before .before .before .loop .j) < length (a .widths .now) = omega (arith, (entry .pre .all-lookups)) in
+    let e = counts.lookup-is (a .v) (a .user .now) (a .widths .now) (a .pairs .now) (c .before .before .before .before .before .before .loop .j) (c .before .before .before .before .before .before .loop .s) (c .before .before .index .result) (c .before .lookup-nodes .result) (entry .pre .all-pairs) h (c .before .before .before .before .before .before .loop .inv .1 .0) (c .before .before .index .ensures) (c .before .lookup-nodes .ensures) in
+    (omega arith, (runs.total-step (a .widths .now) (c .before .before .before .before .before .before .loop .j) (c .before .before .before .before .before .before .loop .s) (c .before .before .index .result) h (c .before .before .before .before .before .before .loop .inv .1 .0) (c .before .before .index .ensures), counts.count-more f (c .before .before .before .before .before .before .loop .j) (c .plus .result) (c .before .before .before .before .before .before .loop .sum) (c .before .lookup-nodes .result) (c .plus .ensures) (c .before .before .before .before .before .before .loop .inv .1 .1) e))
+
+returns : tie.Need-returns Inv-loop μ-loop
+returns c =
+    let a = (c .before .before .before .before .before .before .before .args) in
+    let f : ℕ → Expr = lookupTreeOf (a .v) (lookupsOf (a .user .now) (a .widths .now) (a .pairs .now)) in
+    counts.count-all f (c .before .before .loop .sum) (c .before .before .loop .j) (a .v .lookups) (omega arith) (c .before .before .loop .inv .1 .1)
+
+pub lookups-nodes-spec : {M : Type 1} → statement M
+lookups-nodes-spec =
+    tie.close
+    (tie.spec
+    Inv-loop
+    μ-loop
+    loop-holds
+    mul-index
+    shared-slice-read-index
+    index-requires
+    mul-lookup-nodes
+    lookup-nodes-requires
+    plus-requires
+    add-s
+    add-j
+    loop-less
+    loop-again
+    returns)

@@ -1,0 +1,128 @@
+// How many nodes `compose` writes, counted beforehand from the sizes of the user's expressions; 2^60 where there are more.
+use crate::constraints::num_constraints;
+use expression_degree::size_of;
+use expression_nodes::index;
+use preprocessor::Numbers;
+ghost use mathlib.Core.Path.{_≡_};
+ghost use mathlib.Core.List.{List};
+ghost use Prim.Native.Nat.{ℕ, suc, _+_, _*_, _≤_, _<_, _^_, min};
+ghost use lib.ListN.{length, getD};
+ghost use Rattle.lists.specs.Lists.{column, All};
+ghost use Rattle.expression.specs.Expr.{Expr, distributePowers};
+ghost use Rattle.expression.specs.Nodes.{exprOf};
+ghost use Rattle.expression.specs.Flat.{size};
+ghost use Rattle.backend.specs.Circuit.{Circuit};
+ghost use Rattle.preprocessor.specs.Compose.{composedNodes};
+ghost use Rattle.preprocessor.specs.Pieces.{Limits, Words, IsNode, sideExprs, sideTree, lookupsOf, lookupTreeOf, PiecesOf, permutationNodes};
+ghost use Rattle.preprocessor.specs.Count.{nodesIn, listNodes, most};
+
+// The sum of two counts.
+fn plus(a: u64, b: u64) -> u64
+    ensures { λ r. ⌜ r ≡ min most (a + b) ⌝ }
+{
+    if 1152921504606846976 <= a {
+        return 1152921504606846976;
+    }
+    if 1152921504606846976 <= b {
+        return 1152921504606846976;
+    }
+    if 1152921504606846976 <= a + b {
+        return 1152921504606846976;
+    }
+    a + b
+}
+
+// What `distribute_powers` adds to n expressions.
+fn list_nodes(n: usize) -> u64
+    ensures { λ r. ⌜ r ≡ min most (listNodes n) ⌝ }
+{
+    if n == 0 {
+        return 1;
+    }
+    if n == 1 {
+        return 0;
+    }
+    plus(n as u64, 2)
+}
+
+// The nodes of w expressions, whose roots stand `step` words apart from word s on.
+fn roots_nodes(user: &[u64], roots: &[u64], s: usize, step: usize, w: usize) -> u64
+    requires { ⌜ All (IsNode (now user)) (now roots) × (s + w * step < length (now roots) + step) ⌝ }
+    ensures { λ r. ⌜ r ≡ min most (nodesIn (column (λ i. exprOf (now (user .entry)) (getD (now (roots .entry)) (s + i * step) 0)) w)) ⌝ }
+{
+    let mut sum: u64 = 0;
+    let mut i = 0;
+    while i < w {
+        let n = index(roots[s + i * step]);
+        sum = plus(sum, size_of(user, n));
+        i += 1;
+    }
+    sum
+}
+
+// The nodes of a lookup's side, without gamma.
+fn side_nodes(user: &[u64], pairs: &[u64], beta: usize, s: usize, w: usize) -> u64
+    requires { ⌜ All (IsNode (now user)) (now pairs) × (s + w * 2 ≤ length (now pairs) + 1) ⌝ }
+    ensures { λ r. ⌜ r ≡ min most (size (distributePowers (sideExprs (now (user .entry)) (now (pairs .entry)) s w) (Expr.challenge beta))) ⌝ }
+{
+    let x = roots_nodes(user, pairs, s, 2, w);
+    let y = list_nodes(w);
+    plus(x, y)
+}
+
+// The nodes of the constraint of the lookup whose first pair starts at word s.
+fn lookup_nodes(user: &[u64], pairs: &[u64], beta: usize, s: usize, w: usize) -> u64
+    requires { ⌜ All (IsNode (now user)) (now pairs) × (s + w * 2 ≤ length (now pairs)) ⌝ }
+    ensures { λ r. ⌜ r ≡ min most (size (sideTree (now (user .entry)) (now (pairs .entry)) beta s w) * 2 + size (sideTree (now (user .entry)) (now (pairs .entry)) beta (s + 1) w) * 2 + 8) ⌝ }
+{
+    let a = side_nodes(user, pairs, beta, s, w);
+    let b = side_nodes(user, pairs, beta, s + 1, w);
+    let x = plus(a, b);
+    let y = plus(x, x);
+    plus(y, 16)
+}
+
+// The nodes of the lookups' constraints.
+fn lookups_nodes(user: &[u64], roots: &[u64], widths: &[u64], pairs: &[u64], v: Numbers) -> u64
+    requires { ⌜ Words v (now user) (now roots) (now widths) (now pairs) ⌝ }
+    ensures { λ r. ⌜ r ≡ min most (nodesIn (column (lookupTreeOf v (lookupsOf (now (user .entry)) (now (widths .entry)) (now (pairs .entry)))) (v .lookups))) ⌝ }
+{
+    let mut sum: u64 = 0;
+    let mut s = 0;
+    let mut j = 0;
+    while j < v.lookups {
+        let w = index(widths[j]);
+        let x = lookup_nodes(user, pairs, v.user, s * 2, w);
+        sum = plus(sum, x);
+        s += w;
+        j += 1;
+    }
+    sum
+}
+
+// The nodes of the permutation's constraints.
+fn permutation_nodes(v: Numbers) -> u64
+    requires { ⌜ Limits v ⌝ }
+    ensures { λ r. ⌜ r ≡ permutationNodes v ⌝ }
+{
+    if v.copied == 0 {
+        return 0;
+    }
+    (6 + v.copied * 18 + v.parts * 4) as u64
+}
+
+// How many nodes `compose` writes.
+pub fn composed_nodes(user: &[u64], roots: &[u64], widths: &[u64], pairs: &[u64], v: Numbers) -> u64
+    requires { ⌜ Words v (now user) (now roots) (now widths) (now pairs) ⌝ }
+    ensures { λ r. ⌜ ((c : Circuit) (names : List ℕ) → PiecesOf c v names (now (user .entry)) (now (roots .entry)) (now (widths .entry)) (now (pairs .entry)) → r ≡ min most (composedNodes c)) ⌝ }
+{
+    let own = roots_nodes(user, roots, 0, 1, roots.len());
+    let lookups = lookups_nodes(user, roots, widths, pairs, v);
+    let permutation = permutation_nodes(v);
+    let n = num_constraints(roots.len(), v);
+    let x = plus(own, lookups);
+    let y = plus(x, permutation);
+    let z = plus(y, list_nodes(n));
+    let u = plus(z, (v.lookups + 2) as u64);
+    plus(u, list_nodes(v.lookups + 1))
+}

@@ -1,0 +1,104 @@
+// Rust `compose`: the composed expression, written as node words into a lent buffer.
+mod constraints;
+pub mod count;
+
+use crate::constraints::constraint_powers;
+use expression_write::operations::Listed;
+use expression_write::operations::item;
+use expression_write::operations::list_end;
+use expression_write::operations::list_head;
+use expression_write::operations::product;
+use expression_write::operations::query;
+use expression_write::push;
+use preprocessor::Numbers;
+ghost use mathlib.Core.Path.{_≡_};
+ghost use Prim.Native.Nat.{_+_, _-_, _*_, _≤_, _<_, _^_};
+ghost use Rattle.expression.specs.Expr.{Expr};
+ghost use Rattle.expression.specs.Flat.{size, sizes, extra};
+ghost use Rattle.expression.specs.Written.{mostWords, Written, WrittenList};
+ghost use Rattle.backend.specs.Circuit.{Circuit};
+ghost use Rattle.preprocessor.specs.Pieces.{handedTrees, zeroTree, outerTrees, composeTree, exprsFrom, Handed, PiecesOf, Composed};
+
+// The zero check: the constraints by powers of alpha, times EqXY(0).
+fn zero_check(
+    copied: &[u64],
+    user: &[u64],
+    roots: &[u64],
+    widths: &[u64],
+    pairs: &[u64],
+    out: &mut [u64],
+    from: usize,
+    v: Numbers,
+    at: usize,
+) -> usize
+    requires { ⌜ Handed v (now copied) (now user) (now roots) (now widths) (now pairs) × ((at + size (zeroTree v (handedTrees v (now copied) (now user) (now roots) (now widths) (now pairs)))) * 4 ≤ mostWords) ⌝ }
+    ensures { λ r. ⌜ Written from (zeroTree v (handedTrees v (now (copied .entry)) (now (user .entry)) (now (roots .entry)) (now (widths .entry)) (now (pairs .entry)))) at (now (out .entry)) (now (out .exit)) r ⌝ }
+{
+    let x = constraint_powers(copied, user, roots, widths, pairs, out, from, v, at);
+    let y = push(out, from, x, 4, 0, 0, 0);
+    product(out, from, x, y)
+}
+
+// The h queries from number i on, the zero check, the base, the Items.
+fn outer_items(
+    copied: &[u64],
+    user: &[u64],
+    roots: &[u64],
+    widths: &[u64],
+    pairs: &[u64],
+    out: &mut [u64],
+    from: usize,
+    v: Numbers,
+    i: usize,
+    at: usize,
+) -> Listed
+    requires { ⌜ Handed v (now copied) (now user) (now roots) (now widths) (now pairs) × ((i ≤ v .lookups) × ((at + sizes (exprsFrom (outerTrees v (handedTrees v (now copied) (now user) (now roots) (now widths) (now pairs))) i) + extra (exprsFrom (outerTrees v (handedTrees v (now copied) (now user) (now roots) (now widths) (now pairs))) i) + 2) * 4 ≤ mostWords)) ⌝ }
+    ensures { λ r. ⌜ WrittenList from (exprsFrom (outerTrees v (handedTrees v (now (copied .entry)) (now (user .entry)) (now (roots .entry)) (now (widths .entry)) (now (pairs .entry)))) i) (Expr.challenge (v .user + 2)) at (now (out .entry)) (now (out .exit)) (r .next) (r .base) ⌝ }
+{
+    if i < v.lookups {
+        let x = query(out, from, at, (v.polys + v.copied + v.lookups + i) as u64);
+        let l = outer_items(copied, user, roots, widths, pairs, out, from, v, i + 1, x);
+        let next = item(out, from, x, l.next);
+        return Listed { next, base: l.base };
+    }
+    let x = zero_check(copied, user, roots, widths, pairs, out, from, v, at);
+    list_end(out, from, x, v.user + 2)
+}
+
+// The composed expression from node 0 on.
+fn outer(
+    copied: &[u64],
+    user: &[u64],
+    roots: &[u64],
+    widths: &[u64],
+    pairs: &[u64],
+    out: &mut [u64],
+    from: usize,
+    v: Numbers,
+) -> usize
+    requires { ⌜ Handed v (now copied) (now user) (now roots) (now widths) (now pairs) × (size (composeTree v (handedTrees v (now copied) (now user) (now roots) (now widths) (now pairs))) * 4 ≤ mostWords) ⌝ }
+    ensures { λ r. ⌜ Written from (composeTree v (handedTrees v (now (copied .entry)) (now (user .entry)) (now (roots .entry)) (now (widths .entry)) (now (pairs .entry)))) 0 (now (out .entry)) (now (out .exit)) r ⌝ }
+{
+    if v.lookups == 0 {
+        return zero_check(copied, user, roots, widths, pairs, out, from, v, 0);
+    }
+    let l = outer_items(copied, user, roots, widths, pairs, out, from, v, 0, 0);
+    list_head(out, from, l)
+}
+
+// Rust `compose`: the node words of the composed expression into the first words of `out`; returns the number of nodes.
+pub fn compose(
+    copied: &[u64],
+    user: &[u64],
+    roots: &[u64],
+    widths: &[u64],
+    pairs: &[u64],
+    out: &mut [u64],
+    from: usize,
+    v: Numbers,
+) -> usize
+    requires { ⌜ Handed v (now copied) (now user) (now roots) (now widths) (now pairs) × (size (composeTree v (handedTrees v (now copied) (now user) (now roots) (now widths) (now pairs))) * 4 ≤ mostWords) ⌝ }
+    ensures { λ r. ⌜ ((c : Circuit) → PiecesOf c v (now (copied .entry)) (now (user .entry)) (now (roots .entry)) (now (widths .entry)) (now (pairs .entry)) → Composed from c (now (out .entry)) (now (out .exit)) r) ⌝ }
+{
+    outer(copied, user, roots, widths, pairs, out, from, v)
+}

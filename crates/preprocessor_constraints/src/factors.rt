@@ -1,0 +1,121 @@
+// The identity and permutation factors of the permutation constraints, and their products, written as node words into a lent buffer.
+use expression_write::operations::challenge;
+use expression_write::operations::product;
+use expression_write::operations::query;
+use expression_write::operations::sum;
+use expression_write::push;
+use preprocessor::Numbers;
+ghost use mathlib.Core.Path.{_≡_};
+ghost use Prim.Native.Nat.{_+_, _*_, _≤_, _<_};
+ghost use lib.IntN.{pos};
+ghost use lib.ListN.{length};
+ghost use Rattle.lists.specs.Lists.{column};
+ghost use Rattle.expression.specs.Expr.{Expr, productOf};
+ghost use Rattle.expression.specs.Written.{mostWords, Written};
+ghost use Rattle.preprocessor.specs.Pieces.{labelTree, identityTree, permutationTree, Limits};
+
+// beta * (label + id)
+fn beta_label(out: &mut [u64], from: usize, at: usize, user: u64, label: u64) -> usize
+    requires { ⌜ (at + 5) * 4 ≤ mostWords ⌝ }
+    ensures { λ r. ⌜ Written from (labelTree user label) at (now (out .entry)) (now (out .exit)) r ⌝ }
+{
+    let beta = challenge(out, from, at, user);
+    let x = push(out, from, beta, 1, 0, 0, label);
+    let id = push(out, from, x, 2, 0, 0, 0);
+    let s = sum(out, from, x, id);
+    product(out, from, beta, s)
+}
+
+// beta * poly
+fn beta_query(out: &mut [u64], from: usize, at: usize, user: u64, q: u64) -> usize
+    requires { ⌜ (at + 3) * 4 ≤ mostWords ⌝ }
+    ensures { λ r. ⌜ Written from (Expr.product (Expr.challenge user) (Expr.poly q (pos 0))) at (now (out .entry)) (now (out .exit)) r ⌝ }
+{
+    let beta = challenge(out, from, at, user);
+    let x = query(out, from, beta, q);
+    product(out, from, beta, x)
+}
+
+// poly + beta * id + gamma
+fn identity_factor(
+    copied: &[u64],
+    out: &mut [u64],
+    from: usize,
+    v: Numbers,
+    i: usize,
+    at: usize,
+) -> usize
+    requires { ⌜ Limits v × ((i < v .copied) × ((i < length (now copied)) × ((at + 9) * 4 ≤ mostWords))) ⌝ }
+    ensures { λ r. ⌜ Written from (identityTree v (now (copied .entry)) i) at (now (out .entry)) (now (out .exit)) r ⌝ }
+{
+    let poly = query(out, from, at, copied[i]);
+    let label = beta_label(out, from, poly, v.user as u64, (i * v.rows) as u64);
+    let s = sum(out, from, poly, label);
+    let gamma = challenge(out, from, s, (v.user + 1) as u64);
+    sum(out, from, s, gamma)
+}
+
+// poly + beta * permutation + gamma
+fn permutation_factor(
+    copied: &[u64],
+    out: &mut [u64],
+    from: usize,
+    v: Numbers,
+    i: usize,
+    at: usize,
+) -> usize
+    requires { ⌜ Limits v × ((i < v .copied) × ((i < length (now copied)) × ((at + 7) * 4 ≤ mostWords))) ⌝ }
+    ensures { λ r. ⌜ Written from (permutationTree v (now (copied .entry)) i) at (now (out .entry)) (now (out .exit)) r ⌝ }
+{
+    let poly = query(out, from, at, copied[i]);
+    let label = beta_query(out, from, poly, v.user as u64, (v.polys + i) as u64);
+    let s = sum(out, from, poly, label);
+    let gamma = challenge(out, from, s, (v.user + 1) as u64);
+    sum(out, from, s, gamma)
+}
+
+// The product of the identity factors of `count` copied columns, from the first on.
+pub fn identity_product(
+    copied: &[u64],
+    out: &mut [u64],
+    from: usize,
+    v: Numbers,
+    first: usize,
+    count: usize,
+    at: usize,
+) -> usize
+    requires { ⌜ Limits v × ((0 < count) × ((first + count ≤ v .copied) × ((v .copied ≤ length (now copied)) × ((at + count * 10) * 4 ≤ mostWords + 4)))) ⌝ }
+    ensures { λ r. ⌜ (r + 1 ≡ at + count * 10) × Written from (productOf (column (λ j. identityTree v (now (copied .entry)) (first + j)) count)) at (now (out .entry)) (now (out .exit)) r ⌝ }
+{
+    let mut x = identity_factor(copied, out, from, v, first, at);
+    let mut j = 1;
+    while j < count {
+        let y = identity_factor(copied, out, from, v, first + j, x);
+        x = product(out, from, x, y);
+        j += 1;
+    }
+    x
+}
+
+// The product of the permutation factors of `count` copied columns, from the first on.
+pub fn permutation_product(
+    copied: &[u64],
+    out: &mut [u64],
+    from: usize,
+    v: Numbers,
+    first: usize,
+    count: usize,
+    at: usize,
+) -> usize
+    requires { ⌜ Limits v × ((0 < count) × ((first + count ≤ v .copied) × ((v .copied ≤ length (now copied)) × ((at + count * 8) * 4 ≤ mostWords + 4)))) ⌝ }
+    ensures { λ r. ⌜ (r + 1 ≡ at + count * 8) × Written from (productOf (column (λ j. permutationTree v (now (copied .entry)) (first + j)) count)) at (now (out .entry)) (now (out .exit)) r ⌝ }
+{
+    let mut x = permutation_factor(copied, out, from, v, first, at);
+    let mut j = 1;
+    while j < count {
+        let y = permutation_factor(copied, out, from, v, first + j, x);
+        x = product(out, from, x, y);
+        j += 1;
+    }
+    x
+}

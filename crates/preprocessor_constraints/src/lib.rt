@@ -1,0 +1,4 @@
+// hyperplonk/preprocessor.rs: the permutation and lookup constraints, written as node words.
+mod factors;
+pub mod lookup;
+pub mod permutation;

@@ -1,0 +1,117 @@
+// Rust `permutation_constraints`: the start's constraint and each part's, written as node words into a lent buffer.
+use crate::factors::identity_product;
+use crate::factors::permutation_product;
+use expression_write::operations::negated;
+use expression_write::operations::product;
+use expression_write::operations::query;
+use expression_write::operations::sum;
+use expression_write::push;
+use preprocessor::Numbers;
+ghost use mathlib.Core.Path.{_≡_};
+ghost use Prim.Native.Nat.{_+_, _*_, _≤_, _<_};
+ghost use lib.IntN.{pos};
+ghost use lib.ListN.{length};
+ghost use Rattle.lists.specs.Lists.{column};
+ghost use Rattle.expression.specs.Expr.{Expr, productOf};
+ghost use Rattle.expression.specs.Written.{mostWords, Written};
+ghost use Rattle.preprocessor.specs.Pieces.{zAt, identityTree, permutationTree, nextTree, partOf, partTree, startTree, Limits};
+
+// "Next is the following part's z at that row; after the last part it is the first z with rotation 1."
+fn next_z(out: &mut [u64], from: usize, v: Numbers, i: usize, at: usize) -> usize
+    requires { ⌜ Limits v × ((i < 72) × ((at + 1) * 4 ≤ mostWords)) ⌝ }
+    ensures { λ r. ⌜ Written from (nextTree v i) at (now (out .entry)) (now (out .exit)) r ⌝ }
+{
+    let z = v.polys + v.copied + v.lookups * 2;
+    if i + 1 < v.parts {
+        return query(out, from, at, (z + (i + 1)) as u64);
+    }
+    push(out, from, at, 5, z as u64, 0, 2147483649)
+}
+
+// How many copied columns part i has.
+fn part_count(v: Numbers, i: usize) -> usize
+    requires { ⌜ Limits v × (i < v .parts) ⌝ }
+    ensures { λ r. ⌜ (r ≡ length (partOf v i)) × ((0 < r) × (i * v .part + r ≤ v .copied)) ⌝ }
+{
+    let left = v.copied - i * v.part;
+    if left <= v.part {
+        return left;
+    }
+    v.part
+}
+
+// z_lhs * product of identity factors
+fn z_identities(
+    copied: &[u64],
+    out: &mut [u64],
+    from: usize,
+    v: Numbers,
+    i: usize,
+    first: usize,
+    count: usize,
+    at: usize,
+) -> usize
+    requires { ⌜ Limits v × ((i < 72) × ((0 < count) × ((first + count ≤ v .copied) × ((v .copied ≤ length (now copied)) × ((at + count * 10 + 1) * 4 ≤ mostWords))))) ⌝ }
+    ensures { λ r. ⌜ (r ≡ at + count * 10 + 1) × Written from (Expr.product (Expr.poly (zAt v i) (pos 0)) (productOf (column (λ j. identityTree v (now (copied .entry)) (first + j)) count))) at (now (out .entry)) (now (out .exit)) r ⌝ }
+{
+    let z = query(
+        out,
+        from,
+        at,
+        (v.polys + v.copied + v.lookups * 2 + i) as u64,
+    );
+    let p = identity_product(copied, out, from, v, first, count, z);
+    product(out, from, z, p)
+}
+
+// z_rhs * product of permutation factors
+fn z_permutations(
+    copied: &[u64],
+    out: &mut [u64],
+    from: usize,
+    v: Numbers,
+    i: usize,
+    first: usize,
+    count: usize,
+    at: usize,
+) -> usize
+    requires { ⌜ Limits v × ((i < 72) × ((0 < count) × ((first + count ≤ v .copied) × ((v .copied ≤ length (now copied)) × ((at + count * 8 + 1) * 4 ≤ mostWords))))) ⌝ }
+    ensures { λ r. ⌜ (r ≡ at + count * 8 + 1) × Written from (Expr.product (nextTree v i) (productOf (column (λ j. permutationTree v (now (copied .entry)) (first + j)) count))) at (now (out .entry)) (now (out .exit)) r ⌝ }
+{
+    let z = next_z(out, from, v, i, at);
+    let p = permutation_product(copied, out, from, v, first, count, z);
+    product(out, from, z, p)
+}
+
+// The constraint of part i.
+pub fn part_constraint(
+    copied: &[u64],
+    out: &mut [u64],
+    from: usize,
+    v: Numbers,
+    i: usize,
+    at: usize,
+) -> usize
+    requires { ⌜ Limits v × ((i < v .parts) × ((v .copied ≤ length (now copied)) × ((at + length (partOf v i) * 18 + 4) * 4 ≤ mostWords))) ⌝ }
+    ensures { λ r. ⌜ Written from (partTree v (now (copied .entry)) i) at (now (out .entry)) (now (out .exit)) r ⌝ }
+{
+    let count = part_count(v, i);
+    let first = i * v.part;
+    let left = z_identities(copied, out, from, v, i, first, count, at);
+    let right = z_permutations(copied, out, from, v, i, first, count, left);
+    let n = negated(out, from, right);
+    sum(out, from, left, n)
+}
+
+// l_1 * (z_0 - one)
+pub fn start_constraint(out: &mut [u64], from: usize, v: Numbers, at: usize) -> usize
+    requires { ⌜ Limits v × ((at + 6) * 4 ≤ mostWords) ⌝ }
+    ensures { λ r. ⌜ Written from (startTree v) at (now (out .entry)) (now (out .exit)) r ⌝ }
+{
+    let l = push(out, from, at, 3, 0, 0, 2147483649);
+    let z = query(out, from, l, (v.polys + v.copied + v.lookups * 2) as u64);
+    let one = push(out, from, z, 1, 0, 0, 1);
+    let n = negated(out, from, one);
+    let s = sum(out, from, z, n);
+    product(out, from, l, s)
+}

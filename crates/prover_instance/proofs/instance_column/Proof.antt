@@ -1,0 +1,151 @@
+-- `instance_column` meets its contract: the values are put at their places, through the row order once. Assumes nothing.
+use borrow.Author.Needs.{needs}
+use mathlib.Core.Path.{_≡_, refl, sym, ap, ap₂, _∙_}
+use mathlib.Core.List.{List}
+use Prim.Native.Nat.{ℕ, suc, _+_, _-_, _*_, _%_, _^_, _≤_, _<_}
+use native.Mathlib.Nat.{zero-add}
+use native.Mathlib.Omega.{arith}
+use lib.ListN.{length, getD, take, drop, replicate, length-set}
+use native.Mathlib.Numerals.{add-one}
+use lib.Pow.{pow-lt}
+use Rattle.field.specs.Prime.{P}
+use Rattle.bh.specs.Rows.{rowAt, nextRow}
+use Rattle.bh.proofs.Order.{row-suc, row-next}
+use Rattle.bh.proofs.Iter.{iter-zero}
+use Rattle.lists.specs.Lists.{column, over}
+use Rattle.prover.proofs.Instance.{placed, place-start, place-more, place-end, part-length, part-get}
+use Rattle.prover_instance.proofs.instance_column.Statement.{statement}
+use Rattle.prover_instance.proofs.instance_column.Tie as tie
+use Rattle.prover_instance.proofs.instance_column.Reads as reads
+use Rattle.prover_instance.proofs.instance_column.Lts as lts
+use Rattle.bh.proofs.next.Reads as next-reads
+use Rattle.field.proofs.reduce_u64.Reads as reduce-u64-reads
+use Rattle.prover_instance.proofs.blank_column.clear.Reads as clear-reads
+use Rattle.prover_instance.proofs.blank_column.rows_of.Reads as rows-of-reads
+
+abbrev Inv-loop : tie.InvT-loop
+Inv-loop k instance from count columns₀ at row₀ t₀ columns row t =
+    (t ≤ count) × (length columns ≡ length columns₀) × (row ≡ rowAt k (suc t)) × (row < 2 ^ k)
+    × ((d : List ℕ) → at + 2 ^ k ≤ length d → columns₀ ≡ over d at (replicate (2 ^ k) 0)
+    → columns ≡ over d at (column (placed k (take count (drop from instance)) t) (2 ^ k)))
+
+abbrev μ-loop : tie.MeasureT-loop
+μ-loop k instance from count columns₀ at row₀ t₀ columns row t = count - t
+
+-- src/lib.rt:43:24
+rows-of-requires : tie.Need-rows-of-requires Inv-loop μ-loop
+rows-of-requires c κs = search needs
+
+-- src/lib.rt:43:5
+clear-requires : tie.Need-clear-requires Inv-loop μ-loop
+clear-requires c κs = rw (c .rows-of .ensures) (c .before .before .before .before .pre .4)
+
+-- src/lib.rt:46:5
+loop-holds : tie.Need-loop-holds Inv-loop μ-loop
+loop-holds c =
+    let s = c .before .before .before .before .before .before .before in
+    let k = s .args .k in (
+      omega arith,
+      refl,
+      sym (row-suc k 0 ∙ iter-zero (nextRow k) 1),
+      pow-lt {i = 0} {j = k} (s .pre .0),
+      λ d h e. place-start k (take (s .args .count) (drop (s .args .from) (s .args .instance .now))) d (s .args .at) _ e,
+    )
+
+-- src/lib.rt:47:56
+add-reduce-u64 : tie.Need-add-reduce-u64 Inv-loop μ-loop
+add-reduce-u64 c = omega (arith, c .before .before .before .before .before .before .before .before .before .pre, c .before .before .before .before .before .before .before .before .before .good, c .before .loop .inv .0, c .before .loop .inv .1, c .before .loop .inv .3, c .loop-test .taken, c .before .before .before .before .clear .kept .0)
+
+-- src/lib.rt:47:47
+mul-reduce-u64 : tie.Need-mul-reduce-u64 Inv-loop μ-loop
+mul-reduce-u64 c = omega (arith, c .before .before .before .before .before .before .before .before .before .pre, c .before .before .before .before .before .before .before .before .before .good, c .before .loop .inv .0, c .before .loop .inv .1, c .before .loop .inv .3, c .loop-test .taken, c .before .before .before .before .clear .kept .0)
+
+-- src/lib.rt:47:47
+shared-slice-read-reduce-u64 : tie.Need-shared-slice-read-reduce-u64 Inv-loop μ-loop
+shared-slice-read-reduce-u64 c = omega (arith, c .before .before .before .before .before .before .before .before .before .before .pre, c .before .before .before .before .before .before .before .before .before .before .good, c .before .before .loop .inv .0, c .before .before .loop .inv .1, c .before .before .loop .inv .3, c .before .loop-test .taken, c .before .before .before .before .before .clear .kept .0)
+
+-- src/lib.rt:47:29
+reduce-u64-requires : tie.Need-reduce-u64-requires Inv-loop μ-loop
+reduce-u64-requires c κs = search needs
+
+-- src/lib.rt:47:17
+add-columns : tie.Need-add-columns Inv-loop μ-loop
+add-columns c = omega (arith, c .before .before .before .before .before .before .before .before .before .before .before .pre, c .before .before .before .before .before .before .before .before .before .before .before .good, c .before .before .before .loop .inv .0, c .before .before .before .loop .inv .1, c .before .before .before .loop .inv .3, c .before .before .loop-test .taken, c .before .before .before .before .before .before .clear .kept .0)
+
+-- src/lib.rt:47:9
+mul-columns : tie.Need-mul-columns Inv-loop μ-loop
+mul-columns c = omega (arith, c .before .before .before .before .before .before .before .before .before .before .before .pre, c .before .before .before .before .before .before .before .before .before .before .before .good, c .before .before .before .loop .inv .0, c .before .before .before .loop .inv .1, c .before .before .before .loop .inv .3, c .before .before .loop-test .taken, c .before .before .before .before .before .before .clear .kept .0)
+
+-- src/lib.rt:47:9
+slice-write-columns : tie.Need-slice-write-columns Inv-loop μ-loop
+slice-write-columns c = omega (arith, c .before .before .before .before .before .before .before .before .before .before .before .pre, c .before .before .before .before .before .before .before .before .before .before .before .good, c .before .before .before .loop .inv .0, c .before .before .before .loop .inv .1, c .before .before .before .loop .inv .3, c .before .before .loop-test .taken, c .before .before .before .before .before .before .clear .kept .0)
+
+-- src/lib.rt:48:9
+next-requires : tie.Need-next-requires Inv-loop μ-loop
+next-requires c κs = (omega (arith, c .before .before .before .before .before .before .before .before .before .before .before .pre .1), c .before .before .before .loop .inv .3)
+
+-- src/lib.rt:49:9
+add-t : tie.Need-add-t Inv-loop μ-loop
+add-t c = omega (arith, c .before .before .before .before .before .before .before .before .before .before .before .before .pre, c .before .before .before .before .before .before .before .before .before .before .before .before .good, c .before .before .before .before .loop .inv .0, c .before .before .before .before .loop .inv .1, c .before .before .before .before .loop .inv .3, c .before .before .before .loop-test .taken, c .before .before .before .before .before .before .before .clear .kept .0)
+
+-- src/lib.rt:46:5
+loop-less : tie.Need-loop-less Inv-loop μ-loop
+loop-less c = search needs
+
+-- src/lib.rt:46:5
+loop-again : tie.Need-loop-again Inv-loop μ-loop
+loop-again c =
+    let s = c .before .before .before .before .before .before .before .before .before .before .before .before in
+    let a = s .args in
+    let k = a .k in
+    let l = c .before .before .before .before .loop in
+    let lt : l .t < a .count = c .before .before .before .loop-test .taken in
+    let len = part-length (a .instance .now) (a .from) (a .count) (s .pre .3) in (
+      omega arith,
+      simp length-set (l .inv .1),
+      c .next .ensures .0 ∙ ap (nextRow k) (l .inv .2) ∙ sym (row-next k (l .t)) ∙ ap (λ (x : ℕ). rowAt k (suc x)) (sym (add-one (l .t))),
+      c .next .ensures .1,
+      λ d h e.
+          place-more k (s .pre .0) (omega (arith, s .pre .1)) _ (l .t) d (a .at) (l .columns) (l .row) _ (l .inv .2)
+          (c .before .reduce-u64 .ensures
+          ∙ ap (λ (x : ℕ). x % P) (sym (part-get (a .instance .now) (a .from) (a .count) (s .pre .3) (l .t) lt)))
+          (omega arith) (omega (arith, len, lt)) (omega (arith, s .pre .2, lt)) (l .inv .4 d h e),
+    )
+
+-- src/lib.rt:39:1
+same-length : tie.Need-same-length Inv-loop μ-loop
+same-length c = c .before .loop .inv .1 ∙ c .before .before .before .before .clear .kept .0
+
+-- src/lib.rt:39:1
+returns : tie.Need-returns Inv-loop μ-loop
+returns c =
+    let s = c .before .before .before .before .before .before .before .before .before in
+    let a = s .args in
+    let l = c .before .loop in
+    let len = part-length (a .instance .now) (a .from) (a .count) (s .pre .3) in
+    l .inv .4 (a .columns .now) (s .pre .4)
+    (c .before .before .before .before .clear .ensures ∙ ap (λ (n : ℕ). over (a .columns .now) (a .at) (replicate n 0)) (c .before .before .before .before .before .rows-of .ensures))
+    ∙ place-end (a .k) (take (a .count) (drop (a .from) (a .instance .now))) (l .t) (omega (arith, len, c .loop-test .left)) (a .columns .now) (a .at)
+
+pub instance-column-spec : {M : Type 1} → statement M
+instance-column-spec =
+    tie.close
+    (tie.spec
+    Inv-loop
+    μ-loop
+    rows-of-requires
+    clear-requires
+    loop-holds
+    add-reduce-u64
+    mul-reduce-u64
+    shared-slice-read-reduce-u64
+    reduce-u64-requires
+    add-columns
+    mul-columns
+    slice-write-columns
+    next-requires
+    add-t
+    loop-less
+    loop-again
+    same-length
+    returns)

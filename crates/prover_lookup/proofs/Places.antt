@@ -1,0 +1,54 @@
+-- Where the columns of a lookup stand, and columns written one after another. Assumes nothing.
+use mathlib.Core.Path.{_≡_, sym, ap, ap₂, _∙_}
+use mathlib.Core.List.{List, _++_}
+use Prim.Native.Nat.{ℕ, suc, _+_, _*_, _≤_, _<_}
+use native.Mathlib.Nat.{suc-mul, mul-le-mul-right}
+use native.Mathlib.Numerals.{add-one}
+use native.Mathlib.Omega.{arith}
+use lib.ListN.{length}
+use Rattle.lists.specs.Lists.{column, concat, over}
+use Rattle.lists.proofs.Columns.{columns-suc, columns-length}
+use Rattle.lists.proofs.Over.{over-over}
+
+-- ---- numbers
+
+pub next-place : (j rows : ℕ) → (j + 1) * rows ≡ j * rows + rows
+next-place j rows = ap (λ (x : ℕ). x * rows) (add-one j) ∙ suc-mul j rows
+
+-- the table stands behind the input, and the next input behind the table
+pub table-place : (at j rows : ℕ) → at + (j * 2 + 1) * rows ≡ at + j * 2 * rows + rows
+table-place at j rows = omega (arith, next-place (j * 2) rows)
+
+pub next-input : (at j rows : ℕ) → at + (j + 1) * 2 * rows ≡ at + j * 2 * rows + rows + rows
+next-input at j rows =
+    let e : (j + 1) * 2 ≡ j * 2 + 1 + 1 = omega arith in
+    omega (arith, ap (λ (x : ℕ). x * rows) e, next-place (j * 2 + 1) rows, next-place (j * 2) rows)
+
+pub place-there : (n j rows : ℕ) → j < n → j * rows + rows ≤ n * rows
+place-there n j rows l =
+    let m : suc j * rows ≤ n * rows = mul-le-mul-right rows (omega arith) in
+    omega (arith, suc-mul j rows)
+
+pub pair-there : (n j rows : ℕ) → j < n → j * 2 * rows + rows + rows ≤ n * 2 * rows
+pair-there n j rows l =
+    let m : suc (suc (j * 2)) * rows ≤ n * 2 * rows = mul-le-mul-right rows (omega arith) in
+    omega (arith, suc-mul (suc (j * 2)) rows, suc-mul (j * 2) rows)
+
+-- ---- buffers
+
+-- a run behind the columns that stand from word `to` on
+module _ (d : List ℕ) (to rows : ℕ) (f : ℕ → ℕ → ℕ) (j p : ℕ) (at : p ≡ to + j * rows) (room : to + j * rows ≤ length d)
+    (cur e : List ℕ) (is : cur ≡ over d to (concat (column (λ j. column (f j) rows) j))) where
+  pub run-next : (s : List ℕ) → e ≡ over cur p s → e ≡ over d to (concat (column (λ j. column (f j) rows) j) ++ s)
+  run-next s put =
+      let len = columns-length rows f j in
+      let q : p ≡ to + length (concat (column (λ j. column (f j) rows) j)) = omega arith in
+      put
+      ∙ ap₂ (λ (x : List ℕ) (w : ℕ). over x w s) is q
+      ∙ over-over d to (concat (column (λ j. column (f j) rows) j)) s (omega arith)
+
+  pub column-next : e ≡ over cur p (column (f j) rows) → e ≡ over d to (concat (column (λ j. column (f j) rows) (j + 1)))
+  column-next put =
+      run-next (column (f j) rows) put
+      ∙ ap (over d to) (sym (columns-suc rows f j))
+      ∙ ap (λ (i : ℕ). over d to (concat (column (λ j. column (f j) rows) i))) (sym (add-one j))

@@ -1,0 +1,97 @@
+-- `lookup_h_polys` meets its contract: after j turns h of the first j lookups stands there. Assumes nothing.
+use borrow.Author.Needs.{needs}
+use Prim.Native.Nat.{_+_, _-_, _≤_}
+use native.Mathlib.Omega.{arith}
+use lib.ListN.{length}
+use Rattle.field.specs.Element.{elem}
+use Rattle.prover_lookup.proofs.Hs.{HsUpto, hs-start, hs-end, hs-more, input-there, counts-there, h-there, h-behind}
+use Rattle.prover_lookup.proofs.lookup_h_polys.Statement.{statement}
+use Rattle.prover_lookup.proofs.lookup_h_polys.Tie as tie
+
+abbrev Inv-loop : tie.InvT-loop
+Inv-loop columns₀ lookups compressed m h gamma rows input₀ counts₀ to₀ j₀ columns input counts to j =
+    HsUpto columns₀ lookups compressed m h (elem gamma) rows columns input counts to j
+
+abbrev μ-loop : tie.MeasureT-loop
+μ-loop columns₀ lookups compressed m h gamma rows input₀ counts₀ to₀ j₀ columns input counts to j =
+    lookups - j
+
+-- the places of the next lookup
+there : (c : tie.In-loop Inv-loop μ-loop)
+    → let s = c .before .before .before in
+    let l = c .before .loop in
+    (l .input + s .args .rows + s .args .rows ≤ s .args .h) × (l .counts + s .args .rows ≤ s .args .h)
+    × (l .to + s .args .rows ≤ length (s .args .columns .now))
+    × (s .args .h ≤ l .to)
+there c =
+    let s = c .before .before .before in
+    let l = c .before .loop in (
+      input-there _ _ _ _ _ _ _ (s .pre .0) (s .pre .1) (s .pre .2) _ _ _ _ _ (l .inv) (c .loop-test .taken),
+      counts-there _ _ _ _ _ _ _ (s .pre .0) (s .pre .1) (s .pre .2) _ _ _ _ _ (l .inv) (c .loop-test .taken),
+      h-there _ _ _ _ _ _ _ (s .pre .0) (s .pre .1) (s .pre .2) _ _ _ _ _ (l .inv) (c .loop-test .taken),
+      h-behind _ _ _ _ _ _ _ (s .pre .0) (s .pre .1) (s .pre .2) _ _ _ _ _ (l .inv) (c .loop-test .taken),
+    )
+
+loop-holds : tie.Need-loop-holds Inv-loop μ-loop
+loop-holds c =
+    let a = c .before .args in
+    hs-start (a .columns .now) (a .lookups) (a .compressed) (a .m) (a .h) (elem (a .gamma)) (a .rows)
+
+add-table : tie.Need-add-table Inv-loop μ-loop
+add-table c = omega (arith, there c .0, c .before .before .before .fits .h)
+
+lookup-h-poly-requires : tie.Need-lookup-h-poly-requires Inv-loop μ-loop
+lookup-h-poly-requires c κs =
+    let t = there (c .before) in (
+      omega (arith, t .0, t .3),
+      omega (arith, t .0, t .3),
+      omega (arith, t .1, t .3),
+      omega (arith, t .2, c .before .before .loop .inv .size),
+    )
+
+add-input : tie.Need-add-input Inv-loop μ-loop
+add-input c = omega (arith, there (c .before .before .before .before) .0, c .before .before .before .before .before .before .before .fits .h)
+
+add-counts : tie.Need-add-counts Inv-loop μ-loop
+add-counts c = omega (arith, there (c .before .before .before .before) .1, c .before .before .before .before .before .before .before .fits .h)
+
+add-to : tie.Need-add-to Inv-loop μ-loop
+add-to c = omega (arith, there (c .before .before .before .before) .2, c .before .before .before .before .before .before .before .good)
+
+add-j : tie.Need-add-j Inv-loop μ-loop
+add-j c = search needs
+
+loop-less : tie.Need-loop-less Inv-loop μ-loop
+loop-less c = search needs
+
+loop-again : tie.Need-loop-again Inv-loop μ-loop
+loop-again c =
+    let s = c .before .before .before .before .before .before .before in
+    hs-more _ _ _ _ _ _ _ (s .pre .0) (s .pre .1) (s .pre .2) _ _ _ _ _ (c .before .before .before .before .before .loop .inv)
+    (c .before .before .before .before .loop-test .taken) _ (c .before .before .lookup-h-poly .ensures)
+
+same-length : tie.Need-same-length Inv-loop μ-loop
+same-length c = c .before .loop .inv .size
+
+returns : tie.Need-returns Inv-loop μ-loop
+returns c =
+    let s = c .before .before .before in
+    hs-end _ _ _ _ _ _ _ (s .pre .0) (s .pre .1) (s .pre .2) _ _ _ _ _ (c .before .loop .inv) (c .loop-test .left)
+
+pub lookup-h-polys-spec : {M : Type 1} → statement M
+lookup-h-polys-spec =
+    tie.close
+    (tie.spec
+    Inv-loop
+    μ-loop
+    loop-holds
+    add-table
+    lookup-h-poly-requires
+    add-input
+    add-counts
+    add-to
+    add-j
+    loop-less
+    loop-again
+    same-length
+    returns)
