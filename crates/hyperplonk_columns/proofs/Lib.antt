@@ -1,3 +1,3 @@
 pub mod Fronts
 pub mod Columns
-pub mod Stages
+pub mod Accepted

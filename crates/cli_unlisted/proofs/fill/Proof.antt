@@ -3,7 +3,7 @@ use mathlib.Core.Path.{refl}
 use lib.ListN.{length}
 use borrow.Author.Needs.{needs}
 use Rattle.backend.specs.Circuit.{circuitOf, copied}
-use Rattle.hyperplonk_columns.proofs.Stages.{instance-asked, compressed-asked}
+use Rattle.hyperplonk_columns.proofs.Accepted.{instance-asked, compressed-asked}
 use Rattle.cli_unlisted.proofs.fill.Statement.{statement}
 use Rattle.cli_unlisted.proofs.fill.Tie as tie
 

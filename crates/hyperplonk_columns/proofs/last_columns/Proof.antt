@@ -3,7 +3,7 @@ use borrow.Author.Needs.{needs}
 use mathlib.Core.Path.{_∙_, refl}
 use native.Mathlib.Omega.{arith}
 use lib.ListN.{length}
-use Rattle.hyperplonk_columns.proofs.Stages.{user-few, user-is, hs-asked, hs-written, z-asked, last-end}
+use Rattle.hyperplonk_columns.proofs.Accepted.{user-few, user-is, hs-asked, hs-written, z-asked, last-end}
 use Rattle.hyperplonk_columns.proofs.last_columns.Statement.{statement}
 use Rattle.hyperplonk_columns.proofs.last_columns.Tie as tie
 

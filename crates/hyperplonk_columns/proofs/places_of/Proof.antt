@@ -4,7 +4,7 @@ use Prim.Native.Nat.{_+_, _*_}
 use lib.ListN.{getD}
 use Rattle.hyperplonk_prepare.proofs.Accepted.{laid-of}
 use Rattle.hyperplonk_prepare.proofs.Computed.{columns-low}
-use Rattle.hyperplonk_columns.proofs.Stages.{words-fit, places-from}
+use Rattle.hyperplonk_columns.proofs.Accepted.{words-fit, places-from}
 use Rattle.hyperplonk_columns.proofs.places_of.Statement.{statement}
 use Rattle.hyperplonk_columns.proofs.places_of.Tie as tie
 

@@ -1,7 +1,7 @@
 -- `uncounted_columns` meets its contract. Assumes nothing.
 use mathlib.Core.Path.{_∙_}
 use lib.ListN.{length}
-use Rattle.hyperplonk_columns.proofs.Stages.{instance-asked, permutation-asked, compressed-asked, uncounted-end}
+use Rattle.hyperplonk_columns.proofs.Accepted.{instance-asked, permutation-asked, compressed-asked, uncounted-end}
 use Rattle.hyperplonk_columns.proofs.uncounted_columns.Statement.{statement}
 use Rattle.hyperplonk_columns.proofs.uncounted_columns.Tie as tie
 

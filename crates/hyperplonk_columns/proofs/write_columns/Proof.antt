@@ -3,7 +3,7 @@ use borrow.Author.Tests.{not-true, not-false}
 use mathlib.Core.Path.{_∙_}
 use native.Mathlib.Omega.{arith}
 use lib.ListN.{length}
-use Rattle.hyperplonk_columns.proofs.Stages.{exact-challenges, counts-asked, answer-is, counts-written, counts-behind, all-end, none-end, answered-yes, answered-no}
+use Rattle.hyperplonk_columns.proofs.Accepted.{exact-challenges, counts-asked, answer-is, counts-written, counts-behind, all-end, none-end, answered-yes, answered-no}
 use Rattle.hyperplonk_columns.proofs.write_columns.Statement.{statement}
 use Rattle.hyperplonk_columns.proofs.write_columns.Tie as tie
 
