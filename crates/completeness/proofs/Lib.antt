@@ -11,6 +11,8 @@ pub mod DemandThreeOf
 pub mod Asked
 pub mod RowSumReads
 pub mod DemandThree
+pub mod Called
+pub mod Whole
 pub mod Habock
 pub mod Plonk
 pub mod Permuted

@@ -1,18 +1,10 @@
 // The building call and the row sum of what it wrote, as one call.
 use hyperplonk_build::build;
 use hyperplonk_row_sum::row_sum;
+use hyperplonk_spec::Summed;
 ghost use mathlib.Core.Path.{_≡_};
-ghost use Rattle.hyperplonk_build_and_sum.specs.Call.{buildAndSumOf};
-ghost use Rattle.hyperplonk_build_and_sum.specs.Demand.{DemandThreeWhole};
-
-// What the call returns: the building call's number and sizes, and 0, if it was refused; else the row sum's number and sum, and those sizes.
-pub struct Summed {
-    pub number: u64,
-    pub column_words: usize,
-    pub nodes: usize,
-    pub z_columns: usize,
-    pub sum: u64,
-}
+ghost use Rattle.hyperplonk_spec.specs.BuildAndSum.{buildAndSumOf};
+ghost use Rattle.completeness.specs.DemandWhole.{DemandThreeWhole};
 
 // Builds with all challenges but the last, α, and then sums what was written over the rows, with all challenges and y. What it returns and
 // leaves is one definition's, for any words and buffers; and demand 3 holds of it.

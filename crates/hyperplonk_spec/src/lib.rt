@@ -13,3 +13,12 @@ pub struct RowSum {
     pub number: u64,
     pub sum: u64,
 }
+
+// What building and summing as one call returns: the building call's number and sizes, and 0, if it was refused; else the row sum's number and sum, and those sizes.
+pub struct Summed {
+    pub number: u64,
+    pub column_words: usize,
+    pub nodes: usize,
+    pub z_columns: usize,
+    pub sum: u64,
+}

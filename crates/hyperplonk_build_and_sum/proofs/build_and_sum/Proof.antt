@@ -5,8 +5,8 @@ use native.Mathlib.Omega.{arith}
 use lib.ListN.{take}
 use borrow.Author.Needs.{needs}
 use Rattle.hyperplonk_spec.specs.Build.{Output}
-use Rattle.hyperplonk_build_and_sum.proofs.Called.{built-is, room, refused-left, summed-code}
-use Rattle.hyperplonk_build_and_sum.proofs.Whole.{both}
+use Rattle.completeness.proofs.Called.{built-is, room, refused-left, summed-code}
+use Rattle.completeness.proofs.Whole.{both}
 use Rattle.hyperplonk_build_and_sum.proofs.build_and_sum.Statement.{statement}
 use Rattle.hyperplonk_build_and_sum.proofs.build_and_sum.Tie as tie
 

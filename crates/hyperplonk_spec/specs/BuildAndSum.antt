@@ -4,11 +4,11 @@ use mathlib.Core.List.{List}
 use Prim.Native.Nat.{ℕ, _-_, _*_}
 use lib.ListN.{length, getD, take}
 use lib.Dec.{eqb}
 use Rattle.hyperplonk_spec.specs.Build.{Output, buildOf}
 use Rattle.hyperplonk_spec.specs.RowSum.{rowSumOf}
 use Rattle.hyperplonk_spec.specs.declared.Built.{Built}
 use Rattle.hyperplonk_spec.specs.declared.RowSum.{RowSum}
-use Rattle.hyperplonk_build_and_sum.specs.declared.Summed.{Summed}
+use Rattle.hyperplonk_spec.specs.declared.Summed.{Summed}
 
 -- the challenges are the row sum's, "challenges with α": α is the last, and those before it are the build's, "the user's, then β, γ"
 unfoldable pub beforeAlpha : List ℕ → List ℕ

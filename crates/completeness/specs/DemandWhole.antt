@@ -26,7 +26,7 @@ use Rattle.hyperplonk_spec.specs.Meaning.{
   NoZeroTable,
   NoZeroFactor,
 }
-use Rattle.hyperplonk_build_and_sum.specs.Call.{beforeAlpha, alphaOf, Left}
+use Rattle.hyperplonk_spec.specs.BuildAndSum.{beforeAlpha, alphaOf, Left}
 
 -- a call that was lent these words and buffers, and what it returned and left
 module _ (ws instances witness challenges y columns nodes : List ℕ) (left : Left) where

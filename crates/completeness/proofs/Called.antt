@@ -19,7 +19,7 @@ use Rattle.hyperplonk_spec.specs.Build.{Output, logOf, wordsOf, checkBuild, mad
 use Rattle.hyperplonk_spec.specs.RowSum.{rowSumOf}
 use Rattle.hyperplonk_spec.specs.declared.RowSum.{RowSum}
 use Rattle.hyperplonk_spec.proofs.Building.{columns-length, refused-by, fifteen-by, built-by}
-use Rattle.hyperplonk_build_and_sum.specs.Call.{beforeAlpha, alphaOf, Left, sized, sumOfBuilt, buildAndSumOf}
+use Rattle.hyperplonk_spec.specs.BuildAndSum.{beforeAlpha, alphaOf, Left, sized, sumOfBuilt, buildAndSumOf}
 
 -- the challenges are those before α, and α
 pub with-alpha : (challenges : List ℕ) → 0 < length challenges → challenges ≡ beforeAlpha challenges ++ (alphaOf challenges ∷ [])

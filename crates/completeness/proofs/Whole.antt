@@ -21,11 +21,11 @@ use Rattle.hyperplonk_spec.specs.declared.Built.{Built}
 use Rattle.hyperplonk_spec.specs.declared.RowSum.{RowSum}
 use Rattle.hyperplonk_spec.specs.Meaning.{Premises}
 use Rattle.hyperplonk_spec.specs.Demand.{Succeeds, Demand3}
 use Rattle.completeness.proofs.Asked.{Lending, numbered, lending}
 use Rattle.completeness.proofs.DemandThree.{demand-three-at}
-use Rattle.hyperplonk_build_and_sum.specs.Call.{beforeAlpha, alphaOf, Left, sized, buildAndSumOf}
-use Rattle.hyperplonk_build_and_sum.specs.Demand.{Concluded, Demanded, DemandThreeWhole}
-use Rattle.hyperplonk_build_and_sum.proofs.Called.{with-alpha, refused-left, summed-left}
+use Rattle.hyperplonk_spec.specs.BuildAndSum.{beforeAlpha, alphaOf, Left, sized, buildAndSumOf}
+use Rattle.completeness.specs.DemandWhole.{Concluded, Demanded, DemandThreeWhole}
+use Rattle.completeness.proofs.Called.{with-alpha, refused-left, summed-left}
 
 -- where questions 1 to 11 are yes, the row sum gives no 15
 module _ (ws witness columns nodes challenges y : List ℕ) (accepted : firstNo circuitQuestions ws ≡ 0) where

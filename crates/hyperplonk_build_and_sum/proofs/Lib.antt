@@ -1,2 +1,0 @@
-pub mod Called
-pub mod Whole
