@@ -2,7 +2,7 @@
 pub mod blank_column;
 
 use crate::blank_column::clear;
-use crate::blank_column::rows_of;
+use bh::rows_of;
 ghost use mathlib.Core.Path.{_≡_};
 ghost use mathlib.Core.List.{map};
 ghost use Prim.Native.Nat.{ℕ, _+_, _*_, _^_, _<_, _≤_};

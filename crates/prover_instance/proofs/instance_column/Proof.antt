@@ -21,7 +21,7 @@ use Rattle.prover_instance.proofs.instance_column.Lts as lts
 use Rattle.bh.proofs.next.Reads as next-reads
 use Rattle.field.proofs.reduce_u64.Reads as reduce-u64-reads
 use Rattle.prover_instance.proofs.blank_column.clear.Reads as clear-reads
-use Rattle.prover_instance.proofs.blank_column.rows_of.Reads as rows-of-reads
+use Rattle.bh.proofs.rows_of.Reads as rows-of-reads
 
 abbrev Inv-loop : tie.InvT-loop
 Inv-loop k instance from count columns₀ at row₀ t₀ columns row t =

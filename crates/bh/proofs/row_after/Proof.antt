@@ -1,11 +1,11 @@
 -- `row_after` meets its contract. Assumes nothing.
 use mathlib.Core.Path.{ap, _∙_}
 use native.Mathlib.Omega.{arith}
 use Rattle.bh.specs.Rows.{nextRow}
 use Rattle.bh.proofs.Order.{row-lt}
-use Rattle.prover.proofs.Rows.{row-first, row-on, one-row}
-use Rattle.prover_compressed.proofs.row_after.Statement.{statement}
-use Rattle.prover_compressed.proofs.row_after.Tie as tie
+use Rattle.bh.proofs.Rows.{row-first, row-on, one-row}
+use Rattle.bh.proofs.row_after.Statement.{statement}
+use Rattle.bh.proofs.row_after.Tie as tie
 
 returns : tie.Need-returns
 returns c =

@@ -33,7 +33,7 @@ pub record OfBuild (ws witness columns nodes challenges y : List ℕ) : Type 0 w
   pub y-length : length y ≡ circuitOf ws .k
   pub y-small : Each 0 y (λ v. v < P)
 
-pub record Told (ws witness columns nodes challenges y : List ℕ) (r : RowSum) : Type 0 where
+pub record RowSumClaim (ws witness columns nodes challenges y : List ℕ) (r : RowSum) : Type 0 where
   -- "On any log, when the row sum's number is 0, its sum is this sum for the words it was lent": over all rows, the value that
   -- `compose` gives
   pub summed : r .number ≡ 0

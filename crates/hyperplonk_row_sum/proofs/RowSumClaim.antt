@@ -18,9 +18,9 @@ use Rattle.prover.specs.Lookup.{sumRows}
 use Rattle.hyperplonk_spec.specs.RowSum.{q16, LentSum, sumQuestions, checkSum, lentEnvironment, sumOf, rowSumOf}
 use Rattle.hyperplonk_spec.specs.declared.RowSum.{RowSum}
 use Rattle.hyperplonk_spec.proofs.ReadsBack.{reads-back}
-use Rattle.completeness.proofs.Asked.{numbered}
+use Rattle.backend.proofs.Passed.{numbered}
 use Rattle.completeness.proofs.DemandThree.{demand-three}
-use Rattle.hyperplonk_row_sum.specs.Told.{Told}
+use Rattle.hyperplonk_spec.specs.RowSumClaim.{RowSumClaim}
 use Rattle.hyperplonk_row_sum.proofs.Sixteen.{sixteen-nodes}
 use Rattle.hyperplonk_row_sum.proofs.Answer.{by-number}
 
@@ -70,8 +70,8 @@ module _ (ws witness columns nodes challenges y : List ℕ) where
       ∙ ap (λ (xs : List ℕ). rowSumOf ws witness cs' xs vs y) q
       ∙ ap (λ (xs : List ℕ). rowSumOf ws witness cs' ns' xs y) r
 
-  pub told : (r : RowSum) → r ≡ answer → Told ws witness columns nodes challenges y r
-  told r e =
+  pub claimed : (r : RowSum) → r ≡ answer → RowSumClaim ws witness columns nodes challenges y r
+  claimed r e =
       record {
         summed = λ z.
             let n : number ≡ 0 = sym number-is ∙ sym (ap (λ (a : RowSum). a .number) e) ∙ z in
@@ -85,5 +85,5 @@ module _ (ws witness columns nodes challenges y : List ℕ) where
       }
 
   -- both of the answer's contracts
-  pub both : (r : RowSum) → r ≡ answer → (r ≡ answer) × Told ws witness columns nodes challenges y r
-  both r e = (e, told r e)
+  pub both : (r : RowSum) → r ≡ answer → (r ≡ answer) × RowSumClaim ws witness columns nodes challenges y r
+  both r e = (e, claimed r e)
