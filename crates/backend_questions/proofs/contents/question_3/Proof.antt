@@ -1,48 +1,35 @@
 use Rattle.backend.proofs.Sections.{counts-in}
 use borrow.Author.Needs.{needs}
-use Rattle.backend_sections.proofs.contents.question_3.Statement.{statement}
-use Rattle.backend_sections.proofs.contents.question_3.Tie as tie
-use Rattle.backend_sections.proofs.contents.question_3.Reads as reads
-use Rattle.backend_sections.proofs.contents.question_3.Lts as lts
-use Rattle.backend_sections.proofs.contents.word.Reads as word-reads
+use Rattle.backend_questions.proofs.contents.question_3.Statement.{statement}
+use Rattle.backend_questions.proofs.contents.question_3.Tie as tie
 
--- src/contents.rt:55:9
 word-requires : tie.Need-word-requires
 word-requires c κs = search needs
 
--- src/contents.rt:56:9
 word-requires-2 : tie.Need-word-requires-2
 word-requires-2 c κs = search needs
 
--- src/contents.rt:57:9
 word-requires-3 : tie.Need-word-requires-3
 word-requires-3 c κs = search needs
 
--- src/contents.rt:58:9
 word-requires-4 : tie.Need-word-requires-4
 word-requires-4 c κs = search needs
 
--- src/contents.rt:59:9
 word-requires-5 : tie.Need-word-requires-5
 word-requires-5 c κs = search needs
 
--- src/contents.rt:60:9
 word-requires-6 : tie.Need-word-requires-6
 word-requires-6 c κs = search needs
 
--- src/contents.rt:61:9
 word-requires-7 : tie.Need-word-requires-7
 word-requires-7 c κs = search needs
 
--- src/contents.rt:62:9
 word-requires-8 : tie.Need-word-requires-8
 word-requires-8 c κs = search needs
 
--- src/contents.rt:63:9
 word-requires-9 : tie.Need-word-requires-9
 word-requires-9 c κs = search needs
 
--- src/contents.rt:52:1
 returns : tie.Need-returns
 returns c = counts-in _ _ _ _ _ _ _ _ _ _ (c .before .before .before .before .before .before .before .before .word .ensures) (c .before .before .before .before .before .before .before .word2 .ensures) (c .before .before .before .before .before .before .word3 .ensures) (c .before .before .before .before .before .word4 .ensures) (c .before .before .before .before .word5 .ensures) (c .before .before .before .word6 .ensures) (c .before .before .word7 .ensures) (c .before .word8 .ensures) (c .word9 .ensures)
 

@@ -2,12 +2,8 @@ use borrow.Author.Needs.{needs}
 use native.Mathlib.Omega.{arith}
 use Prim.Native.Nat.{_-_}
 use Rattle.backend.proofs.Sections.{Following, following-none, too-short, elsewhere, overrun, following-more, followed}
-use Rattle.backend_sections.proofs.contents.question_4.Statement.{statement}
-use Rattle.backend_sections.proofs.contents.question_4.Tie as tie
-use Rattle.backend_sections.proofs.contents.question_4.Reads as reads
-use Rattle.backend_sections.proofs.contents.question_4.Lts as lts
-use Rattle.backend_sections.proofs.contents.word.Reads as word-reads
-use Rattle.backend_sections.proofs.contents.words_in.Reads as words-in-reads
+use Rattle.backend_questions.proofs.contents.question_4.Statement.{statement}
+use Rattle.backend_questions.proofs.contents.question_4.Tie as tie
 
 abbrev Inv-loop : tie.InvT-loop
 Inv-loop circuit k len at₀ s₀ at s = Following circuit at s
@@ -15,79 +11,60 @@ Inv-loop circuit k len at₀ s₀ at s = Following circuit at s
 abbrev μ-loop : tie.MeasureT-loop
 μ-loop circuit k len at₀ s₀ at s = 9 - s
 
--- src/contents.rt:111:9
 word-requires : tie.Need-word-requires Inv-loop μ-loop
 word-requires c κs = tt
 
--- src/contents.rt:115:9
 returns : tie.Need-returns Inv-loop μ-loop
 returns c = too-short _ (c .if1 .taken)
 
--- src/contents.rt:118:5
 loop-holds : tie.Need-loop-holds Inv-loop μ-loop
 loop-holds c = following-none _ (c .if1 .left)
 
--- src/contents.rt:119:39
 mul-word : tie.Need-mul-word Inv-loop μ-loop
 mul-word c = omega arith
 
--- src/contents.rt:119:35
 add-word : tie.Need-add-word Inv-loop μ-loop
 add-word c = omega arith
 
--- src/contents.rt:119:13
 word-requires-2 : tie.Need-word-requires-2 Inv-loop μ-loop
 word-requires-2 c κs = tt
 
--- src/contents.rt:120:39
 mul-word-2 : tie.Need-mul-word-2 Inv-loop μ-loop
 mul-word-2 c = omega arith
 
--- src/contents.rt:120:35
 add-word-2 : tie.Need-add-word-2 Inv-loop μ-loop
 add-word-2 c = omega arith
 
--- src/contents.rt:120:13
 word-requires-3 : tie.Need-word-requires-3 Inv-loop μ-loop
 word-requires-3 c κs = tt
 
--- src/contents.rt:121:43
 sub-words-in : tie.Need-sub-words-in Inv-loop μ-loop
 sub-words-in c = omega arith
 
--- src/contents.rt:121:13
 words-in-requires : tie.Need-words-in-requires Inv-loop μ-loop
 words-in-requires c κs = omega arith
 
--- src/contents.rt:123:13
 returns-2 : tie.Need-returns-2 Inv-loop μ-loop
 returns-2 c = elsewhere (c .before .before .before .before .before .before .before .before .before .args .circuit .now) (c .before .before .before .before .before .loop .at) (c .before .before .before .before .before .loop .s) _ _ _ _ (c .before .before .before .before .before .loop .inv) (c .before .before .before .before .loop-test .taken) (c .before .before .before .before .before .before .before .word .ensures) (c .before .before .before .word2 .ensures) (c .before .before .word3 .ensures) (c .before .words-in .ensures) (c .if2 .taken)
 
--- src/contents.rt:125:12
 sub-if3 : tie.Need-sub-if3 Inv-loop μ-loop
 sub-if3 c = omega arith
 
--- src/contents.rt:126:13
 returns-3 : tie.Need-returns-3 Inv-loop μ-loop
 returns-3 c = overrun (c .before .before .before .before .before .before .before .before .before .before .args .circuit .now) (c .before .before .before .before .before .before .loop .at) (c .before .before .before .before .before .before .loop .s) _ _ _ _ (c .before .before .before .before .before .before .loop .inv) (c .before .before .before .before .before .loop-test .taken) (c .before .before .before .before .before .before .before .before .word .ensures) (c .before .before .before .before .word2 .ensures) (c .before .before .before .word3 .ensures) (c .before .before .words-in .ensures) (c .if3 .taken)
 
--- src/contents.rt:128:9
 add-at : tie.Need-add-at Inv-loop μ-loop
 add-at c = omega arith
 
--- src/contents.rt:129:9
 add-s : tie.Need-add-s Inv-loop μ-loop
 add-s c = omega arith
 
--- src/contents.rt:118:5
 loop-less : tie.Need-loop-less Inv-loop μ-loop
 loop-less c = omega arith
 
--- src/contents.rt:118:5
 loop-again : tie.Need-loop-again Inv-loop μ-loop
 loop-again c = following-more (c .before .before .before .before .before .before .before .before .before .before .args .circuit .now) (c .before .before .before .before .before .before .loop .at) (c .before .before .before .before .before .before .loop .s) _ _ _ _ (c .before .before .before .before .before .before .loop .inv) (c .before .before .before .before .before .loop-test .taken) (c .before .before .before .before .before .before .before .before .word .ensures) (c .before .before .before .before .word2 .ensures) (c .before .before .before .word3 .ensures) (c .before .before .words-in .ensures) (c .before .if2 .left) (c .if3 .left)
 
--- src/contents.rt:108:1
 returns-4 : tie.Need-returns-4 Inv-loop μ-loop
 returns-4 c = followed _ _ _ (c .before .loop .inv) (c .loop-test .left)
 

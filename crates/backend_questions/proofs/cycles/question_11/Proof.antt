@@ -2,8 +2,8 @@
 use Rattle.backend.proofs.Answers.{cells-enough, eleven}
 use Rattle.backend_questions.proofs.nodes.Few.{few-cells}
 use borrow.Author.Needs.{needs}
-use Rattle.backend_questions.proofs.nodes.question_11.Statement.{statement}
-use Rattle.backend_questions.proofs.nodes.question_11.Tie as tie
+use Rattle.backend_questions.proofs.cycles.question_11.Statement.{statement}
+use Rattle.backend_questions.proofs.cycles.question_11.Tie as tie
 
 num-poly-requires : tie.Need-num-poly-requires
 num-poly-requires c κs = search needs
