@@ -1,8 +1,8 @@
-// "Circuit words, a table of contents first": a word, the places of the sections, and a section.
+// "Circuit words, a table of contents first": the places of the sections, and a section.
 use backend::Part;
 ghost use mathlib.Core.Path.{_≡_};
 ghost use Prim.Native.Nat.{_<_, _≤_};
-ghost use lib.ListN.{getD, length};
+ghost use lib.ListN.{length};
 ghost use Rattle.backend.specs.Circuit.{sectionAt};
 ghost use Rattle.backend.specs.Laid.{Laid, partOf};
 
@@ -24,16 +24,6 @@ pub const PAIRS: usize = 6;
 pub const LENGTHS: usize = 7;
 
 pub const CELLS: usize = 8;
-
-// A word, 0 past the last.
-pub fn word(words: &[u64], i: usize) -> u64
-    ensures { λ r. ⌜ r ≡ getD (now (words .entry)) i 0 ⌝ }
-{
-    if i < words.len() {
-        return words[i];
-    }
-    0
-}
 
 // The section at a place of the contents.
 pub fn section(circuit: &[u64], s: usize) -> Part

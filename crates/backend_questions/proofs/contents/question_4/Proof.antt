@@ -11,8 +11,8 @@ Inv-loop circuit k len at₀ s₀ at s = Following circuit at s
 abbrev μ-loop : tie.MeasureT-loop
 μ-loop circuit k len at₀ s₀ at s = 9 - s
 
-word-requires : tie.Need-word-requires Inv-loop μ-loop
-word-requires c κs = tt
+word-at-requires : tie.Need-word-at-requires Inv-loop μ-loop
+word-at-requires c κs = tt
 
 returns : tie.Need-returns Inv-loop μ-loop
 returns c = too-short _ (c .if1 .taken)
@@ -20,23 +20,23 @@ returns c = too-short _ (c .if1 .taken)
 loop-holds : tie.Need-loop-holds Inv-loop μ-loop
 loop-holds c = following-none _ (c .if1 .left)
 
-mul-word : tie.Need-mul-word Inv-loop μ-loop
-mul-word c = omega arith
+mul-word-at : tie.Need-mul-word-at Inv-loop μ-loop
+mul-word-at c = omega arith
 
-add-word : tie.Need-add-word Inv-loop μ-loop
-add-word c = omega arith
+add-word-at : tie.Need-add-word-at Inv-loop μ-loop
+add-word-at c = omega arith
 
-word-requires-2 : tie.Need-word-requires-2 Inv-loop μ-loop
-word-requires-2 c κs = tt
+word-at-requires-2 : tie.Need-word-at-requires-2 Inv-loop μ-loop
+word-at-requires-2 c κs = tt
 
-mul-word-2 : tie.Need-mul-word-2 Inv-loop μ-loop
-mul-word-2 c = omega arith
+mul-word-at-2 : tie.Need-mul-word-at-2 Inv-loop μ-loop
+mul-word-at-2 c = omega arith
 
-add-word-2 : tie.Need-add-word-2 Inv-loop μ-loop
-add-word-2 c = omega arith
+add-word-at-2 : tie.Need-add-word-at-2 Inv-loop μ-loop
+add-word-at-2 c = omega arith
 
-word-requires-3 : tie.Need-word-requires-3 Inv-loop μ-loop
-word-requires-3 c κs = tt
+word-at-requires-3 : tie.Need-word-at-requires-3 Inv-loop μ-loop
+word-at-requires-3 c κs = tt
 
 sub-words-in : tie.Need-sub-words-in Inv-loop μ-loop
 sub-words-in c = omega arith
@@ -45,13 +45,13 @@ words-in-requires : tie.Need-words-in-requires Inv-loop μ-loop
 words-in-requires c κs = omega arith
 
 returns-2 : tie.Need-returns-2 Inv-loop μ-loop
-returns-2 c = elsewhere (c .before .before .before .before .before .before .before .before .before .args .circuit .now) (c .before .before .before .before .before .loop .at) (c .before .before .before .before .before .loop .s) _ _ _ _ (c .before .before .before .before .before .loop .inv) (c .before .before .before .before .loop-test .taken) (c .before .before .before .before .before .before .before .word .ensures) (c .before .before .before .word2 .ensures) (c .before .before .word3 .ensures) (c .before .words-in .ensures) (c .if2 .taken)
+returns-2 c = elsewhere (c .before .before .before .before .before .before .before .before .before .args .circuit .now) (c .before .before .before .before .before .loop .at) (c .before .before .before .before .before .loop .s) _ _ _ _ (c .before .before .before .before .before .loop .inv) (c .before .before .before .before .loop-test .taken) (c .before .before .before .before .before .before .before .word-at .ensures) (c .before .before .before .word-at2 .ensures) (c .before .before .word-at3 .ensures) (c .before .words-in .ensures) (c .if2 .taken)
 
 sub-if3 : tie.Need-sub-if3 Inv-loop μ-loop
 sub-if3 c = omega arith
 
 returns-3 : tie.Need-returns-3 Inv-loop μ-loop
-returns-3 c = overrun (c .before .before .before .before .before .before .before .before .before .before .args .circuit .now) (c .before .before .before .before .before .before .loop .at) (c .before .before .before .before .before .before .loop .s) _ _ _ _ (c .before .before .before .before .before .before .loop .inv) (c .before .before .before .before .before .loop-test .taken) (c .before .before .before .before .before .before .before .before .word .ensures) (c .before .before .before .before .word2 .ensures) (c .before .before .before .word3 .ensures) (c .before .before .words-in .ensures) (c .if3 .taken)
+returns-3 c = overrun (c .before .before .before .before .before .before .before .before .before .before .args .circuit .now) (c .before .before .before .before .before .before .loop .at) (c .before .before .before .before .before .before .loop .s) _ _ _ _ (c .before .before .before .before .before .before .loop .inv) (c .before .before .before .before .before .loop-test .taken) (c .before .before .before .before .before .before .before .before .word-at .ensures) (c .before .before .before .before .word-at2 .ensures) (c .before .before .before .word-at3 .ensures) (c .before .before .words-in .ensures) (c .if3 .taken)
 
 add-at : tie.Need-add-at Inv-loop μ-loop
 add-at c = omega arith
@@ -63,7 +63,7 @@ loop-less : tie.Need-loop-less Inv-loop μ-loop
 loop-less c = omega arith
 
 loop-again : tie.Need-loop-again Inv-loop μ-loop
-loop-again c = following-more (c .before .before .before .before .before .before .before .before .before .before .args .circuit .now) (c .before .before .before .before .before .before .loop .at) (c .before .before .before .before .before .before .loop .s) _ _ _ _ (c .before .before .before .before .before .before .loop .inv) (c .before .before .before .before .before .loop-test .taken) (c .before .before .before .before .before .before .before .before .word .ensures) (c .before .before .before .before .word2 .ensures) (c .before .before .before .word3 .ensures) (c .before .before .words-in .ensures) (c .before .if2 .left) (c .if3 .left)
+loop-again c = following-more (c .before .before .before .before .before .before .before .before .before .before .args .circuit .now) (c .before .before .before .before .before .before .loop .at) (c .before .before .before .before .before .before .loop .s) _ _ _ _ (c .before .before .before .before .before .before .loop .inv) (c .before .before .before .before .before .loop-test .taken) (c .before .before .before .before .before .before .before .before .word-at .ensures) (c .before .before .before .before .word-at2 .ensures) (c .before .before .before .word-at3 .ensures) (c .before .before .words-in .ensures) (c .before .if2 .left) (c .if3 .left)
 
 returns-4 : tie.Need-returns-4 Inv-loop μ-loop
 returns-4 c = followed _ _ _ (c .before .loop .inv) (c .loop-test .left)
@@ -74,15 +74,15 @@ question-4-spec =
     (tie.spec
     Inv-loop
     μ-loop
-    word-requires
+    word-at-requires
     returns
     loop-holds
-    mul-word
-    add-word
-    word-requires-2
-    mul-word-2
-    add-word-2
-    word-requires-3
+    mul-word-at
+    add-word-at
+    word-at-requires-2
+    mul-word-at-2
+    add-word-at-2
+    word-at-requires-3
     sub-words-in
     words-in-requires
     returns-2
