@@ -1,6 +1,7 @@
 pub mod Sections
 pub mod Numbers
 pub mod Answers
+pub mod Passed
 pub mod Cells
 pub mod Degree
 pub mod Forest

@@ -4,11 +4,11 @@ use mathlib.Core.Bool.{Bool, true, false, not, _&&_, _||_}
 use mathlib.Core.List.{List, [], _∷_, map}
 use Prim.Native.Nat.{ℕ, suc, _+_, _-_, _*_, _/_, _%_, _^_, _≤_, _<_, min}
 use native.Mathlib.Omega.{arith, min-cases}
-use native.Mathlib.Nat.{one-mul, mul-one, add-zero, mul-div-cancel, min-eq-left}
+use native.Mathlib.Nat.{mul-one, add-zero, mul-div-cancel, min-eq-left}
 use lib.ListN.{length, getD, take, drop, length-map, length-drop}
 use lib.Seq.{take-all, length-take-le}
 use lib.Dec.{eqb, leb, ltb, leb·suc-suc}
-use lib.Pow.{pow-pos, shl-exact}
+use lib.Pow.{pow-pos}
 use borrow.Author.Tests.{not-true, not-false, lt-leb, leb-true, eqb-true, ne-eqb}
 use Rattle.field.specs.Prime.{P}
 use Rattle.lists.specs.Lists.{column, allOf, total, split}
@@ -238,12 +238,6 @@ nine ws l k words is wide a =
     (ap (ltb 0) (sym (split-length (bodyOf ws Section.lengths) _ ∙ single-length ws l Section.lengths refl))))
 
 -- ---- the numbers
-
-pub below-64 : (ws : List ℕ) → Laid ws → wordK ws < 64
-below-64 ws l = let h = l .k-high in omega arith
-
-pub rows-are : (k : ℕ) → k < 64 → 1 * 2 ^ k % 2 ^ 64 ≡ 2 ^ k
-rows-are k h = shl-exact {a = 1} 1 k 64 (omega arith) (omega arith) ∙ one-mul (2 ^ k)
 
 pub not-past : (n limit r : ℕ) → r ≡ min n limit → n ≤ limit → r ≡ n
 not-past n limit r e h = e ∙ min-eq-left h

@@ -1,11 +1,16 @@
 // Question 11: are the cycles as they must be? Cells are pairs of words (polynomial, row); a cycle is a run of them.
+use backend_sections::bodies::num_poly;
+use backend_sections::bodies::rows;
+use backend_sections::reader::cells_of;
+use backend_sections::reader::lengths_of;
 ghost use mathlib.Core.Path.{_≡_};
 ghost use mathlib.Core.Bool.{true};
 ghost use Prim.Native.Nat.{_+_, _-_, _/_, _<_, _≤_};
 ghost use lib.ListN.{length};
 ghost use Rattle.lists.specs.Lists.{allOf, column, split, total};
-ghost use Rattle.backend.specs.Circuit.{cellAt, cellsOf};
-ghost use Rattle.backend.specs.Questions.{goodCycle, cyclesGood};
+ghost use Rattle.backend.specs.Circuit.{cellAt, cellsOf, circuitOf};
+ghost use Rattle.backend.specs.Questions.{goodCycle, cyclesGood, q11};
+ghost use Rattle.backend.specs.Laid.{Laid, Counted};
 ghost use Rattle.backend.specs.Cycles as def;
 ghost use Rattle.backend_questions.specs.Chains.{Linked};
 
@@ -91,8 +96,8 @@ fn good_cycle(
     true
 }
 
-// Question 11: is each cycle non-empty, its polynomials in range, its rows from 1 to `rows` − 1, no cell twice within one cycle?
-pub fn cycles_good(lengths: &[u64], cells: &[u64], polys: u64, rows: u64) -> bool
+// Is each cycle non-empty, its polynomials in range, its rows from 1 to `rows` − 1, no cell twice within one cycle?
+fn cycles_good(lengths: &[u64], cells: &[u64], polys: u64, rows: u64) -> bool
     requires { ⌜ (total (now lengths) ≡ length (now cells) / 2) × (length (now cells) / 2 ≤ 4096) ⌝ }
     ensures { λ r. ⌜ r ≡ cyclesGood polys rows (split (now (lengths .entry)) (cellsOf (now (cells .entry)))) ⌝ }
 {
@@ -109,4 +114,16 @@ pub fn cycles_good(lengths: &[u64], cells: &[u64], polys: u64, rows: u64) -> boo
         i += 1;
     }
     true
+}
+
+// Question 11.
+pub fn question_11(circuit: &[u64]) -> bool
+    requires { ⌜ Laid (now circuit) × Counted (now circuit) ⌝ }
+    ensures { λ r. ⌜ r ≡ q11 (circuitOf (now (circuit .entry))) ⌝ }
+{
+    let polys = num_poly(circuit);
+    let rows = rows(circuit);
+    let lengths = lengths_of(circuit);
+    let cells = cells_of(circuit);
+    cycles_good(lengths, cells, polys, rows)
 }

@@ -1,5 +1,12 @@
-// The questions put to circuit words in their order.
+// Questions 1 to 11 put to circuit words, in their order:
+// contents: 1 to 4, put to the contents
+// bodies: 3 and then 4, put to the bodies
+// sections: 5, 6 and 9
+// nodes: 7 and 8
+// degrees: 10
+// cycles: 11
 mod bodies;
+mod contents;
 mod cycles;
 mod degrees;
 mod nodes;
@@ -7,17 +14,17 @@ mod sections;
 
 use crate::bodies::question_3_bodies;
 use crate::bodies::question_4_bodies;
+use crate::contents::question_1;
+use crate::contents::question_2;
+use crate::contents::question_3;
+use crate::contents::question_4;
+use crate::cycles::question_11;
 use crate::degrees::question_10;
 use crate::nodes::question_7;
 use crate::nodes::question_8;
-use crate::nodes::question_11;
 use crate::sections::question_5;
 use crate::sections::question_6;
 use crate::sections::question_9;
-use backend_sections::contents::question_1;
-use backend_sections::contents::question_2;
-use backend_sections::contents::question_3;
-use backend_sections::contents::question_4;
 ghost use mathlib.Core.Path.{_≡_};
 ghost use Rattle.lists.specs.Lists.{firstNo};
 ghost use Rattle.backend.specs.Questions.{layoutQuestions, bodyQuestions, circuitQuestions};

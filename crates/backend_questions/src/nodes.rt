@@ -1,19 +1,15 @@
-// Questions 7, 8 and 11, put to the sections of circuit words.
-use crate::cycles::cycles_good;
+// Questions 7 and 8, put to the sections of circuit words.
 use backend_nodes::layout::laid_out;
 use backend_nodes::layout::nodes_in_range;
 use backend_sections::bodies::num_poly;
 use backend_sections::bodies::num_user;
-use backend_sections::bodies::rows;
-use backend_sections::reader::cells_of;
 use backend_sections::reader::constraints_of;
 use backend_sections::reader::k_of;
-use backend_sections::reader::lengths_of;
 use backend_sections::reader::nodes_of;
 use backend_sections::reader::pairs_of;
 ghost use mathlib.Core.Path.{_≡_};
 ghost use Rattle.backend.specs.Circuit.{circuitOf};
-ghost use Rattle.backend.specs.Questions.{q7, q8, q11};
+ghost use Rattle.backend.specs.Questions.{q7, q8};
 ghost use Rattle.backend.specs.Laid.{Laid, Counted};
 
 // Question 7.
@@ -36,16 +32,4 @@ pub fn question_8(circuit: &[u64]) -> bool
     let user = num_user(circuit);
     let k = k_of(circuit);
     nodes_in_range(nodes_of(circuit), polys, user, k)
-}
-
-// Question 11.
-pub fn question_11(circuit: &[u64]) -> bool
-    requires { ⌜ Laid (now circuit) × Counted (now circuit) ⌝ }
-    ensures { λ r. ⌜ r ≡ q11 (circuitOf (now (circuit .entry))) ⌝ }
-{
-    let polys = num_poly(circuit);
-    let rows = rows(circuit);
-    let lengths = lengths_of(circuit);
-    let cells = cells_of(circuit);
-    cycles_good(lengths, cells, polys, rows)
 }

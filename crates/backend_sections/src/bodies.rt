@@ -2,6 +2,7 @@
 use crate::reader::k_of;
 use crate::reader::rounds_of;
 use crate::words::total_to;
+use bh::rows_of;
 ghost use mathlib.Core.Path.{_≡_};
 ghost use Prim.Native.Nat.{_^_, min};
 ghost use Rattle.backend.specs.Circuit.{wordK, circuitOf, numWitness, numUser, numPoly};
@@ -13,7 +14,7 @@ pub fn rows(circuit: &[u64]) -> u64
     ensures { λ r. ⌜ r ≡ 2 ^ wordK (now (circuit .entry)) ⌝ }
 {
     let k = k_of(circuit);
-    1 << k
+    rows_of(k as usize) as u64
 }
 
 // Witness columns in all, the limit where they are more.

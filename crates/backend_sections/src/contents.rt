@@ -1,13 +1,10 @@
-// "Circuit words, a table of contents first": questions 1 to 4 put to the contents, and the sections.
+// "Circuit words, a table of contents first": the places of the sections, and a section.
 use backend::Part;
 ghost use mathlib.Core.Path.{_≡_};
-ghost use Prim.Native.Nat.{_+_, _*_, _%_, _^_, _<_, _≤_, min};
-ghost use lib.ListN.{getD, length};
-ghost use Rattle.backend.specs.Circuit.{sectionAt, entry};
-ghost use Rattle.backend.specs.Questions.{q1, q2, q3, q4};
+ghost use Prim.Native.Nat.{_<_, _≤_};
+ghost use lib.ListN.{length};
+ghost use Rattle.backend.specs.Circuit.{sectionAt};
 ghost use Rattle.backend.specs.Laid.{Laid, partOf};
-
-const LARGEST_K: u64 = 10;
 
 // The places of the sections.
 pub const INSTANCES: usize = 0;
@@ -27,120 +24,6 @@ pub const PAIRS: usize = 6;
 pub const LENGTHS: usize = 7;
 
 pub const CELLS: usize = 8;
-
-// A word, 0 past the last.
-pub fn word(words: &[u64], i: usize) -> u64
-    ensures { λ r. ⌜ r ≡ getD (now (words .entry)) i 0 ⌝ }
-{
-    if i < words.len() {
-        return words[i];
-    }
-    0
-}
-
-// "Are there 20 words or more?"
-pub fn question_1(circuit: &[u64]) -> bool
-    ensures { λ r. ⌜ r ≡ q1 (now (circuit .entry)) ⌝ }
-{
-    20 <= circuit.len()
-}
-
-// "Is k from 1 to 10?"
-pub fn question_2(circuit: &[u64]) -> bool
-    ensures { λ r. ⌜ r ≡ q2 (now (circuit .entry)) ⌝ }
-{
-    let k = word(circuit, 0);
-    (1 <= k) & (k <= LARGEST_K)
-}
-
-// 3, put to the contents. Word 1 is the maximum degree + 1, and the pairs have no limit of their own.
-pub fn question_3(circuit: &[u64]) -> bool
-    ensures { λ r. ⌜ r ≡ q3 (now (circuit .entry)) ⌝ }
-{
-    let stated = word(circuit, 1);
-    let instances = word(circuit, 3);
-    let preprocess = word(circuit, 5);
-    let rounds = word(circuit, 7);
-    let nodes = word(circuit, 9);
-    let constraints = word(circuit, 11);
-    let widths = word(circuit, 13);
-    let lengths = word(circuit, 17);
-    let cells = word(circuit, 19);
-    let columns = (instances <= 8) & (preprocess <= 32) & (1 <= rounds) & (rounds <= 4);
-    let expressions = (nodes <= 1024) & (constraints <= 32) & (widths <= 8);
-    let copies = (lengths <= 1024) & (cells <= 4096);
-    (stated <= 33) & columns & expressions & copies
-}
-
-// The words of one entry, 0 where they pass 64 bits.
-fn entry_words(k: u64, s: usize) -> u64
-    ensures { λ r. ⌜ r ≡ entry k (sectionAt s) % 2 ^ 64 ⌝ }
-{
-    if s == PREPROCESS {
-        if k < 64 {
-            return 1 << k;
-        }
-        return 0;
-    }
-    if s == NODES {
-        return 4;
-    }
-    if s == ROUNDS {
-        return 2;
-    }
-    if s == PAIRS {
-        return 2;
-    }
-    if s == CELLS {
-        return 2;
-    }
-    1
-}
-
-// The words of a section, room + 1 where they are more than the room.
-fn words_in(k: u64, s: usize, count: u64, room: u64) -> u64
-    requires { ⌜ room + 1 < 2 ^ 64 ⌝ }
-    ensures { λ r. ⌜ r ≡ min (count * entry k (sectionAt s)) (room + 1) ⌝ }
-{
-    let size = entry_words(k, s);
-    if count == 0 {
-        return 0;
-    }
-    if size == 0 {
-        return room + 1;
-    }
-    if room / size < count {
-        return room + 1;
-    }
-    count * size
-}
-
-// 4, put to the contents: the sections follow without gaps, and nothing follows the last.
-pub fn question_4(circuit: &[u64]) -> bool
-    ensures { λ r. ⌜ r ≡ q4 (now (circuit .entry)) ⌝ }
-{
-    let k = word(circuit, 0);
-    let len = circuit.len() as u64;
-    let mut at: u64 = 20;
-    if len < at {
-        return false;
-    }
-    let mut s: usize = 0;
-    while s < 9 {
-        let start = word(circuit, 2 + s * 2);
-        let count = word(circuit, 3 + s * 2);
-        let words = words_in(k, s, count, len - at);
-        if start != at {
-            return false;
-        }
-        if len - at < words {
-            return false;
-        }
-        at += words;
-        s += 1;
-    }
-    at == len
-}
 
 // The section at a place of the contents.
 pub fn section(circuit: &[u64], s: usize) -> Part

@@ -1,5 +1,5 @@
 // "A thin reader holds the circuit words and hands out sections." Each function that takes, makes or has a local of the reader is
-// proved by a walk of its MIR; `section_words` and `crate::contents::word`, which do the work, are covered.
+// proved by a walk of its MIR; `section_words` and `lists::word_at`, which do the work, are covered.
 use crate::contents::CELLS;
 use crate::contents::CONSTRAINTS;
 use crate::contents::INSTANCES;
@@ -10,7 +10,7 @@ use crate::contents::PREPROCESS;
 use crate::contents::ROUNDS;
 use crate::contents::WIDTHS;
 use crate::contents::section;
-use crate::contents::word;
+use lists::word_at;
 ghost use mathlib.Core.Path.{_≡_};
 ghost use Prim.Native.Nat.{_<_};
 ghost use lib.ListN.{getD};
@@ -43,14 +43,14 @@ impl<'a> Circuit<'a> {
     pub fn k(self) -> u64
         ensures { λ r. ⌜ r ≡ wordK (now (self .entry .words)) ⌝ }
     {
-        word(self.words, 0)
+        word_at(self.words, 0)
     }
 
     // "Word 1 is 0 for no maximum degree, else that degree + 1."
     pub fn stated(self) -> u64
         ensures { λ r. ⌜ r ≡ getD (now (self .entry .words)) 1 0 ⌝ }
     {
-        word(self.words, 1)
+        word_at(self.words, 1)
     }
 
     // "instance lengths"

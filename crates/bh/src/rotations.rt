@@ -1,11 +1,11 @@
-// Rows far on or back in the row order of the Boolean hypercube: rotations, places, Lagrange rows.
+// Rows far on or back in the row order of the Boolean hypercube: rotations and places.
 use crate::Rotation;
 use crate::next;
 use crate::prev;
 ghost use mathlib.Core.Path.{_≡_};
 ghost use Prim.Native.Nat.{_+_, _-_, _*_, _^_, _<_, _≤_};
 ghost use lib.IntN.{natAbs};
-ghost use Rattle.bh.specs.Rows.{nextRow, prevRow, iter, rowAt, placeOf, rotated, lagrangeRow};
+ghost use Rattle.bh.specs.Rows.{nextRow, prevRow, iter, placeOf, rotated};
 
 // n rows on.
 pub fn forwards(b: usize, n: usize, k: usize) -> usize
@@ -33,17 +33,6 @@ pub fn backwards(b: usize, n: usize, k: usize) -> usize
         i += 1;
     }
     row
-}
-
-// The row at a place of the order 0, 1, next 1, ..
-pub fn row_at(place: usize, k: usize) -> usize
-    requires { ⌜ (0 < k) × (k < 32) ⌝ }
-    ensures { λ r. ⌜ (r ≡ rowAt k place) × (r < 2 ^ k) ⌝ }
-{
-    if place == 0 {
-        return 0;
-    }
-    forwards(1, place - 1, k)
 }
 
 // The place of a row in that order.
@@ -89,19 +78,5 @@ pub fn rotate(b: usize, r: Rotation, k: usize) -> usize
         backwards(b, d, k)
     } else {
         forwards(b, d, k)
-    }
-}
-
-// The row where Lagrange(i) is 1: place i of the order, counted round.
-pub fn lagrange_row(i: i32, k: usize) -> usize
-    requires { ⌜ (0 < k) × (k < 32) ⌝ }
-    ensures { λ r. ⌜ (r ≡ lagrangeRow k i) × (r < 2 ^ k) ⌝ }
-{
-    let n: usize = 1 << k;
-    let d = distance(i);
-    if i < 0 {
-        row_at(n - 1 - (d - 1) % n, k)
-    } else {
-        row_at(d % n, k)
     }
 }

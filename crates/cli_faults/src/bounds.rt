@@ -1,5 +1,5 @@
 // The contents of circuit words as they stand, read with no question asked: a word past the last is 0.
-use backend_sections::contents::word;
+use lists::word_at;
 
 // No place.
 pub const NONE: usize = 18446744073709551615;
@@ -53,7 +53,7 @@ pub fn sum_of(circuit: &[u64], start: usize, step: usize, count: u64) -> u64 {
     let mut at = start;
     let mut j: u64 = 0;
     while j < turns {
-        sum = plus(sum, word(circuit, at));
+        sum = plus(sum, word_at(circuit, at));
         at = after(at, step);
         j += 1;
     }
@@ -69,12 +69,12 @@ pub fn rows_of(k: u64) -> u64 {
 }
 
 pub fn bounds_of(circuit: &[u64]) -> Bounds {
-    let k = word(circuit, 0);
-    let rounds_start = word(circuit, 6) as usize;
-    let rounds = word(circuit, 7);
+    let k = word_at(circuit, 0);
+    let rounds_start = word_at(circuit, 6) as usize;
+    let rounds = word_at(circuit, 7);
     let witness = sum_of(circuit, rounds_start, 2, rounds);
     let user = sum_of(circuit, after(rounds_start, 1), 2, rounds);
-    let given = std::num::wrapping_add_u64(word(circuit, 3), word(circuit, 5));
+    let given = std::num::wrapping_add_u64(word_at(circuit, 3), word_at(circuit, 5));
     Bounds {
         k: k,
         rows: rows_of(k),
@@ -82,15 +82,15 @@ pub fn bounds_of(circuit: &[u64]) -> Bounds {
         witness: witness,
         user: user,
         rounds: rounds,
-        nodes_start: word(circuit, 8) as usize,
-        nodes: word(circuit, 9),
-        constraints_start: word(circuit, 10) as usize,
-        constraints: word(circuit, 11),
-        pairs_start: word(circuit, 14) as usize,
-        pair_words: word(circuit, 15) << 1,
-        lengths_start: word(circuit, 16) as usize,
-        lengths: word(circuit, 17),
-        cells_start: word(circuit, 18) as usize,
-        cells: word(circuit, 19),
+        nodes_start: word_at(circuit, 8) as usize,
+        nodes: word_at(circuit, 9),
+        constraints_start: word_at(circuit, 10) as usize,
+        constraints: word_at(circuit, 11),
+        pairs_start: word_at(circuit, 14) as usize,
+        pair_words: word_at(circuit, 15) << 1,
+        lengths_start: word_at(circuit, 16) as usize,
+        lengths: word_at(circuit, 17),
+        cells_start: word_at(circuit, 18) as usize,
+        cells: word_at(circuit, 19),
     }
 }

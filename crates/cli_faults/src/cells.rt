@@ -2,7 +2,7 @@
 use crate::bounds::Bounds;
 use crate::bounds::NONE;
 use crate::bounds::after;
-use backend_sections::contents::word;
+use lists::word_at;
 
 // The first cell of the cycle that cell j stands in.
 fn cycle_of(circuit: &[u64], b: Bounds, j: u64) -> u64 {
@@ -11,7 +11,7 @@ fn cycle_of(circuit: &[u64], b: Bounds, j: u64) -> u64 {
     let mut at = b.lengths_start;
     let mut i: u64 = 0;
     while i < lengths {
-        let next = std::num::wrapping_add_u64(first, word(circuit, at));
+        let next = std::num::wrapping_add_u64(first, word_at(circuit, at));
         if j < next {
             return first;
         }
@@ -24,12 +24,12 @@ fn cycle_of(circuit: &[u64], b: Bounds, j: u64) -> u64 {
 
 // Where the cells from `first` to before j have that of j.
 fn seen(circuit: &[u64], start: usize, first: u64, j: u64, cell: usize) -> usize {
-    let polynomial = word(circuit, cell);
-    let row = word(circuit, after(cell, 1));
+    let polynomial = word_at(circuit, cell);
+    let row = word_at(circuit, after(cell, 1));
     let mut at = after(start, (first << 1) as usize);
     let mut i = first;
     while i < j {
-        if (word(circuit, at) == polynomial) & (word(circuit, after(at, 1)) == row) {
+        if (word_at(circuit, at) == polynomial) & (word_at(circuit, after(at, 1)) == row) {
             return at;
         }
         at = after(at, 2);
@@ -45,8 +45,8 @@ pub fn stood(circuit: &[u64], b: Bounds, at: usize, j: u64) -> usize {
 
 // Question 11, of cell j, which stands at a place.
 pub fn cell_fault(circuit: &[u64], b: Bounds, at: usize, j: u64) -> usize {
-    let row = word(circuit, after(at, 1));
-    if b.polys <= word(circuit, at) {
+    let row = word_at(circuit, after(at, 1));
+    if b.polys <= word_at(circuit, at) {
         return at;
     }
     if (row == 0) | (b.rows <= row) {

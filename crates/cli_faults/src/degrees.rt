@@ -2,7 +2,7 @@
 use crate::bounds::Bounds;
 use crate::bounds::NONE;
 use crate::bounds::after;
-use backend_sections::contents::word;
+use lists::word_at;
 
 // The degree of a lookup, where that of a root is known only to be above 1024.
 pub const ABOVE: u64 = 2050;
@@ -25,8 +25,8 @@ pub fn degree_of(circuit: &[u64], b: Bounds, root: u64) -> u64 {
 
 // A constraint's root whose degree is too large.
 pub fn degree_fault(circuit: &[u64], b: Bounds, at: usize) -> usize {
-    let degree = degree_of(circuit, b, word(circuit, at));
-    let stated = word(circuit, 1);
+    let degree = degree_of(circuit, b, word_at(circuit, at));
+    let stated = word_at(circuit, 1);
     if (1024 < degree) | ((stated != 0) & (stated <= degree)) {
         return at;
     }
@@ -39,7 +39,7 @@ fn side_degree(circuit: &[u64], b: Bounds, start: usize, width: u64) -> u64 {
     let mut at = start;
     let mut j: u64 = 0;
     while j < width {
-        let degree = degree_of(circuit, b, word(circuit, at));
+        let degree = degree_of(circuit, b, word_at(circuit, at));
         if most < degree {
             most = degree;
         }
@@ -61,14 +61,14 @@ pub fn lookup_degree(circuit: &[u64], b: Bounds, at: usize, width: u64) -> u64 {
 
 // Where the pairs of lookup i begin.
 pub fn lookup_start(circuit: &[u64], b: Bounds, i: u64) -> usize {
-    let pairs = crate::bounds::sum_of(circuit, word(circuit, 12) as usize, 1, i);
+    let pairs = crate::bounds::sum_of(circuit, word_at(circuit, 12) as usize, 1, i);
     after(b.pairs_start, (pairs << 1) as usize)
 }
 
 // The place of the first pair of a lookup whose degree is too large; i is the lookup's number and `at` that of its width.
 pub fn lookup_fault(circuit: &[u64], b: Bounds, at: usize, i: u64) -> usize {
     let start = lookup_start(circuit, b, i);
-    if 1024 < lookup_degree(circuit, b, start, word(circuit, at)) {
+    if 1024 < lookup_degree(circuit, b, start, word_at(circuit, at)) {
         return start;
     }
     NONE

@@ -14,8 +14,8 @@ use crate::nodes::layout_fault;
 use crate::nodes::name_why;
 use crate::nodes::range_fault;
 use crate::nodes::value_fault;
-use backend_sections::contents::word;
 use backend_sections::words::is_element;
+use lists::word_at;
 
 // What is looked for in the entries of a section.
 const COUNT_LIMIT: u64 = 0;
@@ -63,7 +63,7 @@ pub fn limit_of(at: usize) -> u64 {
 }
 
 fn count_fault(circuit: &[u64], at: usize) -> usize {
-    let count = word(circuit, at);
+    let count = word_at(circuit, at);
     if (limit_of(at) < count) | ((at == 7) & (count == 0)) {
         return at;
     }
@@ -72,12 +72,12 @@ fn count_fault(circuit: &[u64], at: usize) -> usize {
 
 // "every round a witness column, every round but the last a challenge"
 fn round_fault(circuit: &[u64], b: Bounds, at: usize, j: u64) -> usize {
-    if word(circuit, at) == 0 {
+    if word_at(circuit, at) == 0 {
         return at;
     }
     let last = std::num::wrapping_add_u64(j, 1) == b.rounds;
     let user = after(at, 1);
-    if !last & (word(circuit, user) == 0) {
+    if !last & (word_at(circuit, user) == 0) {
         return user;
     }
     NONE
@@ -90,13 +90,13 @@ fn there(at: usize, so: bool) -> usize {
 
 // The place of a root that is not the number of a node that is no Item.
 fn root_fault(circuit: &[u64], b: Bounds, at: usize) -> usize {
-    let why = name_why(circuit, b.nodes_start, b.nodes, word(circuit, at), false);
+    let why = name_why(circuit, b.nodes_start, b.nodes, word_at(circuit, at), false);
     there(at, why != RIGHT)
 }
 
 // The first offending word of entry j, which begins at a place.
 fn entry_fault(circuit: &[u64], what: u64, b: Bounds, at: usize, j: u64) -> usize {
-    let first = word(circuit, at);
+    let first = word_at(circuit, at);
     match what {
         COUNT_LIMIT => count_fault(circuit, at),
         WIDTH => there(at, 8 < first),
@@ -138,7 +138,7 @@ fn passes(circuit: &[u64], start: usize, step: usize, count: u64, limit: u64) ->
     let mut at = start;
     let mut j: u64 = 0;
     while j < turns {
-        let length = word(circuit, at);
+        let length = word_at(circuit, at);
         if left < length {
             return at;
         }
@@ -164,16 +164,16 @@ fn fault_3(circuit: &[u64], b: Bounds) -> usize {
     if contents != NONE {
         return contents;
     }
-    let rounds = word(circuit, 6) as usize;
+    let rounds = word_at(circuit, 6) as usize;
     let witness = passes(circuit, rounds, 2, b.rounds, 32);
     let user = passes(circuit, after(rounds, 1), 2, b.rounds, 16);
     let widths = search(
         circuit,
         WIDTH,
         b,
-        word(circuit, 12) as usize,
+        word_at(circuit, 12) as usize,
         1,
-        word(circuit, 13),
+        word_at(circuit, 13),
     );
     let lengths = passes(circuit, b.lengths_start, 1, b.lengths, 4096);
     or_else(lower(witness, user), or_else(widths, lengths))
@@ -193,12 +193,12 @@ fn words_in(k: u64, s: u64, count: u64) -> u64 {
 
 // Where section s begins by the counts of those before it; the ninth, which is none, where the contents end.
 pub fn begins(circuit: &[u64], s: u64) -> u64 {
-    let k = word(circuit, 0);
+    let k = word_at(circuit, 0);
     let mut right: u64 = 20;
     let mut at: usize = 3;
     let mut i: u64 = 0;
     while i < s {
-        let words = words_in(k, i, word(circuit, at));
+        let words = words_in(k, i, word_at(circuit, at));
         right = std::num::wrapping_add_u64(right, words);
         at = after(at, 2);
         i += 1;
@@ -211,7 +211,7 @@ fn start_fault(circuit: &[u64]) -> usize {
     let mut at: usize = 2;
     let mut s: u64 = 0;
     while s < 9 {
-        if word(circuit, at) != begins(circuit, s) {
+        if word_at(circuit, at) != begins(circuit, s) {
             return at;
         }
         at = after(at, 2);
@@ -222,12 +222,17 @@ fn start_fault(circuit: &[u64]) -> usize {
 
 // The lookup pairs, of which there can be no more than words: their count has no limit of its own.
 fn pairs_fault(circuit: &[u64]) -> usize {
-    there(15, (circuit.len() as u64) < word(circuit, 15))
+    there(15, (circuit.len() as u64) < word_at(circuit, 15))
 }
 
 // The sum of the lookup widths.
 pub fn widths_sum(circuit: &[u64]) -> u64 {
-    sum_of(circuit, word(circuit, 12) as usize, 1, word(circuit, 13))
+    sum_of(
+        circuit,
+        word_at(circuit, 12) as usize,
+        1,
+        word_at(circuit, 13),
+    )
 }
 
 // 4 at the contents, then at the bodies: a count that is not the sum of the widths or of the lengths. NONE where the contents
@@ -240,7 +245,7 @@ fn fault_4(circuit: &[u64]) -> usize {
     if begins(circuit, 9) != circuit.len() as u64 {
         return NONE;
     }
-    or_else(there(15, widths_sum(circuit) != word(circuit, 15)), 19)
+    or_else(there(15, widths_sum(circuit) != word_at(circuit, 15)), 19)
 }
 
 fn fault_5(circuit: &[u64], b: Bounds) -> usize {
@@ -248,17 +253,17 @@ fn fault_5(circuit: &[u64], b: Bounds) -> usize {
         circuit,
         INSTANCE,
         b,
-        word(circuit, 2) as usize,
+        word_at(circuit, 2) as usize,
         1,
-        word(circuit, 3),
+        word_at(circuit, 3),
     );
-    let rounds = search(circuit, ROUND, b, word(circuit, 6) as usize, 2, b.rounds);
+    let rounds = search(circuit, ROUND, b, word_at(circuit, 6) as usize, 2, b.rounds);
     or_else(instances, rounds)
 }
 
 fn fault_6(circuit: &[u64], b: Bounds) -> usize {
-    let start = word(circuit, 4);
-    let words = std::num::wrapping_sub_u64(word(circuit, 6), start);
+    let start = word_at(circuit, 4);
+    let words = std::num::wrapping_sub_u64(word_at(circuit, 6), start);
     let preprocess = search(circuit, VALUE, b, start as usize, 1, words);
     or_else(
         preprocess,
@@ -286,9 +291,9 @@ fn fault_9(circuit: &[u64], b: Bounds) -> usize {
         circuit,
         ZERO,
         b,
-        word(circuit, 12) as usize,
+        word_at(circuit, 12) as usize,
         1,
-        word(circuit, 13),
+        word_at(circuit, 13),
     );
     or_else(width, 11)
 }
@@ -299,8 +304,8 @@ fn fault_10(circuit: &[u64], b: Bounds) -> usize {
     if user != NONE {
         return user;
     }
-    let widths = word(circuit, 12) as usize;
-    search(circuit, LOOKUP, b, widths, 1, word(circuit, 13))
+    let widths = word_at(circuit, 12) as usize;
+    search(circuit, LOOKUP, b, widths, 1, word_at(circuit, 13))
 }
 
 fn fault_11(circuit: &[u64], b: Bounds) -> usize {

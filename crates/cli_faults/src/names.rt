@@ -4,13 +4,13 @@ use crate::bounds::NONE;
 use crate::bounds::after;
 use crate::nodes::names_first;
 use crate::nodes::uses_second;
-use backend_sections::contents::word;
+use lists::word_at;
 
 // Does the word at a place name a node, as word `part` of a node, from 0?
 fn node_names(circuit: &[u64], place: usize, part: usize) -> bool {
     let at = std::num::wrapping_sub_usize(place, part);
-    let kind = word(circuit, at);
-    let value = word(circuit, after(at, 3));
+    let kind = word_at(circuit, at);
+    let value = word_at(circuit, after(at, 3));
     match part {
         1 => names_first(kind),
         2 => uses_second(kind, value),
@@ -33,7 +33,7 @@ pub fn next_name(circuit: &[u64], b: Bounds, from: usize, n: u64) -> usize {
     let end = b.lengths_start;
     let mut at = from;
     while at < end {
-        if word(circuit, at) == n {
+        if word_at(circuit, at) == n {
             if names(circuit, b, at) {
                 return at;
             }
@@ -49,7 +49,7 @@ pub fn times(circuit: &[u64], b: Bounds, n: u64) -> u64 {
     let mut times: u64 = 0;
     let mut at = b.nodes_start;
     while at < end {
-        if word(circuit, at) == n {
+        if word_at(circuit, at) == n {
             times = std::num::wrapping_add_u64(times, names(circuit, b, at) as u64);
         }
         at += 1;

@@ -2,8 +2,8 @@
 use crate::bounds::Bounds;
 use crate::bounds::NONE;
 use crate::bounds::after;
-use backend_sections::contents::word;
 use backend_sections::words::is_element;
+use lists::word_at;
 
 // What is wrong with a word of a node: nothing; it is not used, and not 0; it is above the largest value; it names a node that
 // is not lower, an Item, a node that is no Item, the last Item.
@@ -23,10 +23,10 @@ pub const LAST_ITEM: u64 = 6;
 
 // Question 6: Constants and scalars below p.
 pub fn value_fault(circuit: &[u64], at: usize) -> usize {
-    let kind = word(circuit, at);
+    let kind = word_at(circuit, at);
     let held = (kind == 1) | (kind == 10);
     let value = after(at, 3);
-    if held & !is_element(word(circuit, value)) {
+    if held & !is_element(word_at(circuit, value)) {
         return value;
     }
     NONE
@@ -70,7 +70,7 @@ pub fn name_why(circuit: &[u64], start: usize, limit: u64, n: u64, item: bool) -
     if limit <= n {
         return HIGH;
     }
-    let is_item = word(circuit, node_at(start, n)) == 12;
+    let is_item = word_at(circuit, node_at(start, n)) == 12;
     if is_item == item {
         return RIGHT;
     }
@@ -85,8 +85,8 @@ pub fn names_first(kind: u64) -> bool {
 // What is wrong with the first word of node n, which begins at a place: "an unused word is 0", "A node names lower nodes only",
 // and an Item is "named only as the second of kind 11 or 12".
 pub fn first_why(circuit: &[u64], start: usize, at: usize, n: u64) -> u64 {
-    let kind = word(circuit, at);
-    let first = word(circuit, after(at, 1));
+    let kind = word_at(circuit, at);
+    let first = word_at(circuit, after(at, 1));
     if !uses_first(kind) & (first != 0) {
         return UNUSED;
     }
@@ -98,7 +98,7 @@ pub fn first_why(circuit: &[u64], start: usize, at: usize, n: u64) -> u64 {
 
 // Is the node the last Item, by its value?
 fn is_last(circuit: &[u64], start: usize, n: u64) -> bool {
-    word(circuit, after(node_at(start, n), 3)) != 1
+    word_at(circuit, after(node_at(start, n), 3)) != 1
 }
 
 // What is wrong with the Item that kind 11 or 12 names second: after 11 it is not the last.
@@ -115,9 +115,9 @@ fn item_why(circuit: &[u64], start: usize, limit: u64, kind: u64, n: u64) -> u64
 
 // What is wrong with the second word of node n. Of an Item whose value is above 1 it is not known whether it names another.
 pub fn second_why(circuit: &[u64], start: usize, at: usize, n: u64) -> u64 {
-    let kind = word(circuit, at);
-    let second = word(circuit, after(at, 2));
-    let value = word(circuit, after(at, 3));
+    let kind = word_at(circuit, at);
+    let second = word_at(circuit, after(at, 2));
+    let value = word_at(circuit, after(at, 3));
     if !uses_second(kind, value) {
         let known = (kind != 12) | (value == 0);
         if known & (second != 0) {
@@ -133,8 +133,8 @@ pub fn second_why(circuit: &[u64], start: usize, at: usize, n: u64) -> u64 {
 
 // What is wrong with the value of a node.
 pub fn value_why(circuit: &[u64], at: usize) -> u64 {
-    let kind = word(circuit, at);
-    let value = word(circuit, after(at, 3));
+    let kind = word_at(circuit, at);
+    let value = word_at(circuit, after(at, 3));
     if !uses_value(kind) & (value != 0) {
         return UNUSED;
     }
@@ -146,7 +146,7 @@ pub fn value_why(circuit: &[u64], at: usize) -> u64 {
 
 // Question 7, of one node by itself: kind, first, second and value in this order.
 pub fn layout_fault(circuit: &[u64], start: usize, at: usize, n: u64) -> usize {
-    if !is_kind(word(circuit, at)) {
+    if !is_kind(word_at(circuit, at)) {
         return at;
     }
     if first_why(circuit, start, at, n) != RIGHT {
@@ -172,19 +172,19 @@ fn is_near(kept: u64, k: u64) -> bool {
 
 // Question 8.
 pub fn range_fault(circuit: &[u64], b: Bounds, at: usize) -> usize {
-    let kind = word(circuit, at);
+    let kind = word_at(circuit, at);
     let first = after(at, 1);
     let value = after(at, 3);
     if kind == 4 {
         return at;
     }
-    if (kind == 5) & (b.polys <= word(circuit, first)) {
+    if (kind == 5) & (b.polys <= word_at(circuit, first)) {
         return first;
     }
-    if (kind == 5) & !is_near(word(circuit, value), b.k) {
+    if (kind == 5) & !is_near(word_at(circuit, value), b.k) {
         return value;
     }
-    if (kind == 6) & (b.user <= word(circuit, first)) {
+    if (kind == 6) & (b.user <= word_at(circuit, first)) {
         return first;
     }
     NONE

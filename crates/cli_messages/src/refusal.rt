@@ -1,6 +1,5 @@
 // Which question was answered no, where the first offending word stands, and what is wrong with it.
 use crate::question;
-use backend_sections::contents::word;
 use cli_faults::bounds::NONE;
 use cli_faults::fault::place_of;
 use cli_reasons::late;
@@ -10,6 +9,7 @@ use cli_reasons::section::section_of;
 use cli_reasons::starts;
 use cli_texts::files;
 use cli_texts::say;
+use lists::word_at;
 
 // The argument that names the circuit's file.
 const CIRCUIT: usize = 2;
@@ -25,8 +25,8 @@ fn node_word(part: u64) {
 }
 
 fn node_of(circuit: &[u64], at: u64) {
-    let start = word(circuit, 8);
-    if (start <= at) & (at < word(circuit, 10)) {
+    let start = word_at(circuit, 8);
+    if (start <= at) & (at < word_at(circuit, 10)) {
         let part = std::num::wrapping_sub_u64(at, start);
         say::error_count(b", node ", part / 4);
         node_word(part % 4);
@@ -47,7 +47,7 @@ fn offending(circuit: &[u64], no: u64, place: usize) {
     files::name(CIRCUIT);
     say::error(b": the first offending word is ");
     stands(place);
-    say::error_count(b", its value ", word(circuit, place));
+    say::error_count(b", its value ", word_at(circuit, place));
     say::error(b"; it stands in ");
     section_name(section_of(circuit, place as u64));
     if no > 4 {

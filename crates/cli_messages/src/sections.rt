@@ -1,9 +1,9 @@
 // What circuit words have, section by section.
-use backend_sections::contents::word;
 use cli_faults::bounds::Bounds;
 use cli_faults::bounds::bounds_of;
 use cli_faults::bounds::sum_of;
 use cli_texts::say;
+use lists::word_at;
 
 fn size(b: Bounds, stated: u64) {
     say::out(b"k is ");
@@ -24,15 +24,15 @@ fn two(first: &[u8], n: u64, second: &[u8], m: u64) {
 }
 
 fn columns(circuit: &[u64], b: Bounds) {
-    let instances = word(circuit, 3);
-    let values = sum_of(circuit, word(circuit, 2) as usize, 1, instances);
+    let instances = word_at(circuit, 3);
+    let values = sum_of(circuit, word_at(circuit, 2) as usize, 1, instances);
     two(
         b"instance columns: ",
         instances,
         b", values in all: ",
         values,
     );
-    say::line(b"preprocess columns: ", word(circuit, 5));
+    say::line(b"preprocess columns: ", word_at(circuit, 5));
     say::out(b"rounds: ");
     say::number(b.rounds);
     two(
@@ -48,9 +48,9 @@ fn expressions(circuit: &[u64], b: Bounds) {
     say::line(b"constraints: ", b.constraints);
     two(
         b"lookups: ",
-        word(circuit, 13),
+        word_at(circuit, 13),
         b", pairs in all: ",
-        word(circuit, 15),
+        word_at(circuit, 15),
     );
     two(b"cycles: ", b.lengths, b", cells in all: ", b.cells);
 }
@@ -58,7 +58,7 @@ fn expressions(circuit: &[u64], b: Bounds) {
 // The sections with their counts.
 pub fn sections(circuit: &[u64]) {
     let b = bounds_of(circuit);
-    size(b, word(circuit, 1));
+    size(b, word_at(circuit, 1));
     columns(circuit, b);
     expressions(circuit, b);
 }

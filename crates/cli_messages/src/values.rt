@@ -1,5 +1,4 @@
 // What questions 12, 13 and 16 found: lengths that are not the exact ones, values that are not below p.
-use backend_sections::contents::word;
 use backend_sections::words::is_element;
 use cli_faults::bounds::MODULUS;
 use cli_faults::bounds::NONE;
@@ -7,6 +6,7 @@ use cli_faults::bounds::bounds_of;
 use cli_faults::bounds::sum_of;
 use cli_texts::files;
 use cli_texts::say;
+use lists::word_at;
 
 // The arguments of build and of check that name the files.
 const BUILD_INSTANCE: usize = 3;
@@ -69,7 +69,7 @@ fn large(argument: usize, name: &[u8], words: &[u64]) -> bool {
     line(argument, at);
     say::error(name);
     say::error_count(b" word ", at as u64);
-    say::error_count(b" is ", word(words, at));
+    say::error_count(b" is ", word_at(words, at));
     say::error_count(
         b", at most p - 1, which is ",
         std::num::wrapping_sub_u64(MODULUS, 1),
@@ -89,7 +89,12 @@ fn witness_words(circuit: &[u64]) -> u64 {
 }
 
 fn instance_words(circuit: &[u64]) -> u64 {
-    sum_of(circuit, word(circuit, 2) as usize, 1, word(circuit, 3))
+    sum_of(
+        circuit,
+        word_at(circuit, 2) as usize,
+        1,
+        word_at(circuit, 3),
+    )
 }
 
 fn build_lengths(circuit: &[u64], instance: usize, witness: usize, challenges: usize, user: u64) {
@@ -165,7 +170,7 @@ pub fn sum_values(
     let second = lengths(CHECK_OUT, b"column", columns.len(), s.columns as u64);
     let third = lengths(CHECK_OUT, b"node", nodes.len(), s.nodes << 2);
     let fourth = lengths(CHECK_CHALLENGES, b"challenge", challenges.len(), user);
-    let fifth = lengths(CHECK_Y, b"y", y.len(), word(circuit, 0));
+    let fifth = lengths(CHECK_Y, b"y", y.len(), word_at(circuit, 0));
     if first | second | third | fourth | fifth {
         return;
     }

@@ -1,5 +1,4 @@
 // What is said of questions 5, 6 and 8 to 11.
-use backend_sections::contents::word;
 use cli_faults::bounds::Bounds;
 use cli_faults::bounds::MODULUS;
 use cli_faults::bounds::NONE;
@@ -11,6 +10,7 @@ use cli_faults::degrees::degree_of;
 use cli_faults::degrees::lookup_degree;
 use cli_faults::degrees::lookup_start;
 use cli_texts::say;
+use lists::word_at;
 
 // One less than a count.
 fn last(count: u64) -> u64 {
@@ -34,14 +34,14 @@ fn round_why(part: u64) {
 // Question 5.
 pub fn columns_why(circuit: &[u64], place: usize) {
     let b = bounds_of(circuit);
-    if (place as u64) < word(circuit, 4) {
-        say::error_count(b"instance column ", behind(place, word(circuit, 2)));
-        say::error_count(b" has ", word(circuit, place));
+    if (place as u64) < word_at(circuit, 4) {
+        say::error_count(b"instance column ", behind(place, word_at(circuit, 2)));
+        say::error_count(b" has ", word_at(circuit, place));
         say::error_count(b" values, at most ", last(b.rows));
         say::error(b"\n");
         return;
     }
-    round_why(behind(place, word(circuit, 6)));
+    round_why(behind(place, word_at(circuit, 6)));
 }
 
 // The column of a word of the preprocess columns.
@@ -55,8 +55,8 @@ fn column_of(part: u64, k: u64) -> u64 {
 // Question 6.
 pub fn value_why(circuit: &[u64], place: usize) {
     let b = bounds_of(circuit);
-    if (place as u64) < word(circuit, 6) {
-        let part = behind(place, word(circuit, 4));
+    if (place as u64) < word_at(circuit, 6) {
+        let part = behind(place, word_at(circuit, 4));
         say::error_count(b"preprocess column ", column_of(part, b.k));
         say::error_count(b", row ", part & last(b.rows));
     } else {
@@ -95,8 +95,8 @@ fn rotation_why(kept: u64, k: u64) {
 pub fn range_why(circuit: &[u64], place: usize) {
     let b = bounds_of(circuit);
     let part = std::num::wrapping_sub_usize(place, b.nodes_start) % 4;
-    let kind = word(circuit, std::num::wrapping_sub_usize(place, part));
-    let held = word(circuit, place);
+    let kind = word_at(circuit, std::num::wrapping_sub_usize(place, part));
+    let held = word_at(circuit, place);
     if part == 0 {
         say::error(b"kind 4, EqXY, stands in the composed expression only\n");
         return;
@@ -118,7 +118,7 @@ pub fn width_why(circuit: &[u64], place: usize) {
         say::error(b"there is no constraint, no lookup and no cycle, at least one is asked\n");
         return;
     }
-    say::error_count(b"lookup ", behind(place, word(circuit, 12)));
+    say::error_count(b"lookup ", behind(place, word_at(circuit, 12)));
     say::error(b" has width 0, at least 1 is asked\n");
 }
 
@@ -146,8 +146,8 @@ fn lookup_at(circuit: &[u64], b: Bounds, place: usize) -> u64 {
 // A lookup of too large a degree.
 fn lookup_why(circuit: &[u64], b: Bounds, place: usize) {
     let i = lookup_at(circuit, b, place);
-    let at = after(word(circuit, 12) as usize, i as usize);
-    let n = lookup_degree(circuit, b, place, word(circuit, at));
+    let at = after(word_at(circuit, 12) as usize, i as usize);
+    let n = lookup_degree(circuit, b, place, word_at(circuit, at));
     say::error_count(b"lookup ", i);
     degree(n, last(ABOVE));
     say::error(b", at most 1024\n");
@@ -156,14 +156,14 @@ fn lookup_why(circuit: &[u64], b: Bounds, place: usize) {
 // Question 10.
 pub fn degree_why(circuit: &[u64], place: usize) {
     let b = bounds_of(circuit);
-    let stated = word(circuit, 1);
+    let stated = word_at(circuit, 1);
     if b.pairs_start <= place {
         lookup_why(circuit, b, place);
         return;
     }
     let j = std::num::wrapping_sub_usize(place, b.constraints_start);
     say::error_count(b"constraint ", j as u64);
-    degree(degree_of(circuit, b, word(circuit, place)), 1024);
+    degree(degree_of(circuit, b, word_at(circuit, place)), 1024);
     if stated == 0 {
         say::error(b", at most 1024\n");
         return;
@@ -185,7 +185,7 @@ pub fn stood_before(circuit: &[u64], place: usize) -> usize {
 // Question 11, but for a cell that stood in its cycle before.
 pub fn cell_why(circuit: &[u64], place: usize) {
     let b = bounds_of(circuit);
-    let held = word(circuit, place);
+    let held = word_at(circuit, place);
     if place < b.cells_start {
         say::error_count(b"cycle ", behind(place, b.lengths_start as u64));
         say::error(b" has no cell, at least 1 is asked\n");

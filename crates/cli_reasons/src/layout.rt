@@ -1,5 +1,4 @@
 // What is said of question 7: a node's word that is not as its kind asks, a root that is none, a node not named exactly once.
-use backend_sections::contents::word;
 use cli_faults::bounds::Bounds;
 use cli_faults::bounds::after;
 use cli_faults::bounds::bounds_of;
@@ -16,6 +15,7 @@ use cli_faults::nodes::largest;
 use cli_faults::nodes::second_why;
 use cli_faults::nodes::value_why;
 use cli_texts::say;
+use lists::word_at;
 
 // A root, by its place.
 fn root(b: Bounds, place: usize) {
@@ -34,7 +34,7 @@ fn root(b: Bounds, place: usize) {
 
 // A root that is no node, or an Item.
 fn root_why(circuit: &[u64], b: Bounds, place: usize) {
-    let n = word(circuit, place);
+    let n = word_at(circuit, place);
     root(b, place);
     if n < b.nodes {
         say::error_count(b" is ", n);
@@ -139,8 +139,8 @@ fn node_why(circuit: &[u64], b: Bounds, place: usize) {
     let part = offset % 4;
     let n = (offset / 4) as u64;
     let at = std::num::wrapping_sub_usize(place, part);
-    let kind = word(circuit, at);
-    let held = word(circuit, place);
+    let kind = word_at(circuit, at);
+    let held = word_at(circuit, place);
     match part {
         0 => kind_why(circuit, b, n, kind),
         1 => word_why(

@@ -1,7 +1,7 @@
 // The section that a word of the circuit stands in, and its name.
-use backend_sections::contents::word;
 use cli_faults::bounds::after;
 use cli_texts::say;
+use lists::word_at;
 
 // The section that a word past the contents stands in, by the starts; 9 for the contents.
 pub fn section_of(circuit: &[u64], at: u64) -> u64 {
@@ -11,7 +11,7 @@ pub fn section_of(circuit: &[u64], at: u64) -> u64 {
     let mut next: usize = 4;
     let mut s: u64 = 0;
     while s < 8 {
-        if at < word(circuit, next) {
+        if at < word_at(circuit, next) {
             return s;
         }
         next = after(next, 2);

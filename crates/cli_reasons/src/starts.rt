@@ -1,7 +1,6 @@
 // What is said of questions 2 to 4: k, counts and sums with their limits, starts and lengths.
 use crate::section::section_name;
 use crate::section::section_of;
-use backend_sections::contents::word;
 use cli_faults::bounds::Bounds;
 use cli_faults::bounds::bounds_of;
 use cli_faults::bounds::sum_of;
@@ -9,10 +8,11 @@ use cli_faults::fault::begins;
 use cli_faults::fault::limit_of;
 use cli_faults::fault::widths_sum;
 use cli_texts::say;
+use lists::word_at;
 
 // Question 2.
 pub fn size_why(circuit: &[u64]) {
-    say::error_range(b"k: ", word(circuit, 0), 1, 10);
+    say::error_range(b"k: ", word_at(circuit, 0), 1, 10);
 }
 
 // What a word of the contents counts.
@@ -43,11 +43,11 @@ fn count_why(circuit: &[u64], at: usize) {
         late_count(at);
     }
     if at == 7 {
-        say::error_range(b": ", word(circuit, at), 1, 4);
+        say::error_range(b": ", word_at(circuit, at), 1, 4);
         return;
     }
     let more = (at == 1) as u64;
-    let count = std::num::wrapping_sub_u64(word(circuit, at), more);
+    let count = std::num::wrapping_sub_u64(word_at(circuit, at), more);
     let limit = std::num::wrapping_sub_u64(limit_of(at), more);
     say::error_two(b": ", count, b", at most ", limit);
 }
@@ -63,7 +63,7 @@ fn sum_why(name: &[u8], sum: u64, limit: u64) {
 }
 
 fn rounds_why(circuit: &[u64], b: Bounds, place: usize) {
-    let part = std::num::wrapping_sub_u64(place as u64, word(circuit, 6));
+    let part = std::num::wrapping_sub_u64(place as u64, word_at(circuit, 6));
     if part % 2 == 0 {
         sum_why(b"witness columns in all: ", b.witness, 32);
     } else {
@@ -84,9 +84,9 @@ pub fn limit_why(circuit: &[u64], place: usize) {
         return;
     }
     if s == 5 {
-        let lookup = std::num::wrapping_sub_u64(place as u64, word(circuit, 12));
+        let lookup = std::num::wrapping_sub_u64(place as u64, word_at(circuit, 12));
         say::error_count(b"width of lookup ", lookup);
-        say::error_two(b": ", word(circuit, place), b", at most ", 8);
+        say::error_two(b": ", word_at(circuit, place), b", at most ", 8);
         return;
     }
     let sum = sum_of(circuit, b.lengths_start, 1, b.lengths);
@@ -95,7 +95,7 @@ pub fn limit_why(circuit: &[u64], place: usize) {
 
 // Lookup pairs that are not as many as the widths say, or more than there are words.
 fn pairs_why(circuit: &[u64]) {
-    let pairs = word(circuit, 15);
+    let pairs = word_at(circuit, 15);
     if (circuit.len() as u64) < pairs {
         say::error_count(b"lookup pairs: ", pairs);
         say::error(b", more than the circuit has words\n");
@@ -123,7 +123,7 @@ pub fn start_why(circuit: &[u64], place: usize) {
     }
     let s = std::num::wrapping_sub_u64(place as u64, 2) / 2;
     say::error_count(b"word ", place as u64);
-    say::error_count(b" is ", word(circuit, place));
+    say::error_count(b" is ", word_at(circuit, place));
     say::error_count(b", expected ", begins(circuit, s));
     say::error(b" (the start of ");
     section_name(s);

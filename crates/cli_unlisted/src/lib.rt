@@ -1,7 +1,6 @@
 // Which readings question 15 finds in no row of their table: how many there are, and of the first the lookup, the row, its place in
 // the row order, and the values of the lookup's input expressions. For messages: proved safe and ending.
 use backend_questions::first_no;
-use backend_sections::contents::word;
 use bh::rotations::place_of;
 use expression::poly::Layout;
 use expression::value::Point;
@@ -13,6 +12,7 @@ use hyperplonk_prepare::copied_of;
 use hyperplonk_prepare::inputs::question_12;
 use hyperplonk_prepare::needed::column_words;
 use hyperplonk_prepare::numbers;
+use lists::word_at;
 ghost use mathlib.Core.Path.{_≡_};
 ghost use mathlib.Core.Logic.{_≢_};
 ghost use mathlib.Core.Bool.{true, false};
@@ -170,11 +170,11 @@ fn see_all(columns: &[u64], lookups: usize, compressed: usize, rows: usize) -> S
 
 // Where the input of a lookup's first pair stands.
 fn pair_at(circuit: &[u64], lookup: usize) -> usize {
-    let mut at = word(circuit, 14) as usize;
-    let mut width = word(circuit, 12) as usize;
+    let mut at = word_at(circuit, 14) as usize;
+    let mut width = word_at(circuit, 12) as usize;
     let mut j: usize = 0;
     while j < lookup {
-        let pairs = word(circuit, width) as usize;
+        let pairs = word_at(circuit, width) as usize;
         at = after(after(at, pairs), pairs);
         width = after(width, 1);
         j += 1;
@@ -194,8 +194,8 @@ fn value_of<'a>(
 ) -> u64
     requires { ⌜ Small layout × Placed point ⌝ }
 {
-    let start = word(circuit, 8) as usize;
-    let end = word(circuit, 10) as usize;
+    let start = word_at(circuit, 8) as usize;
+    let end = word_at(circuit, 10) as usize;
     let n = root as usize;
     if end > circuit.len() {
         return 0;
@@ -241,7 +241,7 @@ fn values_of<'a>(
             challenges,
             layout,
             point,
-            word(circuit, at),
+            word_at(circuit, at),
         );
         at = after(at, 2);
         i += 1;
@@ -261,8 +261,8 @@ fn first_at<'a>(
 ) -> Unlisted
     requires { ⌜ Small layout × Placed point ⌝ }
 {
-    let widths = word(circuit, 12) as usize;
-    let width = word(circuit, after(widths, seen.lookup)) as usize;
+    let widths = word_at(circuit, 12) as usize;
+    let width = word_at(circuit, after(widths, seen.lookup)) as usize;
     let values = values_of(
         circuit,
         witness,
@@ -295,7 +295,7 @@ fn first_of<'a>(
     requires { ⌜ Accepted (now circuit) ⌝ }
 {
     let layout = layout_of(circuit);
-    let k = word(circuit, 0) as usize;
+    let k = word_at(circuit, 0) as usize;
     let row = seen.row;
     if seen.count == 0 {
         return none();
@@ -351,8 +351,8 @@ fn filled<'a>(
         return none();
     }
     fill(circuit, instance, witness, challenges, columns, count);
-    let named = after(word(circuit, 3) as usize, count);
-    let compressed = times_rows(named, word(circuit, 0));
+    let named = after(word_at(circuit, 3) as usize, count);
+    let compressed = times_rows(named, word_at(circuit, 0));
     let seen = see_all(columns, v.lookups, compressed, v.rows);
     first_of(circuit, witness, columns, challenges, seen)
 }

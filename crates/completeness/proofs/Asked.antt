@@ -11,16 +11,13 @@ use Rattle.field.specs.Prime.{P}
 use Rattle.lists.specs.Lists.{total, allOf, askedOf, firstNo, All}
 use Rattle.lists.proofs.Tests.{all-each, and-left, and-right, same-words}
 use Rattle.lists.proofs.All.{all-from, all-join}
-use Rattle.lists.proofs.First.{first-yes, Numbered, first-append, first-both, first-of, numbered-of}
+use Rattle.lists.proofs.First.{first-yes, first-append, first-both, first-of, numbered-of}
 use Rattle.backend.specs.Circuit.{circuitOf, rowsOf, numWitness, numUser}
 use Rattle.backend.specs.Questions.{circuitQuestions, small}
+use Rattle.backend.proofs.Passed.{numbered}
 use Rattle.preprocessor.specs.Compose.{composedWords}
 use Rattle.hyperplonk_spec.specs.Build.{Lent, buildQuestions, checkBuild, columnWords, q12, q13}
 use Rattle.hyperplonk_spec.specs.RowSum.{LentSum, sumQuestions, checkSum, q16}
-
-pub numbered : All Numbered circuitQuestions
-unfolding circuitQuestions
-numbered = omega arith
 
 -- ---- words below p
 pub smalls : (ws : List ℕ) → allOf small ws ≡ true → All (λ w. w < P) ws

@@ -14,6 +14,7 @@ use Rattle.expression.specs.Expr.{Expr}
 use Rattle.expression.specs.Nodes.{exprOf}
 use Rattle.expression.specs.Value.{valueAt}
 use Rattle.backend.specs.Circuit.{circuitOf, rowsOf, numUser}
+use Rattle.backend.proofs.Passed.{yes-all}
 use Rattle.preprocessor.specs.Compose.{compose, composedWords, composedNodes}
 use Rattle.prover.specs.Log.{Log}
 use Rattle.prover.specs.Columns.{allCovered, writtenPolys, composedEnvironment}
@@ -26,7 +27,7 @@ use Rattle.field.proofs.Elements.{val-zero}
 use Rattle.hyperplonk_spec.proofs.Embeds.{embeds}
 use Rattle.hyperplonk_spec.proofs.Building.{columns-length, fifteen-by, built-by, written-by}
 use Rattle.hyperplonk_spec.proofs.ReadsBack.{reads-back}
-use Rattle.completeness.proofs.Passed.{yes-all, k-small}
+use Rattle.completeness.proofs.Passed.{k-small}
 use Rattle.completeness.proofs.Asked.{Lending, lending, sum-yes}
 use Rattle.completeness.proofs.RowSumReads.{lent-value}
 use Rattle.completeness.proofs.DemandThreeOf.{demand-3-of, concluded}

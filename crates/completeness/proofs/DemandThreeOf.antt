@@ -15,12 +15,13 @@ use Rattle.expression.specs.Value.{valueAt}
 use Rattle.backend.specs.Circuit.{Circuit, numCopied}
 use Rattle.backend.specs.Constraints.{lookupConstraints}
 use Rattle.backend.specs.Questions.{q11}
+use Rattle.backend.proofs.Passed.{Yes, yes-all}
 use Rattle.preprocessor.specs.Compose.{numZ, startConstraint, partConstraint, permutationConstraints, composedConstraints}
 use Rattle.prover.specs.Log.{Log}
 use Rattle.prover.specs.Columns.{allCovered, composedEnvironment}
 use Rattle.hyperplonk_spec.specs.Meaning.{Admitted, EachRow, Premises, Conclusions, Demand3Of, DemandThreeOf}
 use Rattle.completeness.proofs.Counts.{refused-when, m-sums, h-sums}
-use Rattle.completeness.proofs.Passed.{Yes, yes-all, k-pos, k-small}
+use Rattle.completeness.proofs.Passed.{k-pos, k-small}
 use Rattle.completeness.proofs.ComposedZero.{user-zeros, lookup-zeros, composed-zero}
 use Rattle.completeness.proofs.PermutationZero.{start-zeros, part-zeros}
 

@@ -18,11 +18,11 @@ use Rattle.lists.proofs.Searches.{count-le}
 use Rattle.backend.specs.Circuit.{Section, wordK, entries, bodyOf, pairAt, Circuit, circuitOf, rowsOf, numUser, numPoly, numLookups, numCopied, copied, copiedIn}
 use Rattle.backend.specs.Questions.{largestK}
 use Rattle.backend.proofs.Sections.{body-length}
+use Rattle.backend.proofs.Passed.{Yes, yes-all}
 use Rattle.prover.specs.Log.{Log}
 use Rattle.hyperplonk_spec.specs.Build.{logOf, checkBuild}
 use Rattle.hyperplonk_spec.specs.Meaning.{Premises}
 use Rattle.hyperplonk_spec.specs.Insurer.{drawn, denominators, Good, NoneZero, Passes, FewTurnedAway, OddsLimit}
-use Rattle.completeness.proofs.Passed.{Yes, yes-all}
 use Rattle.completeness.proofs.Asked.{lending}
 use Rattle.completeness.proofs.GoodLog.{good-log}
 use Rattle.completeness.proofs.Odds.{unlucky, few, none-when}

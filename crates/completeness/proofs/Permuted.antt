@@ -25,6 +25,7 @@ use Rattle.backend.specs.Circuit.{Circuit, Cell, circuitOf, sameCell, rowsOf, n
 use Rattle.backend.specs.Questions.{q11}
 use Rattle.backend.proofs.Cells.{same-cell}
 use Rattle.backend.proofs.Numbers.{polys}
+use Rattle.backend.proofs.Passed.{yes-all}
 use Rattle.preprocessor.specs.Permutation.{lastCell, beforeFrom, before, source, firstLabel}
 use Rattle.preprocessor.proofs.Cycles.{source-all}
 use Rattle.preprocessor.proofs.Labels.{cell-number, cell-placed}
@@ -35,7 +36,6 @@ use Rattle.hyperplonk_spec.specs.Copies.{copiedCell, IsCopied, σ, IsPermutatio
 use Rattle.hyperplonk_spec.proofs.Embeds.{embeds, embeds-num}
 use Rattle.completeness.proofs.CellNumbers.{Placed, number-in, same-true, source-agree}
 use Rattle.completeness.proofs.CycleNumbers.{cycles-good}
-use Rattle.completeness.proofs.Passed.{yes-all}
 use Rattle.completeness.proofs.DemandThreeOf.{k-below-21}
 use Rattle.completeness.proofs.Plonk.{source-apart}
 

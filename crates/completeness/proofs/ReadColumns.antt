@@ -29,6 +29,7 @@ use Rattle.backend.specs.Circuit.{
   zNumber,
 }
 use Rattle.backend.specs.Constraints.{betaOf, inputsOf, tablesOf}
+use Rattle.backend.proofs.Passed.{yes-all}
 use Rattle.preprocessor.specs.Compose.{numZ, identityFactor, permutationFactor}
 use Rattle.prover.specs.Log.{Log}
 use Rattle.prover.specs.Columns.{powerSum, givenPolys, userEnvironment, compressedAt, inputAt, tableAt, mAt, lookupHAt, permutationAt, copiedAt, identityFactorAt, permutationFactorAt, zAt, permutationPolys, mPolys, hPolys, zPolys, allPolys, composedEnvironment}
@@ -38,7 +39,7 @@ use Rattle.hyperplonk_spec.specs.Meaning.{Admitted}
 use Rattle.hyperplonk_spec.specs.Composed.{inputIn, tableIn, ReadAs}
 use Rattle.hyperplonk_spec.proofs.Powers.{powers-value}
 use Rattle.completeness.specs.Scope.{userScope, Scoped}
-use Rattle.completeness.proofs.Passed.{yes-all, constraints-scoped, lookups-scoped}
+use Rattle.completeness.proofs.Passed.{constraints-scoped, lookups-scoped}
 
 -- ---- circuits
 pub copied-below : (c : Circuit) → All (λ q. q < numPoly c) (copied c)

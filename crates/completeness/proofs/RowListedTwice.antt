@@ -18,6 +18,7 @@ use Rattle.lists.proofs.Walks.{entry-inside}
 use Rattle.identities.proofs.Totals.{upTo-cong}
 use Rattle.expression.specs.Value.{polyOf}
 use Rattle.backend.specs.Circuit.{Pair, Circuit, circuitOf, rowsOf, numInstance, numCopied, numLookups}
+use Rattle.backend.proofs.Passed.{yes-all}
 use Rattle.prover.specs.Lookup.{Turns, same, covered, multiplicity, sumRows}
 use Rattle.prover.specs.Log.{Log}
 use Rattle.prover.specs.Columns.{inputAt, tableAt, countAt, mAt, lookupHAt, allCovered, instancePolys, permutationPolys, compressedPolys, mPolys, hPolys, writtenPolys}
@@ -28,7 +29,7 @@ use Rattle.hyperplonk_spec.specs.Papers.{fraction, paperH}
 use Rattle.hyperplonk_spec.specs.Insurer.{mWord, hWord, CountsUnspoilt, RowListedTwice}
 use Rattle.hyperplonk_spec.proofs.Building.{built-by}
 use Rattle.hyperplonk_spec.proofs.Embeds.{embeds}
-use Rattle.completeness.proofs.Passed.{yes-all, k-small}
+use Rattle.completeness.proofs.Passed.{k-small}
 use Rattle.completeness.proofs.Asked.{lending}
 use Rattle.completeness.proofs.Counts.{covered-each, counts-sum, h-sums}
 use Rattle.completeness.proofs.Habock.{counts-turn, same-totals, is-habock-h, habock-identity, shared-identity}

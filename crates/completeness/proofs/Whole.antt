@@ -21,7 +21,8 @@ use Rattle.hyperplonk_spec.specs.declared.Built.{Built}
 use Rattle.hyperplonk_spec.specs.declared.RowSum.{RowSum}
 use Rattle.hyperplonk_spec.specs.Meaning.{Premises}
 use Rattle.hyperplonk_spec.specs.Demand.{Succeeds, Demand3}
-use Rattle.completeness.proofs.Asked.{Lending, numbered, lending}
+use Rattle.backend.proofs.Passed.{numbered}
+use Rattle.completeness.proofs.Asked.{Lending, lending}
 use Rattle.completeness.proofs.DemandThree.{demand-three-at}
 use Rattle.hyperplonk_spec.specs.BuildAndSum.{beforeAlpha, alphaOf, Left, sized, buildAndSumOf}
 use Rattle.completeness.specs.DemandWhole.{Concluded, Demanded, DemandThreeWhole}

@@ -7,7 +7,7 @@ use Rattle.field.specs.Algebra.{Field}
 use Rattle.bh.specs.Rows.{rotated, lagrangeRow}
 use Rattle.expression.specs.Expr.{Expr}
 use Rattle.expression.specs.Value.{Environment, polyOf, valueOps, valueAt}
-use Rattle.expression.proofs.Within.{Scope, Within}
+use Rattle.expression.specs.Within.{Scope, Within}
 use Rattle.expression.proofs.Evaluate.{evaluate-related}
 
 module _ (𝓕 : Field) (S : Scope) (s t : Environment 𝓕) (b : ℕ) where

@@ -8,7 +8,8 @@ use lib.IntN.{ℤ}
 use Rattle.lists.specs.Lists.{All}
 use Rattle.lists.proofs.All.{all-join}
 use Rattle.expression.specs.Expr.{Expr, Exprs, Ops, running, evaluate, spread, values, collectOps}
-use Rattle.expression.proofs.Within.{Scope, anything, Within, WithinAll, within-anything}
+use Rattle.expression.specs.Within.{Scope, Within, WithinAll}
+use Rattle.expression.proofs.Within.{anything, within-anything}
 
 module _ {A B : Type 0} (S : Scope) (o : Ops A) (q : Ops B) (R : A → B → Type 0) where
   -- the functions keep R: on leaves, where they are within the scope

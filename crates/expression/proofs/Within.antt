@@ -1,13 +1,12 @@
--- Expressions all of whose Lagrange numbers, EqXYs, queries and challenges have a property; and when those read from node
--- words are such. Assumes nothing.
+-- Expressions that name only what they may: lists, products and those read from node words. Assumes nothing.
 use mathlib.Core.Bool.{Bool, true, false}
 use mathlib.Core.List.{List, [], _∷_}
 use Prim.Native.Nat.{ℕ, zero, suc, _<_}
 use native.Mathlib.Omega.{arith}
 use lib.Dec.{T, ltb, eqb, ltb→lt}
-use lib.IntN.{ℤ}
 use Rattle.lists.specs.Lists.{All}
 use Rattle.expression.specs.Expr.{Expr, Exprs, exprsOf, distributePowers, productFrom, productOf}
+use Rattle.expression.specs.Within.{Scope, Within, WithinAll}
 use Rattle.expression.specs.Nodes.{
   wordOf,
   signed,
@@ -23,54 +22,29 @@ use Rattle.expression.specs.Nodes.{
   exprOf,
 }
 
--- what an expression may name
-pub record Scope : Type 1 where
-  pub lagrange : ℤ → Type 0
-  pub eqXY : ℕ → Type 0
-  pub poly : ℕ → ℤ → Type 0
-  pub challenge : ℕ → Type 0
-
 -- anything
 abbrev pub anything : Scope
 anything = record { lagrange = λ i. Unit {0}; eqXY = λ i. Unit {0}; poly = λ q r. Unit {0}; challenge = λ i. Unit {0} }
 
 module _ (S : Scope) where
-  abbrev mutual
-    pub Within : Expr → Type 0
-    Within (Expr.constant v) = Unit {0}
-    Within Expr.identity = Unit {0}
-    Within (Expr.lagrange i) = S .lagrange i
-    Within (Expr.eqXY i) = S .eqXY i
-    Within (Expr.poly q r) = S .poly q r
-    Within (Expr.challenge i) = S .challenge i
-    Within (Expr.negated a) = Within a
-    Within (Expr.sum a b) = Within a × Within b
-    Within (Expr.product a b) = Within a × Within b
-    Within (Expr.scaled a v) = Within a
-    Within (Expr.powers es b) = WithinAll es × Within b
-
-    pub WithinAll : Exprs → Type 0
-    WithinAll (Exprs.last e) = Within e
-    WithinAll (Exprs.more e es) = Within e × WithinAll es
-
   -- ---- lists of expressions
-  exprs-within : (e : Expr) (es : List Expr) → Within e → All Within es → WithinAll (exprsOf e es)
+  exprs-within : (e : Expr) (es : List Expr) → Within S e → All (Within S) es → WithinAll S (exprsOf e es)
   unfolding exprsOf
   exprs-within e [] a b = a
   exprs-within e (f ∷ es) a b = (a, exprs-within f es (b .0) (b .1))
 
-  pub powers-within : (es : List Expr) (base : Expr) → All Within es → Within base → Within (distributePowers es base)
+  pub powers-within : (es : List Expr) (base : Expr) → All (Within S) es → Within S base → Within S (distributePowers es base)
   unfolding distributePowers
   powers-within [] base a b = tt
   powers-within (e ∷ []) base a b = a .0
   powers-within (e ∷ (f ∷ es)) base a b = (exprs-within e (f ∷ es) (a .0) (a .1), b)
 
-  from-within : (e : Expr) (es : List Expr) → Within e → All Within es → Within (productFrom e es)
+  from-within : (e : Expr) (es : List Expr) → Within S e → All (Within S) es → Within S (productFrom e es)
   unfolding productFrom
   from-within e [] a b = a
   from-within e (f ∷ es) a b = from-within (Expr.product e f) es (a, b .0) (b .1)
 
-  pub product-within : (es : List Expr) → All Within es → Within (productOf es)
+  pub product-within : (es : List Expr) → All (Within S) es → Within S (productOf es)
   unfolding productOf
   product-within [] a = tt
   product-within (e ∷ es) a = from-within e es (a .0) (a .1)
@@ -92,9 +66,9 @@ module _ (S : Scope) where
   NodeWithin Kind.isItem a b v = Unit {0}
   NodeWithin Kind.isNone a b v = Unit {0}
 
-  node-within : (k : Kind) (e : ℕ → Expr) (i : ℕ → Exprs) (a b v : ℕ) → NodeWithin k a b v → ((c : ℕ) → Within (e c))
-      → ((c : ℕ) → WithinAll (i c))
-      → Within (nodeOf k e i a b v)
+  node-within : (k : Kind) (e : ℕ → Expr) (i : ℕ → Exprs) (a b v : ℕ) → NodeWithin k a b v → ((c : ℕ) → Within S (e c))
+      → ((c : ℕ) → WithinAll S (i c))
+      → Within S (nodeOf k e i a b v)
   unfolding nodeOf
   node-within Kind.isConstant e i a b v w p q = tt
   node-within Kind.isIdentity e i a b v w p q = tt
@@ -110,8 +84,8 @@ module _ (S : Scope) where
   node-within Kind.isItem e i a b v w p q = tt
   node-within Kind.isNone e i a b v w p q = tt
 
-  item-within : (t : Bool) (e : ℕ → Expr) (i : ℕ → Exprs) (a b : ℕ) → ((c : ℕ) → Within (e c)) → ((c : ℕ) → WithinAll (i c))
-      → WithinAll (itemOf t e i a b)
+  item-within : (t : Bool) (e : ℕ → Expr) (i : ℕ → Exprs) (a b : ℕ) → ((c : ℕ) → Within S (e c)) → ((c : ℕ) → WithinAll S (i c))
+      → WithinAll S (itemOf t e i a b)
   unfolding itemOf
   item-within true e i a b p q = p a
   item-within false e i a b p q = (p a, q b)
@@ -131,21 +105,21 @@ module _ (S : Scope) where
     mutual
       unfolding exprAt
 
-      at-within : (fuel i : ℕ) → i < n → Within (exprAt fuel ws i)
+      at-within : (fuel i : ℕ) → i < n → Within S (exprAt fuel ws i)
       at-within zero i l = tt
       at-within (suc fuel) i l =
           node-within (kindOf (wordOf ws i 0)) _ _ (wordOf ws i 1) (wordOf ws i 2) (wordOf ws i 3) (ok i l)
-          (λ c. guard-within Within n i noExpr (λ u. exprAt fuel ws u) c l tt (λ u m. at-within fuel u m))
-          (λ c. guard-within WithinAll n i noExprs (λ u. itemsAt fuel ws u) c l tt (λ u m. items-within fuel u m))
+          (λ c. guard-within (Within S) n i noExpr (λ u. exprAt fuel ws u) c l tt (λ u m. at-within fuel u m))
+          (λ c. guard-within (WithinAll S) n i noExprs (λ u. itemsAt fuel ws u) c l tt (λ u m. items-within fuel u m))
 
-      items-within : (fuel i : ℕ) → i < n → WithinAll (itemsAt fuel ws i)
+      items-within : (fuel i : ℕ) → i < n → WithinAll S (itemsAt fuel ws i)
       items-within zero i l = tt
       items-within (suc fuel) i l =
           item-within (eqb (wordOf ws i 3) 0) _ _ (wordOf ws i 1) (wordOf ws i 2)
-          (λ c. guard-within Within n i noExpr (λ u. exprAt fuel ws u) c l tt (λ u m. at-within fuel u m))
-          (λ c. guard-within WithinAll n i noExprs (λ u. itemsAt fuel ws u) c l tt (λ u m. items-within fuel u m))
+          (λ c. guard-within (Within S) n i noExpr (λ u. exprAt fuel ws u) c l tt (λ u m. at-within fuel u m))
+          (λ c. guard-within (WithinAll S) n i noExprs (λ u. itemsAt fuel ws u) c l tt (λ u m. items-within fuel u m))
 
-    pub read-within : (i : ℕ) → i < n → Within (exprOf ws i)
+    pub read-within : (i : ℕ) → i < n → Within S (exprOf ws i)
     unfolding exprOf
     read-within i l = at-within (suc i) i l
 

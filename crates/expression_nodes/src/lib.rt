@@ -6,7 +6,7 @@ use bh::Rotation;
 use expression::node::Node;
 ghost use mathlib.Core.Path.{_≡_};
 ghost use Prim.Native.Nat.{ℕ, _+_, _*_, _^_, _≤_, _<_, _%_};
-ghost use lib.ListN.{length, getD};
+ghost use lib.ListN.{length};
 ghost use lib.IntN.{pos, negℤ, natAbs};
 ghost use Rattle.bh.specs.Rows.{rotated};
 ghost use Rattle.expression.specs.Nodes.{signed};
@@ -28,16 +28,6 @@ pub fn read_node(ws: &[u64], n: usize) -> Node
         second,
         value,
     }
-}
-
-// Word i, 0 where there is none.
-pub fn word_at(ws: &[u64], i: usize) -> u64
-    ensures { λ r. ⌜ r ≡ getD (now (ws .entry)) i 0 ⌝ }
-{
-    if i < ws.len() {
-        return ws[i];
-    }
-    0
 }
 
 pub fn index(x: u64) -> usize

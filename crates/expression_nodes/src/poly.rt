@@ -1,7 +1,7 @@
 // The value of a polynomial at a row, from the three places where polynomials stand.
 use crate::index;
-use crate::word_at;
 use expression::poly::Layout;
+use lists::word_at;
 ghost use mathlib.Core.Path.{_≡_};
 ghost use Prim.Native.Nat.{_+_, _*_, _≤_, _<_};
 ghost use lib.ListN.{getD};

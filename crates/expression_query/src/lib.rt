@@ -1,5 +1,4 @@
 // The queries of an expression (Rust `used_query`), from its node words.
-use bh::Rotation;
 use expression_nodes::index;
 use expression_nodes::read_node;
 ghost use mathlib.Core.Path.{_≡_};
@@ -8,26 +7,10 @@ ghost use Prim.Native.Nat.{_+_, _-_, _*_, _≤_, _<_};
 ghost use lib.Dec.{eqb, leb};
 ghost use lib.ListN.{length};
 ghost use Rattle.lists.specs.Lists.{written};
-ghost use Rattle.expression.specs.Expr.{evaluate, spread, rest, usedQuery};
-ghost use Rattle.expression.specs.Nodes.{signed, kept, exprOf, itemsOf, under, noExpr};
+ghost use Rattle.expression.specs.Expr.{evaluate, spread, rest};
+ghost use Rattle.expression.specs.Nodes.{exprOf, itemsOf, under, noExpr};
 ghost use Rattle.expression.specs.Walks.{usedOps};
 ghost use Rattle.expression.specs.Queries.{queryOf, usedQueries, queriesInto};
-
-// The word that keeps a rotation.
-pub fn kept_word(rotation: Rotation) -> u64
-    ensures { λ r. ⌜ (r ≡ kept (rotation .0)) × (signed r ≡ rotation .0) ⌝ }
-{
-    let n = rotation.0;
-    ((n as i64) + 2147483648) as u64
-}
-
-// Is the query of a polynomial and a rotation used at node n?
-pub fn used_query(ws: &[u64], n: usize, polynomial: u64, rotation: Rotation) -> bool
-    requires { ⌜ n * 4 + 4 ≤ length (now ws) ⌝ }
-    ensures { λ r. ⌜ r ≡ usedQuery (exprOf (now (ws .entry)) n) (record { polynomial = polynomial; rotation = rotation .0 }) ⌝ }
-{
-    node_uses(ws, n, polynomial, kept_word(rotation))
-}
 
 fn either(a: bool, b: bool) -> bool
     ensures { λ r. ⌜ r ≡ (a || b) ⌝ }

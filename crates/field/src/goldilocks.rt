@@ -2,7 +2,6 @@
 // operation reduces what it must, and `to_u64` gives the number below p. `word` promises no more than some word of the element.
 use crate::invert_u64;
 use crate::neg_u64;
-use crate::pow_u64;
 use crate::product_word;
 use crate::reduce_u64;
 use crate::sub_u64;
@@ -10,7 +9,6 @@ use crate::sum_word;
 ghost use mathlib.Core.Path.{_≡_};
 ghost use Prim.Native.Nat.{_<_};
 ghost use lib.ListN.{length, getD};
-ghost use Rattle.field.specs.Algebra.{pow};
 ghost use Rattle.field.specs.Field.{𝔾, el, val};
 ghost use Rattle.field.specs.Parse.{parsed};
 ghost use Rattle.field.specs.Element.{elem, isZero};
@@ -115,13 +113,6 @@ impl Goldilocks {
         ensures { λ r. ⌜ elem r ≡ 𝔾 .mul (elem self) (elem b) ⌝ }
     {
         Goldilocks(product_word(self.0, b.0))
-    }
-
-    // self to the power e.
-    pub fn pow(self, e: u64) -> Goldilocks
-        ensures { λ r. ⌜ elem r ≡ pow 𝔾 (elem self) e ⌝ }
-    {
-        Goldilocks(pow_u64(self.0, e))
     }
 
     // The inverse, and 0 for 0.

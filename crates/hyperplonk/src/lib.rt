@@ -11,7 +11,7 @@ ghost use mathlib.Core.Path.{_≡_};
 ghost use Rattle.hyperplonk_spec.specs.Build.{Output, buildOf};
 ghost use Rattle.hyperplonk_spec.specs.Demand.{DemandThreeAt};
 ghost use Rattle.hyperplonk_spec.specs.RowSum.{rowSumOf};
-ghost use Rattle.hyperplonk_row_sum.specs.Told.{Told};
+ghost use Rattle.hyperplonk_spec.specs.RowSumClaim.{RowSumClaim};
 
 // The building call.
 pub fn build<'a>(
@@ -38,7 +38,7 @@ pub fn row_sum<'a>(
     y: &[u64],
 ) -> RowSum
     ensures { λ r. ⌜ r ≡ rowSumOf (now (circuit .entry)) (now (witness .entry)) (now (columns .entry)) (now (nodes .entry)) (now (challenges .entry)) (now (y .entry)) ⌝ }
-    ensures told { λ r. ⌜ Told (now (circuit .entry)) (now (witness .entry)) (now (columns .entry)) (now (nodes .entry)) (now (challenges .entry)) (now (y .entry)) r ⌝ }
+    ensures told { λ r. ⌜ RowSumClaim (now (circuit .entry)) (now (witness .entry)) (now (columns .entry)) (now (nodes .entry)) (now (challenges .entry)) (now (y .entry)) r ⌝ }
 {
     hyperplonk_row_sum::row_sum(circuit, witness, columns, nodes, challenges, y)
 }

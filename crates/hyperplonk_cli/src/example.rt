@@ -4,9 +4,9 @@ use crate::cuts::cuts_of;
 use crate::readings::tell;
 use crate::shape::shape_of;
 use crate::verdict::verdict;
-use backend_sections::contents::word;
 use cli_messages::say;
 use cli_unlisted::find;
+use lists::word_at;
 
 // Polynomials: 0 the approved table, 1 the readings, 2 the sheet's settings, 3 the knee's. The lookup is polynomial 1 in 0; the
 // cycles are (2, row 1), (3, row 3) and (2, row 2), (3, row 5).
@@ -39,13 +39,13 @@ const Z: usize = 48;
 // A row: its number, the table, the reading, the settings, m, h and z.
 fn show_row<'a>(circuit: &'a [u64], witness: &'a [u64], columns: &'a [u64], row: usize) {
     say::padded(row as u64, 3);
-    say::padded(word(circuit, after(20, row)), 10);
-    say::padded(word(witness, row), 9);
-    say::padded(word(witness, after(8, row)), 7);
-    say::padded(word(witness, after(16, row)), 6);
-    say::padded(word(columns, after(M, row)), 3);
-    say::padded(word(columns, after(H, row)), 22);
-    say::padded(word(columns, after(Z, row)), 22);
+    say::padded(word_at(circuit, after(20, row)), 10);
+    say::padded(word_at(witness, row), 9);
+    say::padded(word_at(witness, after(8, row)), 7);
+    say::padded(word_at(witness, after(16, row)), 6);
+    say::padded(word_at(columns, after(M, row)), 3);
+    say::padded(word_at(columns, after(H, row)), 22);
+    say::padded(word_at(columns, after(Z, row)), 22);
     say::out(b"\n");
 }
 
@@ -65,7 +65,7 @@ fn column_sum(columns: &[u64], start: usize) -> u64 {
     let mut sum: u64 = 0;
     let mut row: usize = 0;
     while row < 8 {
-        sum = field::add_u64(sum, word(columns, after(start, row)));
+        sum = field::add_u64(sum, word_at(columns, after(start, row)));
         row += 1;
     }
     sum

@@ -36,7 +36,7 @@ fn put_words(line: &mut [u8], words: &[u64], from: usize, count: usize) -> usize
     let mut j: usize = 0;
     while j < count {
         let i = std::num::wrapping_add_usize(from, j);
-        at = put_number(line, at, backend_sections::contents::word(words, i));
+        at = put_number(line, at, lists::word_at(words, i));
         j += 1;
     }
     put(line, at, b"\n")

@@ -51,7 +51,7 @@ fn accepted(circuit: &[u64], count: usize, of: [u64; 72]) -> Shape
     let v = numbers(circuit, count);
     let words = column_words(circuit, v);
     let nodes = composed_nodes(circuit, v);
-    let instances = backend_sections::contents::word(circuit, 3);
+    let instances = lists::word_at(circuit, 3);
     Shape {
         no: 0,
         instances: instances as usize,

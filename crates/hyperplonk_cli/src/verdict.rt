@@ -1,8 +1,8 @@
 // What a sum says of a log, and what it does not say for weak challenges.
 use crate::cuts;
 use crate::cuts::Cuts;
-use backend_sections::contents::word;
 use cli_messages::say;
+use lists::word_at;
 
 // Why a sum may be other than 0.
 fn other(fd: i32, c: Cuts) {
@@ -42,12 +42,12 @@ fn is_row(y: &[u64]) -> bool {
 
 // Challenges that hide faults. They are the user's, beta, gamma and alpha.
 pub fn notes<'a>(challenges: &'a [u64], y: &'a [u64], user: usize) {
-    if word(challenges, user) == 0 {
+    if word_at(challenges, user) == 0 {
         say::out(
             b"note: beta is 0: no copy is looked at, and of each lookup only the first expression\n",
         );
     }
-    if word(challenges, std::num::wrapping_add_usize(user, 2)) == 0 {
+    if word_at(challenges, std::num::wrapping_add_usize(user, 2)) == 0 {
         say::out(
             b"note: alpha is 0: only the first part of the composed expression is looked at\n",
         );

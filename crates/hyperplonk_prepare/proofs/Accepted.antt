@@ -25,6 +25,7 @@ use Rattle.backend.specs.Questions.{roundsGood, atMost, q5, q7, q10}
 use Rattle.backend.specs.Laid.{Laid, Counted}
 use Rattle.backend.proofs.Sections.{body-length}
 use Rattle.backend.proofs.Numbers.{polys}
+use Rattle.backend.proofs.Passed.{Yes, yes-all}
 use Rattle.backend.proofs.Degree.{all-most, root-in, left-roots, right-roots, least-high, least-low}
 use Rattle.preprocessor.specs.Compose.{numZ}
 use Rattle.preprocessor.specs.Permutation.{Walkable}
@@ -32,7 +33,6 @@ use Rattle.preprocessor.specs.Pieces.{numbersOf, IsNode, Limits, Words, Handed,
 use Rattle.preprocessor.proofs.Copied.{walkable, cells-of}
 use Rattle.preprocessor.proofs.Composed.{circuit-pieces}
 use Rattle.prover.specs.Lent.{Given}
-use Rattle.completeness.proofs.Passed.{Yes, yes-all}
 use Rattle.hyperplonk_prepare.specs.Prepared.{Accepted, layoutOf}
 
 pub answers : (ws : List ℕ) → Accepted ws → Yes ws

@@ -8,8 +8,8 @@ use Rattle.lists.specs.Lists.{Asked, asked, askedOf, firstNo}
 use Rattle.lists.proofs.First.{first-none, first-next, first-number, first-append, first-refused, first-of, numbered-of}
 use Rattle.backend.specs.Circuit.{circuitOf}
 use Rattle.backend.specs.Questions.{circuitQuestions}
+use Rattle.backend.proofs.Passed.{numbered}
 use Rattle.hyperplonk_spec.specs.Build.{Lent, q12, q13, q14, buildQuestions, checkBuild}
-use Rattle.completeness.proofs.Asked.{numbered}
 use Rattle.hyperplonk_prepare.specs.Prepared.{Accepted}
 
 module _ (ws instances witness challenges columns nodes : List ℕ) where

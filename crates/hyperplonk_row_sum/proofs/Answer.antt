@@ -19,7 +19,7 @@ use Rattle.preprocessor.specs.Pieces.{numbersOf}
 use Rattle.preprocessor.specs.declared.Numbers.{Numbers}
 use Rattle.hyperplonk_spec.specs.RowSum.{q16, LentSum, sumQuestions, checkSum, sumOf, rowSumOf}
 use Rattle.hyperplonk_spec.specs.declared.RowSum.{RowSum}
-use Rattle.completeness.proofs.Asked.{numbered}
+use Rattle.backend.proofs.Passed.{numbered}
 use Rattle.hyperplonk_prepare.specs.Prepared.{Accepted, Prepared}
 use Rattle.hyperplonk_prepare.proofs.Accepted as known
 use Rattle.hyperplonk_row_sum.specs.Sum.{sumLayout, Summable}

@@ -3,4 +3,4 @@ pub mod Rows
 pub mod Summed
 pub mod Sixteen
 pub mod Answer
-pub mod Told
+pub mod RowSumClaim

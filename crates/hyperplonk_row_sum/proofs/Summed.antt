@@ -6,6 +6,7 @@ use native.Mathlib.Omega.{arith}
 use lib.ListN.{length, getD}
 use Rattle.field.specs.Field.{𝔾, el}
 use Rattle.bh.specs.Rows.{rowAt}
+use Rattle.bh.proofs.Rows.{row-in, placed-at}
 use Rattle.expression.specs.Nodes.{exprOf}
 use Rattle.expression.specs.Value.{valueAt}
 use Rattle.expression.specs.Reader.{Small}
@@ -16,7 +17,6 @@ use Rattle.multilinear.specs.EqXY.{eqAt}
 use Rattle.backend.specs.Circuit.{circuitOf, wordK}
 use Rattle.preprocessor.specs.Compose.{composedNodes}
 use Rattle.prover.specs.Lookup.{sumRows}
-use Rattle.prover.proofs.Rows.{row-in, placed-at}
 use Rattle.hyperplonk_spec.specs.RowSum.{lentEnvironment, sumOf}
 use Rattle.hyperplonk_prepare.specs.Prepared.{Accepted}
 use Rattle.hyperplonk_prepare.proofs.Accepted as known

@@ -2,6 +2,8 @@
 use backend_questions::first_no;
 use backend_sections::reader::k_of;
 use backend_sections::words::all_elements;
+use bh::row_after;
+use bh::rows_of;
 use expression::poly::Layout;
 use expression::value::Point;
 use expression_evaluate::value;
@@ -14,8 +16,6 @@ use hyperplonk_prepare::numbers;
 use hyperplonk_spec::RowSum;
 use multilinear::eq_at;
 use preprocessor::Numbers;
-use prover_compressed::row_after;
-use prover_instance::blank_column::rows_of;
 ghost use mathlib.Core.Path.{_≡_};
 ghost use Prim.Native.Nat.{_-_, _^_, _≤_, _<_};
 ghost use lib.ListN.{take};
@@ -30,7 +30,7 @@ ghost use Rattle.preprocessor.specs.Pieces.{numbersOf};
 ghost use Rattle.hyperplonk_spec.specs.RowSum.{q16, lentEnvironment, sumOf, rowSumOf};
 ghost use Rattle.hyperplonk_prepare.specs.Prepared.{Accepted, Prepared};
 ghost use Rattle.hyperplonk_row_sum.specs.Sum.{lengthsRight, valuesSmall, sumLayout, Summable};
-ghost use Rattle.hyperplonk_row_sum.specs.Told.{Told};
+ghost use Rattle.hyperplonk_spec.specs.RowSumClaim.{RowSumClaim};
 
 // Where the polynomials stand that the row sum reads.
 pub fn sum_layout(circuit: &[u64], v: Numbers) -> Layout
@@ -255,7 +255,7 @@ pub fn row_sum<'a>(
     y: &[u64],
 ) -> RowSum
     ensures { λ r. ⌜ r ≡ rowSumOf (now (circuit .entry)) (now (witness .entry)) (now (columns .entry)) (now (nodes .entry)) (now (challenges .entry)) (now (y .entry)) ⌝ }
-    ensures told { λ r. ⌜ Told (now (circuit .entry)) (now (witness .entry)) (now (columns .entry)) (now (nodes .entry)) (now (challenges .entry)) (now (y .entry)) r ⌝ }
+    ensures told { λ r. ⌜ RowSumClaim (now (circuit .entry)) (now (witness .entry)) (now (columns .entry)) (now (nodes .entry)) (now (challenges .entry)) (now (y .entry)) r ⌝ }
 {
     let no = first_no(circuit);
     if no != 0 {

@@ -12,7 +12,7 @@ use lib.IntN.{pos}
 use borrow.Author.Tests.{ne-eqb}
 use Rattle.field.specs.Algebra.{Field, zero-add, mul-assoc, one-mul, zero-mul, mul-one, add-comm}
 use Rattle.field.specs.Algebra as Algebra
-use Rattle.field.specs.Solve.{var, nought, _:+_, _:*_, minus, solve}
+use Rattle.field.proofs.Solve.{var, nought, _:+_, _:*_, minus, solve}
 use Rattle.bh.specs.Rows.{rotated, iter, nextRow, rowAt, modZ, lagrangeRow}
 use Rattle.identities.proofs.Fields.{sub-zero}
 use Rattle.expression.specs.Expr.{Expr, evaluate, productFrom, productOf}

@@ -1,8 +1,8 @@
 // The stages called alone: "they meet 2, 12, 13, 14 and, for counts, 15".
 use backend_sections::words::all_elements;
 use backend_sections::words::is_element;
+use bh::rows_of;
 use field::goldilocks::Goldilocks;
-use prover_instance::blank_column::rows_of;
 use prover_lookup::h::h_column;
 use prover_lookup::m::m_column;
 ghost use mathlib.Core.Path.{_≡_};

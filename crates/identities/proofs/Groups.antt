@@ -5,7 +5,7 @@ use mathlib.Core.List.{[], _∷_}
 use Prim.Native.Nat.{ℕ, zero, suc, _+_, _*_, _/_, _%_, _≤_, _<_}
 use native.Mathlib.Omega.{arith}
 use Rattle.field.specs.Algebra.{Field, zero-mul}
-use Rattle.field.specs.Solve.{var, _:+_, _:*_, minus, solve}
+use Rattle.field.proofs.Solve.{var, _:+_, _:*_, minus, solve}
 use Rattle.bh.specs.Sums.{upTo}
 use Rattle.identities.specs.Groups as R
 use Rattle.identities.proofs.Totals.{upTo-cong, upTo-op, upTo-swap, upTo-flat}

@@ -4,7 +4,7 @@ use mathlib.Core.Logic.{_≢_}
 use mathlib.Core.List.{[], _∷_}
 use Prim.Native.Nat.{ℕ, zero, _+_, _≤_, _<_}
 use Rattle.field.specs.Algebra.{Field, one-mul, neg-unique}
-use Rattle.field.specs.Solve.{var, _:+_, _:*_, minus, solve}
+use Rattle.field.proofs.Solve.{var, _:+_, _:*_, minus, solve}
 use Rattle.bh.specs.Sums.{upTo}
 use Rattle.identities.specs.Lookup as R
 use Rattle.identities.specs.Totals.{times}

@@ -1,6 +1,8 @@
 // Expressions and the questions from C, for the oracle: any words may be lent. A slice crosses as a pointer and a length.
 use backend_questions::first_no;
 use backend_sections::words::all_below;
+use bh::row_after;
+use bh::rows_of;
 use expression::poly::Layout;
 use expression::value::Point;
 use expression_degree::degree_of;
@@ -8,11 +10,9 @@ use expression_evaluate::lower;
 use expression_nodes::index;
 use expression_nodes::leaves::context;
 use expression_nodes::leaves::word;
-use expression_nodes::word_at;
 use expression_query::used_queries;
 use field::goldilocks::Goldilocks;
-use prover_compressed::row_after;
-use prover_instance::blank_column::rows_of;
+use lists::word_at;
 ghost use mathlib.Core.Path.{_≡_};
 ghost use mathlib.Core.Bool.{_&&_};
 ghost use Prim.Native.Nat.{_+_, _*_, _^_, _≤_, _<_};

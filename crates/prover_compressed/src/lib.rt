@@ -1,5 +1,6 @@
 // The compressed columns: the sum of beta^i times expression i, at each row.
-use bh::next;
+use bh::row_after;
+use bh::rows_of;
 use expression::poly::Layout;
 use expression::value::Point;
 use expression_evaluate::lower;
@@ -7,14 +8,12 @@ use expression_nodes::index;
 use expression_nodes::leaves::context;
 use field::goldilocks::Goldilocks;
 use prover::Roots;
-use prover_instance::blank_column::rows_of;
 ghost use mathlib.Core.Path.{_≡_};
 ghost use mathlib.Core.List.{[], _∷_};
 ghost use Prim.Native.Nat.{_+_, _*_, _/_, _%_, _^_, _≤_, _<_};
 ghost use lib.ListN.{length, take, drop};
 ghost use Rattle.field.specs.Field.{𝔾, val};
 ghost use Rattle.field.specs.Element.{elem};
-ghost use Rattle.bh.specs.Rows.{rowAt};
 ghost use Rattle.lists.specs.Lists.{column, over, split, total};
 ghost use Rattle.expression.specs.Nodes.{exprOf};
 ghost use Rattle.expression.specs.Value.{valueAt};
@@ -78,17 +77,6 @@ fn compressed_at<'a>(
     let c = context(layout, point);
     let s = [nodes, circuit, witness, columns, challenges];
     compressed_over(&s, &c, nodes.len() / 4, pairs, roots, beta)
-}
-
-// The row after the one at a place of the order.
-pub fn row_after(row: usize, place: usize, k: usize) -> usize
-    requires { ⌜ (0 < k) × (k < 21) × (row ≡ rowAt k place) ⌝ }
-    ensures { λ r. ⌜ (r ≡ rowAt k (place + 1)) × (r < 2 ^ k) ⌝ }
-{
-    if place == 0 {
-        return 1;
-    }
-    next(row, k)
 }
 
 // One compressed column, from word `to` of the column buffer on, through the row order once.

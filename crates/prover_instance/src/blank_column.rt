@@ -1,6 +1,6 @@
-// A column before it is written: how many rows it has, and its words set to 0.
+// A column before it is written: its words set to 0.
 ghost use mathlib.Core.Path.{_≡_};
-ghost use Prim.Native.Nat.{_+_, _^_, _≤_};
+ghost use Prim.Native.Nat.{_+_, _≤_};
 ghost use lib.ListN.{length, replicate};
 ghost use Rattle.lists.specs.Lists.{over};
 
@@ -14,11 +14,4 @@ pub fn clear(columns: &mut [u64], at: usize, rows: usize)
         columns[at + i] = 0;
         i += 1;
     }
-}
-
-pub fn rows_of(k: usize) -> usize
-    requires { ⌜ k ≤ 20 ⌝ }
-    ensures { λ r. ⌜ r ≡ 2 ^ k ⌝ }
-{
-    1 << k
 }

@@ -2,7 +2,8 @@
 pub mod blank_column;
 
 use crate::blank_column::clear;
-use crate::blank_column::rows_of;
+use bh::rows_of;
+use field::goldilocks::Goldilocks;
 ghost use mathlib.Core.Path.{_≡_};
 ghost use mathlib.Core.List.{map};
 ghost use Prim.Native.Nat.{ℕ, _+_, _*_, _^_, _<_, _≤_};
@@ -28,7 +29,7 @@ pub fn instance_column(
     let mut row: usize = 1;
     let mut t: usize = 0;
     while t < count {
-        columns[at + row] = field::reduce_u64(instance[from + t]);
+        columns[at + row] = Goldilocks::at(instance, from + t).to_u64();
         row = bh::next(row, k);
         t += 1;
     }

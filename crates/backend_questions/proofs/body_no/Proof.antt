@@ -2,73 +2,49 @@ use Rattle.backend.proofs.Answers.{says-no, says-yes, no-5, no-6, no-7, no-8, n
 use borrow.Author.Needs.{needs}
 use Rattle.backend_questions.proofs.body_no.Statement.{statement}
 use Rattle.backend_questions.proofs.body_no.Tie as tie
-use Rattle.backend_questions.proofs.body_no.Reads as reads
-use Rattle.backend_questions.proofs.body_no.Lts as lts
-use Rattle.backend_questions.proofs.sections.question_5.Reads as question-5-reads
-use Rattle.backend_questions.proofs.sections.question_6.Reads as question-6-reads
-use Rattle.backend_questions.proofs.sections.question_9.Reads as question-9-reads
-use Rattle.backend_questions.proofs.degrees.question_10.Reads as question-10-reads
-use Rattle.backend_questions.proofs.nodes.question_11.Reads as question-11-reads
-use Rattle.backend_questions.proofs.nodes.question_7.Reads as question-7-reads
-use Rattle.backend_questions.proofs.nodes.question_8.Reads as question-8-reads
 
--- src/lib.rt:145:9
 question-5-requires : tie.Need-question-5-requires
 question-5-requires c κs = c .before .pre .0
 
--- src/lib.rt:146:9
 returns : tie.Need-returns
 returns c = no-5 _ (says-no _ _ (c .before .question-5 .ensures) (c .if1 .taken))
 
--- src/lib.rt:148:9
 question-6-requires : tie.Need-question-6-requires
 question-6-requires c κs = c .before .before .before .pre .0
 
--- src/lib.rt:149:9
 returns-2 : tie.Need-returns-2
 returns-2 c = no-6 _ (says-yes _ _ (c .before .before .before .question-5 .ensures) (c .before .before .if1 .left)) (says-no _ _ (c .before .question-6 .ensures) (c .if2 .taken))
 
--- src/lib.rt:151:9
 question-7-requires : tie.Need-question-7-requires
 question-7-requires c κs = c .before .before .before .before .before .pre .0
 
--- src/lib.rt:152:9
 returns-3 : tie.Need-returns-3
 returns-3 c = no-7 _ (says-yes _ _ (c .before .before .before .before .before .question-5 .ensures) (c .before .before .before .before .if1 .left)) (says-yes _ _ (c .before .before .before .question-6 .ensures) (c .before .before .if2 .left)) (says-no _ _ (c .before .question-7 .ensures) (c .if3 .taken))
 
--- src/lib.rt:154:9
 question-8-requires : tie.Need-question-8-requires
 question-8-requires c κs = c .before .before .before .before .before .before .before .pre
 
--- src/lib.rt:155:9
 returns-4 : tie.Need-returns-4
 returns-4 c = no-8 _ (says-yes _ _ (c .before .before .before .before .before .before .before .question-5 .ensures) (c .before .before .before .before .before .before .if1 .left)) (says-yes _ _ (c .before .before .before .before .before .question-6 .ensures) (c .before .before .before .before .if2 .left)) (says-yes _ _ (c .before .before .before .question-7 .ensures) (c .before .before .if3 .left)) (says-no _ _ (c .before .question-8 .ensures) (c .if4 .taken))
 
--- src/lib.rt:157:9
 question-9-requires : tie.Need-question-9-requires
 question-9-requires c κs = c .before .before .before .before .before .before .before .before .before .pre
 
--- src/lib.rt:158:9
 returns-5 : tie.Need-returns-5
 returns-5 c = no-9 _ (says-yes _ _ (c .before .before .before .before .before .before .before .before .before .question-5 .ensures) (c .before .before .before .before .before .before .before .before .if1 .left)) (says-yes _ _ (c .before .before .before .before .before .before .before .question-6 .ensures) (c .before .before .before .before .before .before .if2 .left)) (says-yes _ _ (c .before .before .before .before .before .question-7 .ensures) (c .before .before .before .before .if3 .left)) (says-yes _ _ (c .before .before .before .question-8 .ensures) (c .before .before .if4 .left)) (says-no _ _ (c .before .question-9 .ensures) (c .if5 .taken))
 
--- src/lib.rt:160:9
 question-10-requires : tie.Need-question-10-requires
 question-10-requires c κs = (c .before .before .before .before .before .before .before .before .before .before .before .pre .0, (c .before .before .before .before .before .before .before .before .before .before .before .pre .1, (says-yes _ _ (c .before .before .before .before .before .question-7 .ensures) (c .before .before .before .before .if3 .left))))
 
--- src/lib.rt:161:9
 returns-6 : tie.Need-returns-6
 returns-6 c = no-10 _ (says-yes _ _ (c .before .before .before .before .before .before .before .before .before .before .before .question-5 .ensures) (c .before .before .before .before .before .before .before .before .before .before .if1 .left)) (says-yes _ _ (c .before .before .before .before .before .before .before .before .before .question-6 .ensures) (c .before .before .before .before .before .before .before .before .if2 .left)) (says-yes _ _ (c .before .before .before .before .before .before .before .question-7 .ensures) (c .before .before .before .before .before .before .if3 .left)) (says-yes _ _ (c .before .before .before .before .before .question-8 .ensures) (c .before .before .before .before .if4 .left)) (says-yes _ _ (c .before .before .before .question-9 .ensures) (c .before .before .if5 .left)) (says-no _ _ (c .before .question-10 .ensures) (c .if6 .taken))
 
--- src/lib.rt:163:9
 question-11-requires : tie.Need-question-11-requires
 question-11-requires c κs = c .before .before .before .before .before .before .before .before .before .before .before .before .before .pre
 
--- src/lib.rt:164:9
 returns-7 : tie.Need-returns-7
 returns-7 c = no-11 _ (says-yes _ _ (c .before .before .before .before .before .before .before .before .before .before .before .before .before .question-5 .ensures) (c .before .before .before .before .before .before .before .before .before .before .before .before .if1 .left)) (says-yes _ _ (c .before .before .before .before .before .before .before .before .before .before .before .question-6 .ensures) (c .before .before .before .before .before .before .before .before .before .before .if2 .left)) (says-yes _ _ (c .before .before .before .before .before .before .before .before .before .question-7 .ensures) (c .before .before .before .before .before .before .before .before .if3 .left)) (says-yes _ _ (c .before .before .before .before .before .before .before .question-8 .ensures) (c .before .before .before .before .before .before .if4 .left)) (says-yes _ _ (c .before .before .before .before .before .question-9 .ensures) (c .before .before .before .before .if5 .left)) (says-yes _ _ (c .before .before .before .question-10 .ensures) (c .before .before .if6 .left)) (says-no _ _ (c .before .question-11 .ensures) (c .if7 .taken))
 
--- src/lib.rt:141:1
 returns-8 : tie.Need-returns-8
 returns-8 c = no-more _ (says-yes _ _ (c .before .before .before .before .before .before .before .before .before .before .before .before .before .question-5 .ensures) (c .before .before .before .before .before .before .before .before .before .before .before .before .if1 .left)) (says-yes _ _ (c .before .before .before .before .before .before .before .before .before .before .before .question-6 .ensures) (c .before .before .before .before .before .before .before .before .before .before .if2 .left)) (says-yes _ _ (c .before .before .before .before .before .before .before .before .before .question-7 .ensures) (c .before .before .before .before .before .before .before .before .if3 .left)) (says-yes _ _ (c .before .before .before .before .before .before .before .question-8 .ensures) (c .before .before .before .before .before .before .if4 .left)) (says-yes _ _ (c .before .before .before .before .before .question-9 .ensures) (c .before .before .before .before .if5 .left)) (says-yes _ _ (c .before .before .before .question-10 .ensures) (c .before .before .if6 .left)) (says-yes _ _ (c .before .question-11 .ensures) (c .if7 .left))
 

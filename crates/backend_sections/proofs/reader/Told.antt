@@ -1,4 +1,4 @@
--- A word's accessor, at any number: a walk of its MIR, by hand. The struct is taken apart, and `contents::word` is called on the words and the number. All that the walk knows of `word` is that it meets its contract.
+-- A word's accessor, at any number: a walk of its MIR, by hand. The struct is taken apart, and `lists::word_at` is called on the words and the number. All that the walk knows of `word_at` is that it meets its contract.
 --     function s       the MIR of the accessor of word s
 --     tells            it meets any contract that promises of the result that it is that word, and no more
 -- The struct is Copy: what it owns is had twice, one copy is kept whole for the exit, and of the other what the words own goes to the callee, beside the lifetime's token, which comes back.
@@ -45,8 +45,8 @@ use denote.Triple.Clauses.{Ended, Clauses, AtExit, closing, ensured, lasts}
 use Rattle.backend_sections.specs.declared.reader.Circuit.{Circuit}
 use Rattle.backend_sections.proofs.reader.Circuit as T
 use Rattle.backend_sections.proofs.reader.Circuit.Laws as T′
-use Rattle.backend_sections.proofs.contents.word as sec
-use Rattle.backend_sections.proofs.contents.word.Symbol.{name as #backend-sections·contents·word}
+use Rattle.lists.proofs.word_at as sec
+use Rattle.lists.proofs.word_at.Symbol.{name as #lists·word-at}
 
 -- the struct's type, over the signature's lifetimes
 abbrev B : Lfts 1 → RattleType
@@ -68,7 +68,7 @@ function s =
       locals = local (tyInt w64) valueLocal ∷ local (T′.mir (named 0)) valueLocal ∷ local (sliceTy (tyRef erased imm (tyInt w64))) valueLocal ∷ [];
       body =
           seq (assign (place 2 []) (rvOpd (copy (place 1 (field 0 ∷ [])))))
-          (seq (call #backend-sections·contents·word (copy (place 2 []) ∷ int w64 s ∷ []) (place 0 [])) return);
+          (seq (call #lists·word-at (copy (place 2 []) ∷ int w64 s ∷ []) (place 0 [])) return);
     }
 
 -- r is word s of the reader d, 0 past the last
@@ -149,7 +149,7 @@ module _ {M : Type 1} (𝓤 : URA M) (H : Heap 𝓤) (A : Atoms 𝓤) (W : Given
       suffices ! (sep 𝓤 (Exit r u) (fact 𝓤 (Found s d r))) (via 𝓤 (Ending 𝓤 H A ended stayed c bound u r (tt, tt)) (monoR 𝓤 (Exit r u) (gives (κ, tt) d g r _)) (ends-at 𝓤 H A ended stayed c W bound u r (tt, tt) (tt, tt))) $ says ! e $
       move ! (1 ∷ []) $ frame ! $ nothing ! $ move ! (2 ∷ 0 ∷ []) $ fjoin ! $ frame ! $ done !
 
-  module _ (C : Calls 𝓤 H) (Λ : Loops 𝓤 H) (fm : FmC 𝓤 H (W .laws) C) (known : Triple 𝓤 (C #backend-sections·contents·word) (Word 𝓤 H A mem run)) where
+  module _ (C : Calls 𝓤 H) (Λ : Loops 𝓤 H) (fm : FmC 𝓤 H (W .laws) C) (known : Triple 𝓤 (C #lists·word-at) (Word 𝓤 H A mem run)) where
     walk : Holds (hasTy (T′.mir (named 0)) mach) × WT mach → ent 𝓤 (onEntry 𝓤 H A (ended .signature) (κ, tt) (q, tt) (d, tt) (mach ∷ [], tt)) (WpFn 𝓤 H C Λ (function s) (mach ∷ []) Post)
     walk wt =
         qed W (raw (onEntry 𝓤 H A (ended .signature) (κ, tt) (q, tt) (d, tt) (mach ∷ [], tt)) ∷ []) ∵ enter ! C Λ (function s) (mach ∷ []) _ $
@@ -169,12 +169,12 @@ module _ {M : Type 1} (𝓤 : URA M) (H : Heap 𝓤) (A : Atoms 𝓤) (W : Given
   abbrev Entry : Lfts 1 → Shares 1 → Circuit → SProp 𝓤
   Entry κs qs d = onEntry 𝓤 H A (ended .signature) κs qs (d, tt) (T′.lowered d ∷ [], tt)
 
-  walks : (C : Calls 𝓤 H) (Λ : Loops 𝓤 H) → FmC 𝓤 H (W .laws) C → Triple 𝓤 (C #backend-sections·contents·word) (Word 𝓤 H A mem run)
+  walks : (C : Calls 𝓤 H) (Λ : Loops 𝓤 H) → FmC 𝓤 H (W .laws) C → Triple 𝓤 (C #lists·word-at) (Word 𝓤 H A mem run)
       → Walks 𝓤 H A ended stayed (WpFn 𝓤 H C Λ (function s)) c
   walks C Λ fm known = walked 𝓤 H A ended stayed c (WpFn 𝓤 H C Λ (function s)) (λ κs. (LL.vals (T.the-type (namedLft 1 0 tt κs)) (T′.the-laws (namedLft 1 0 tt κs)), tt)) (λ κs. (LL.tells (T.the-type (namedLft 1 0 tt κs)) (T′.the-laws (namedLft 1 0 tt κs)), tt))
       (λ κs qs bounds a g are. via 𝓤 (Entry κs qs (a .0)) (fst∗ 𝓤 (Entry κs qs (a .0)) (c κs a .requires g)) (walk 𝓤 H A W mem run s fits c gives (κs .0) (qs .0) (a .0) g C Λ fm known (LL.lawful (T.the-type (namedLft 1 0 tt κs)) (T′.the-laws (namedLft 1 0 tt κs)) 𝓤 H A W .typed (a .0) _ (are .0) .0)))
 
-  pub tells : (𝓣 : Tables 𝓤 H) → Triple 𝓤 (𝓣 .C #backend-sections·contents·word) (Word 𝓤 H A mem run)
+  pub tells : (𝓣 : Tables 𝓤 H) → Triple 𝓤 (𝓣 .C #lists·word-at) (Word 𝓤 H A mem run)
       → Meets 𝓤 H A (ended .signature) (WpFn 𝓤 H (𝓣 .C) (𝓣 .Λ) (function s)) (closing 𝓤 H A ended c)
   tells 𝓣 known =
       walk-meets 𝓤 H A ended stayed W (goes-none 𝓤 H A W 1 B yes (λ κs x f. refl), tt) c (WpFn 𝓤 H (𝓣 .C) (𝓣 .Λ) (function s)) (WpFn-mono 𝓤 H (W .laws) 𝓣 (function s))

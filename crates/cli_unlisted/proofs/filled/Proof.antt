@@ -24,14 +24,14 @@ fill-requires c κs =
     let s = c .before .before .before .before .before .before .before .before .before in
     (s .pre .0, s .pre .1, omega (arith, c .before .before .column-words .ensures), count-is (s .args .of) (s .args .count) _ (omega (arith, s .pre .2)) (s .pre .3))
 
-word-requires : tie.Need-word-requires
-word-requires c κs = search needs
+word-at-requires : tie.Need-word-at-requires
+word-at-requires c κs = search needs
 
 after-requires : tie.Need-after-requires
 after-requires c κs = search needs
 
-word-requires-2 : tie.Need-word-requires-2
-word-requires-2 c κs = search needs
+word-at-requires-2 : tie.Need-word-at-requires-2
+word-at-requires-2 c κs = search needs
 
 times-rows-requires : tie.Need-times-rows-requires
 times-rows-requires c κs = search needs
@@ -57,9 +57,9 @@ filled-spec =
     none-requires
     returns
     fill-requires
-    word-requires
+    word-at-requires
     after-requires
-    word-requires-2
+    word-at-requires-2
     times-rows-requires
     see-all-requires
     first-of-requires

@@ -8,8 +8,8 @@ use Rattle.cli_unlisted.proofs.first_of.Tie as tie
 layout-of-requires : tie.Need-layout-of-requires
 layout-of-requires c κs = search needs
 
-word-requires : tie.Need-word-requires
-word-requires c κs = search needs
+word-at-requires : tie.Need-word-at-requires
+word-at-requires c κs = search needs
 
 none-requires : tie.Need-none-requires
 none-requires c κs = search needs
@@ -26,15 +26,15 @@ returns-2 c = search needs
 place-of-requires : tie.Need-place-of-requires
 place-of-requires c κs =
     let s = c .before .before .before .before .before .before .before .before .before .before in
-    row-asked (s .args .circuit .now) (s .pre) (c .before .before .before .before .before .layout-of .result) (c .before .before .before .before .before .layout-of .ensures) (c .before .before .before .before .word .result) (s .args .seen .row)
-    (c .before .before .before .before .word .ensures)
+    row-asked (s .args .circuit .now) (s .pre) (c .before .before .before .before .before .layout-of .result) (c .before .before .before .before .before .layout-of .ensures) (c .before .before .before .before .word-at .result) (s .args .seen .row)
+    (c .before .before .before .before .word-at .ensures)
     (omega arith)
 
 first-at-requires : tie.Need-first-at-requires
 first-at-requires c κs =
     let s = c .before .before .before .before .before .before .before .before .before .before .before in
-    point-asked (s .args .circuit .now) (s .pre) (c .before .before .before .before .before .before .layout-of .result) (c .before .before .before .before .before .before .layout-of .ensures) (c .before .before .before .before .before .word .result) (s .args .seen .row)
-    (c .before .before .before .before .before .word .ensures)
+    point-asked (s .args .circuit .now) (s .pre) (c .before .before .before .before .before .before .layout-of .result) (c .before .before .before .before .before .before .layout-of .ensures) (c .before .before .before .before .before .word-at .result) (s .args .seen .row)
+    (c .before .before .before .before .before .word-at .ensures)
     (omega arith)
     (c .place-of .result)
     (c .place-of .ensures)
@@ -47,7 +47,7 @@ first-of-spec =
     tie.close
     (tie.spec
     layout-of-requires
-    word-requires
+    word-at-requires
     none-requires
     returns
     none-requires-2

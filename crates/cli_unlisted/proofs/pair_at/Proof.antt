@@ -10,17 +10,17 @@ Inv-loop circuit lookup at₀ width₀ j₀ at width j = Unit {0}
 abbrev μ-loop : tie.MeasureT-loop
 μ-loop circuit lookup at₀ width₀ j₀ at width j = lookup - j
 
-word-requires : tie.Need-word-requires Inv-loop μ-loop
-word-requires c κs = search needs
+word-at-requires : tie.Need-word-at-requires Inv-loop μ-loop
+word-at-requires c κs = search needs
 
-word-requires-2 : tie.Need-word-requires-2 Inv-loop μ-loop
-word-requires-2 c κs = search needs
+word-at-requires-2 : tie.Need-word-at-requires-2 Inv-loop μ-loop
+word-at-requires-2 c κs = search needs
 
 loop-holds : tie.Need-loop-holds Inv-loop μ-loop
 loop-holds c = search needs
 
-word-requires-3 : tie.Need-word-requires-3 Inv-loop μ-loop
-word-requires-3 c κs = search needs
+word-at-requires-3 : tie.Need-word-at-requires-3 Inv-loop μ-loop
+word-at-requires-3 c κs = search needs
 
 after-requires : tie.Need-after-requires Inv-loop μ-loop
 after-requires c κs = search needs
@@ -49,10 +49,10 @@ pair-at-spec =
     (tie.spec
     Inv-loop
     μ-loop
-    word-requires
-    word-requires-2
+    word-at-requires
+    word-at-requires-2
     loop-holds
-    word-requires-3
+    word-at-requires-3
     after-requires
     after-requires-2
     after-requires-3

@@ -1,7 +1,7 @@
 -- `row_sum` meets its contracts: the answer is that of its definition, and so is what demand 3 says of it. Assumes nothing.
 use borrow.Author.Needs.{needs}
 use Rattle.hyperplonk_row_sum.proofs.Answer.{refused-early}
-use Rattle.hyperplonk_row_sum.proofs.Told.{both}
+use Rattle.hyperplonk_row_sum.proofs.RowSumClaim.{both}
 use Rattle.hyperplonk_row_sum.proofs.row_sum.Statement.{statement}
 use Rattle.hyperplonk_row_sum.proofs.row_sum.Tie as tie
 

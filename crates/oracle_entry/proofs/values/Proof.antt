@@ -5,8 +5,9 @@ use Prim.Native.Nat.{ℕ, _-_, _^_, _<_}
 use native.Mathlib.Omega.{arith}
 use Rattle.bh.specs.Rows.{rowAt, placeOf}
 use Rattle.bh.proofs.Order.{row-nought}
+use Rattle.bh.proofs.Rows.{row-in, placed-at}
 use Rattle.lists.proofs.Turns.{Turned, turn-start, turn-more, turn-end}
-use Rattle.prover.proofs.Rows.{row-turns, row-in, placed-at}
+use Rattle.prover.proofs.Rows.{row-turns}
 use Rattle.oracle_entry.specs.Entry.{valueWord}
 use Rattle.oracle_entry.proofs.Answers.{from-nought, nought-on, value-word}
 use Rattle.oracle_entry.proofs.values.Statement.{statement}

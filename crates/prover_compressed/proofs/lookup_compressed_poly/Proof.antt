@@ -7,9 +7,10 @@ use Rattle.field.specs.Field.{𝔾, val}
 use Rattle.field.specs.Element.{elem}
 use Rattle.bh.specs.Rows.{rowAt, placeOf}
 use Rattle.bh.proofs.Order.{row-nought}
+use Rattle.bh.proofs.Rows.{row-in, placed-at}
 use Rattle.lists.proofs.Turns.{Turned, turn-start, turn-more, turn-before, turn-end}
 use Rattle.prover.specs.Lent.{lentEnvironment, compressedIn, rootsOf}
-use Rattle.prover.proofs.Rows.{row-turns, row-in, placed-at, read-there, read-word}
+use Rattle.prover.proofs.Rows.{row-turns, read-there, read-word}
 use Rattle.prover.proofs.PowerSums.{compressed-here}
 use Rattle.prover_compressed.proofs.lookup_compressed_poly.Statement.{statement}
 use Rattle.prover_compressed.proofs.lookup_compressed_poly.Tie as tie

@@ -9,6 +9,8 @@ use lib.ListN.{length, getD, take, drop, replicate, length-set}
 use native.Mathlib.Numerals.{add-one}
 use lib.Pow.{pow-lt}
 use Rattle.field.specs.Prime.{P}
+use Rattle.field.specs.Field.{val}
+use Rattle.field.proofs.Elements.{val-el-mod}
 use Rattle.bh.specs.Rows.{rowAt, nextRow}
 use Rattle.bh.proofs.Order.{row-suc, row-next}
 use Rattle.bh.proofs.Iter.{iter-zero}
@@ -16,12 +18,6 @@ use Rattle.lists.specs.Lists.{column, over}
 use Rattle.prover.proofs.Instance.{placed, place-start, place-more, place-end, part-length, part-get}
 use Rattle.prover_instance.proofs.instance_column.Statement.{statement}
 use Rattle.prover_instance.proofs.instance_column.Tie as tie
-use Rattle.prover_instance.proofs.instance_column.Reads as reads
-use Rattle.prover_instance.proofs.instance_column.Lts as lts
-use Rattle.bh.proofs.next.Reads as next-reads
-use Rattle.field.proofs.reduce_u64.Reads as reduce-u64-reads
-use Rattle.prover_instance.proofs.blank_column.clear.Reads as clear-reads
-use Rattle.prover_instance.proofs.blank_column.rows_of.Reads as rows-of-reads
 
 abbrev Inv-loop : tie.InvT-loop
 Inv-loop k instance from count columns₀ at row₀ t₀ columns row t =
@@ -32,15 +28,12 @@ Inv-loop k instance from count columns₀ at row₀ t₀ columns row t =
 abbrev μ-loop : tie.MeasureT-loop
 μ-loop k instance from count columns₀ at row₀ t₀ columns row t = count - t
 
--- src/lib.rt:43:24
 rows-of-requires : tie.Need-rows-of-requires Inv-loop μ-loop
 rows-of-requires c κs = search needs
 
--- src/lib.rt:43:5
 clear-requires : tie.Need-clear-requires Inv-loop μ-loop
 clear-requires c κs = rw (c .rows-of .ensures) (c .before .before .before .before .pre .4)
 
--- src/lib.rt:46:5
 loop-holds : tie.Need-loop-holds Inv-loop μ-loop
 loop-holds c =
     let s = c .before .before .before .before .before .before .before in
@@ -52,47 +45,33 @@ loop-holds c =
       λ d h e. place-start k (take (s .args .count) (drop (s .args .from) (s .args .instance .now))) d (s .args .at) _ e,
     )
 
--- src/lib.rt:47:56
-add-reduce-u64 : tie.Need-add-reduce-u64 Inv-loop μ-loop
-add-reduce-u64 c = omega (arith, c .before .before .before .before .before .before .before .before .before .pre, c .before .before .before .before .before .before .before .before .before .good, c .before .loop .inv .0, c .before .loop .inv .1, c .before .loop .inv .3, c .loop-test .taken, c .before .before .before .before .clear .kept .0)
+add-at : tie.Need-add-at Inv-loop μ-loop
+add-at c = omega (arith, c .before .before .before .before .before .before .before .before .before .pre, c .before .before .before .before .before .before .before .before .before .good, c .before .loop .inv .0, c .before .loop .inv .1, c .before .loop .inv .3, c .loop-test .taken, c .before .before .before .before .clear .kept .0)
 
--- src/lib.rt:47:47
-mul-reduce-u64 : tie.Need-mul-reduce-u64 Inv-loop μ-loop
-mul-reduce-u64 c = omega (arith, c .before .before .before .before .before .before .before .before .before .pre, c .before .before .before .before .before .before .before .before .before .good, c .before .loop .inv .0, c .before .loop .inv .1, c .before .loop .inv .3, c .loop-test .taken, c .before .before .before .before .clear .kept .0)
+at-requires : tie.Need-at-requires Inv-loop μ-loop
+at-requires c κs = omega (arith, c .before .before .before .before .before .before .before .before .before .pre, c .before .before .before .before .before .before .before .before .before .good, c .before .loop .inv .0, c .before .loop .inv .1, c .before .loop .inv .3, c .loop-test .taken, c .before .before .before .before .clear .kept .0)
 
--- src/lib.rt:47:47
-shared-slice-read-reduce-u64 : tie.Need-shared-slice-read-reduce-u64 Inv-loop μ-loop
-shared-slice-read-reduce-u64 c = omega (arith, c .before .before .before .before .before .before .before .before .before .before .pre, c .before .before .before .before .before .before .before .before .before .before .good, c .before .before .loop .inv .0, c .before .before .loop .inv .1, c .before .before .loop .inv .3, c .before .loop-test .taken, c .before .before .before .before .before .clear .kept .0)
+to-u64-requires : tie.Need-to-u64-requires Inv-loop μ-loop
+to-u64-requires c κs = tt
 
--- src/lib.rt:47:29
-reduce-u64-requires : tie.Need-reduce-u64-requires Inv-loop μ-loop
-reduce-u64-requires c κs = search needs
-
--- src/lib.rt:47:17
 add-columns : tie.Need-add-columns Inv-loop μ-loop
 add-columns c = omega (arith, c .before .before .before .before .before .before .before .before .before .before .before .pre, c .before .before .before .before .before .before .before .before .before .before .before .good, c .before .before .before .loop .inv .0, c .before .before .before .loop .inv .1, c .before .before .before .loop .inv .3, c .before .before .loop-test .taken, c .before .before .before .before .before .before .clear .kept .0)
 
--- src/lib.rt:47:9
 mul-columns : tie.Need-mul-columns Inv-loop μ-loop
 mul-columns c = omega (arith, c .before .before .before .before .before .before .before .before .before .before .before .pre, c .before .before .before .before .before .before .before .before .before .before .before .good, c .before .before .before .loop .inv .0, c .before .before .before .loop .inv .1, c .before .before .before .loop .inv .3, c .before .before .loop-test .taken, c .before .before .before .before .before .before .clear .kept .0)
 
--- src/lib.rt:47:9
 slice-write-columns : tie.Need-slice-write-columns Inv-loop μ-loop
 slice-write-columns c = omega (arith, c .before .before .before .before .before .before .before .before .before .before .before .pre, c .before .before .before .before .before .before .before .before .before .before .before .good, c .before .before .before .loop .inv .0, c .before .before .before .loop .inv .1, c .before .before .before .loop .inv .3, c .before .before .loop-test .taken, c .before .before .before .before .before .before .clear .kept .0)
 
--- src/lib.rt:48:9
 next-requires : tie.Need-next-requires Inv-loop μ-loop
 next-requires c κs = (omega (arith, c .before .before .before .before .before .before .before .before .before .before .before .pre .1), c .before .before .before .loop .inv .3)
 
--- src/lib.rt:49:9
 add-t : tie.Need-add-t Inv-loop μ-loop
 add-t c = omega (arith, c .before .before .before .before .before .before .before .before .before .before .before .before .pre, c .before .before .before .before .before .before .before .before .before .before .before .before .good, c .before .before .before .before .loop .inv .0, c .before .before .before .before .loop .inv .1, c .before .before .before .before .loop .inv .3, c .before .before .before .loop-test .taken, c .before .before .before .before .before .before .before .clear .kept .0)
 
--- src/lib.rt:46:5
 loop-less : tie.Need-loop-less Inv-loop μ-loop
 loop-less c = search needs
 
--- src/lib.rt:46:5
 loop-again : tie.Need-loop-again Inv-loop μ-loop
 loop-again c =
     let s = c .before .before .before .before .before .before .before .before .before .before .before .before in
@@ -107,16 +86,14 @@ loop-again c =
       c .next .ensures .1,
       λ d h e.
           place-more k (s .pre .0) (omega (arith, s .pre .1)) _ (l .t) d (a .at) (l .columns) (l .row) _ (l .inv .2)
-          (c .before .reduce-u64 .ensures
+          (c .before .to-u64 .ensures ∙ ap val (c .before .before .at .ensures) ∙ val-el-mod (getD (a .instance .now) (a .from + l .t) 0)
           ∙ ap (λ (x : ℕ). x % P) (sym (part-get (a .instance .now) (a .from) (a .count) (s .pre .3) (l .t) lt)))
           (omega arith) (omega (arith, len, lt)) (omega (arith, s .pre .2, lt)) (l .inv .4 d h e),
     )
 
--- src/lib.rt:39:1
 same-length : tie.Need-same-length Inv-loop μ-loop
 same-length c = c .before .loop .inv .1 ∙ c .before .before .before .before .clear .kept .0
 
--- src/lib.rt:39:1
 returns : tie.Need-returns Inv-loop μ-loop
 returns c =
     let s = c .before .before .before .before .before .before .before .before .before in
@@ -136,10 +113,9 @@ instance-column-spec =
     rows-of-requires
     clear-requires
     loop-holds
-    add-reduce-u64
-    mul-reduce-u64
-    shared-slice-read-reduce-u64
-    reduce-u64-requires
+    add-at
+    at-requires
+    to-u64-requires
     add-columns
     mul-columns
     slice-write-columns

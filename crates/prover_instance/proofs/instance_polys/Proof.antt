@@ -17,7 +17,7 @@ use Rattle.prover_instance.proofs.instance_polys.Tie as tie
 use Rattle.prover_instance.proofs.instance_polys.Reads as reads
 use Rattle.prover_instance.proofs.instance_polys.Lts as lts
 use Rattle.prover_instance.proofs.instance_column.Reads as instance-column-reads
-use Rattle.prover_instance.proofs.blank_column.rows_of.Reads as rows-of-reads
+use Rattle.bh.proofs.rows_of.Reads as rows-of-reads
 
 abbrev Inv-loop : tie.InvT-loop
 Inv-loop k lengths instance columns₀ rows from₀ at₀ i₀ columns from at i =

@@ -16,8 +16,8 @@ at-most-all-requires c κs = search needs
 loop-holds : tie.Need-loop-holds Inv-loop μ-loop
 loop-holds c = search needs
 
-word-requires : tie.Need-word-requires Inv-loop μ-loop
-word-requires c κs = search needs
+word-at-requires : tie.Need-word-at-requires Inv-loop μ-loop
+word-at-requires c κs = search needs
 
 plus-requires : tie.Need-plus-requires Inv-loop μ-loop
 plus-requires c κs = search needs
@@ -45,7 +45,7 @@ sum-of-spec =
     μ-loop
     at-most-all-requires
     loop-holds
-    word-requires
+    word-at-requires
     plus-requires
     after-requires
     add-j

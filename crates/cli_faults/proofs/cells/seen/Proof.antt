@@ -10,14 +10,14 @@ Inv-loop circuit start first j cell polynomial row at₀ i₀ at i = Unit {0}
 abbrev μ-loop : tie.MeasureT-loop
 μ-loop circuit start first j cell polynomial row at₀ i₀ at i = j - i
 
-word-requires : tie.Need-word-requires Inv-loop μ-loop
-word-requires c κs = search needs
+word-at-requires : tie.Need-word-at-requires Inv-loop μ-loop
+word-at-requires c κs = search needs
 
 after-requires : tie.Need-after-requires Inv-loop μ-loop
 after-requires c κs = search needs
 
-word-requires-2 : tie.Need-word-requires-2 Inv-loop μ-loop
-word-requires-2 c κs = search needs
+word-at-requires-2 : tie.Need-word-at-requires-2 Inv-loop μ-loop
+word-at-requires-2 c κs = search needs
 
 after-requires-2 : tie.Need-after-requires-2 Inv-loop μ-loop
 after-requires-2 c κs = search needs
@@ -25,14 +25,14 @@ after-requires-2 c κs = search needs
 loop-holds : tie.Need-loop-holds Inv-loop μ-loop
 loop-holds c = search needs
 
-word-requires-3 : tie.Need-word-requires-3 Inv-loop μ-loop
-word-requires-3 c κs = search needs
+word-at-requires-3 : tie.Need-word-at-requires-3 Inv-loop μ-loop
+word-at-requires-3 c κs = search needs
 
 after-requires-3 : tie.Need-after-requires-3 Inv-loop μ-loop
 after-requires-3 c κs = search needs
 
-word-requires-4 : tie.Need-word-requires-4 Inv-loop μ-loop
-word-requires-4 c κs = search needs
+word-at-requires-4 : tie.Need-word-at-requires-4 Inv-loop μ-loop
+word-at-requires-4 c κs = search needs
 
 returns : tie.Need-returns Inv-loop μ-loop
 returns c = search needs
@@ -58,14 +58,14 @@ seen-spec =
     (tie.spec
     Inv-loop
     μ-loop
-    word-requires
+    word-at-requires
     after-requires
-    word-requires-2
+    word-at-requires-2
     after-requires-2
     loop-holds
-    word-requires-3
+    word-at-requires-3
     after-requires-3
-    word-requires-4
+    word-at-requires-4
     returns
     after-requires-4
     add-i

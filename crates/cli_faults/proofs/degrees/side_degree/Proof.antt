@@ -13,8 +13,8 @@ abbrev μ-loop : tie.MeasureT-loop
 loop-holds : tie.Need-loop-holds Inv-loop μ-loop
 loop-holds c = search needs
 
-word-requires : tie.Need-word-requires Inv-loop μ-loop
-word-requires c κs = search needs
+word-at-requires : tie.Need-word-at-requires Inv-loop μ-loop
+word-at-requires c κs = search needs
 
 degree-of-requires : tie.Need-degree-of-requires Inv-loop μ-loop
 degree-of-requires c κs = search needs
@@ -41,7 +41,7 @@ side-degree-spec =
     Inv-loop
     μ-loop
     loop-holds
-    word-requires
+    word-at-requires
     degree-of-requires
     after-requires
     add-j

@@ -10,14 +10,14 @@ Inv-loop circuit s k right₀ at₀ i₀ right at i = Unit {0}
 abbrev μ-loop : tie.MeasureT-loop
 μ-loop circuit s k right₀ at₀ i₀ right at i = s - i
 
-word-requires : tie.Need-word-requires Inv-loop μ-loop
-word-requires c κs = search needs
+word-at-requires : tie.Need-word-at-requires Inv-loop μ-loop
+word-at-requires c κs = search needs
 
 loop-holds : tie.Need-loop-holds Inv-loop μ-loop
 loop-holds c = search needs
 
-word-requires-2 : tie.Need-word-requires-2 Inv-loop μ-loop
-word-requires-2 c κs = search needs
+word-at-requires-2 : tie.Need-word-at-requires-2 Inv-loop μ-loop
+word-at-requires-2 c κs = search needs
 
 words-in-requires : tie.Need-words-in-requires Inv-loop μ-loop
 words-in-requires c κs = search needs
@@ -46,9 +46,9 @@ begins-spec =
     (tie.spec
     Inv-loop
     μ-loop
-    word-requires
+    word-at-requires
     loop-holds
-    word-requires-2
+    word-at-requires-2
     words-in-requires
     wrapping-add-u64-requires
     after-requires

@@ -16,8 +16,8 @@ at-most-all-requires c κs = search needs
 loop-holds : tie.Need-loop-holds Inv-loop μ-loop
 loop-holds c = search needs
 
-word-requires : tie.Need-word-requires Inv-loop μ-loop
-word-requires c κs = search needs
+word-at-requires : tie.Need-word-at-requires Inv-loop μ-loop
+word-at-requires c κs = search needs
 
 returns : tie.Need-returns Inv-loop μ-loop
 returns c = search needs
@@ -45,7 +45,7 @@ passes-spec =
     μ-loop
     at-most-all-requires
     loop-holds
-    word-requires
+    word-at-requires
     returns
     after-requires
     add-j

@@ -13,8 +13,8 @@ abbrev μ-loop : tie.MeasureT-loop
 loop-holds : tie.Need-loop-holds Inv-loop μ-loop
 loop-holds c = search needs
 
-word-requires : tie.Need-word-requires Inv-loop μ-loop
-word-requires c κs = search needs
+word-at-requires : tie.Need-word-at-requires Inv-loop μ-loop
+word-at-requires c κs = search needs
 
 begins-requires : tie.Need-begins-requires Inv-loop μ-loop
 begins-requires c κs = search needs
@@ -44,7 +44,7 @@ start-fault-spec =
     Inv-loop
     μ-loop
     loop-holds
-    word-requires
+    word-at-requires
     begins-requires
     returns
     after-requires

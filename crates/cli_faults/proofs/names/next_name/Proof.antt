@@ -13,8 +13,8 @@ abbrev μ-loop : tie.MeasureT-loop
 loop-holds : tie.Need-loop-holds Inv-loop μ-loop
 loop-holds c = search needs
 
-word-requires : tie.Need-word-requires Inv-loop μ-loop
-word-requires c κs = search needs
+word-at-requires : tie.Need-word-at-requires Inv-loop μ-loop
+word-at-requires c κs = search needs
 
 names-requires : tie.Need-names-requires Inv-loop μ-loop
 names-requires c κs = search needs
@@ -41,7 +41,7 @@ next-name-spec =
     Inv-loop
     μ-loop
     loop-holds
-    word-requires
+    word-at-requires
     names-requires
     returns
     add-at

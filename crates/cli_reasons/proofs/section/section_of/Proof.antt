@@ -16,8 +16,8 @@ returns c = search needs
 loop-holds : tie.Need-loop-holds Inv-loop μ-loop
 loop-holds c = search needs
 
-word-requires : tie.Need-word-requires Inv-loop μ-loop
-word-requires c κs = search needs
+word-at-requires : tie.Need-word-at-requires Inv-loop μ-loop
+word-at-requires c κs = search needs
 
 returns-2 : tie.Need-returns-2 Inv-loop μ-loop
 returns-2 c = search needs
@@ -45,7 +45,7 @@ section-of-spec =
     μ-loop
     returns
     loop-holds
-    word-requires
+    word-at-requires
     returns-2
     after-requires
     add-s

@@ -16,8 +16,8 @@ loop-holds c = search needs
 after-requires : tie.Need-after-requires Inv-loop μ-loop
 after-requires c κs = search needs
 
-word-requires : tie.Need-word-requires Inv-loop μ-loop
-word-requires c κs = search needs
+word-at-requires : tie.Need-word-at-requires Inv-loop μ-loop
+word-at-requires c κs = search needs
 
 add-u64-requires : tie.Need-add-u64-requires Inv-loop μ-loop
 add-u64-requires c κs = search needs
@@ -42,7 +42,7 @@ column-sum-spec =
     μ-loop
     loop-holds
     after-requires
-    word-requires
+    word-at-requires
     add-u64-requires
     add-row
     loop-less

@@ -18,8 +18,8 @@ loop-holds c = search needs
 wrapping-add-usize-requires : tie.Need-wrapping-add-usize-requires Inv-loop μ-loop
 wrapping-add-usize-requires c κs = search needs
 
-word-requires : tie.Need-word-requires Inv-loop μ-loop
-word-requires c κs = search needs
+word-at-requires : tie.Need-word-at-requires Inv-loop μ-loop
+word-at-requires c κs = search needs
 
 put-number-requires : tie.Need-put-number-requires Inv-loop μ-loop
 put-number-requires c κs = search needs
@@ -53,7 +53,7 @@ put-words-spec =
     μ-loop
     loop-holds
     wrapping-add-usize-requires
-    word-requires
+    word-at-requires
     put-number-requires
     add-j
     loop-less

@@ -24,8 +24,8 @@ column-words-requires c κs = search needs
 composed-nodes-requires : tie.Need-composed-nodes-requires
 composed-nodes-requires c κs = search needs
 
-word-requires : tie.Need-word-requires
-word-requires c κs = search needs
+word-at-requires : tie.Need-word-at-requires
+word-at-requires c κs = search needs
 
 returns : tie.Need-returns
 returns c = search needs
@@ -33,4 +33,4 @@ returns c = search needs
 pub accepted-spec : {M : Type 1} → statement M
 accepted-spec =
     tie.close
-    (tie.spec numbers-requires column-words-requires composed-nodes-requires word-requires returns)
+    (tie.spec numbers-requires column-words-requires composed-nodes-requires word-at-requires returns)

@@ -1,0 +1,43 @@
+-- What demand 3 says of the row sum, of the answer itself. Assumes nothing.
+use mathlib.Core.Path.{_≡_}
+use mathlib.Core.Logic.{_≢_}
+use mathlib.Core.List.{List, [], _∷_, _++_}
+use Prim.Native.Nat.{ℕ, _*_, _<_}
+use lib.ListN.{length, take}
+use Rattle.field.specs.Prime.{P}
+use Rattle.field.specs.Field.{𝔾, val}
+use Rattle.expression.specs.Value.{valueAt}
+use Rattle.backend.specs.Circuit.{circuitOf, rowsOf}
+use Rattle.preprocessor.specs.Compose.{compose, composedNodes}
+use Rattle.prover.specs.Lookup.{sumRows}
+use Rattle.hyperplonk_spec.specs.Build.{logOf, columnWords, checkBuild, buildOf}
+use Rattle.hyperplonk_spec.specs.RowSum.{lentEnvironment}
+use Rattle.hyperplonk_spec.specs.Meaning.{Each, Premises}
+use Rattle.hyperplonk_spec.specs.declared.RowSum.{RowSum}
+
+-- "The row sum is given that build's circuit words, witness and challenges, any α and any k values y of the field, and the column
+-- and node words as written": a build whose questions 1 to 14 are yes, that does not give 15 and meets the premises of demand 3
+pub record OfBuild (ws witness columns nodes challenges y : List ℕ) : Type 0 where
+  pub instances : List ℕ
+  pub lent : List ℕ
+  pub α : ℕ
+  pub columns-lent : List ℕ
+  pub nodes-lent : List ℕ
+  pub asked : checkBuild ws instances witness lent columns-lent nodes-lent ≡ 0
+  pub premises : Premises 𝔾 (logOf ws instances witness lent)
+  pub not-15 : buildOf ws instances witness lent columns-lent nodes-lent .answer .number ≢ 15
+  pub columns-are : columns ≡ take (columnWords (circuitOf ws)) (buildOf ws instances witness lent columns-lent nodes-lent .columns)
+  pub nodes-are : nodes ≡ take (composedNodes (circuitOf ws) * 4) (buildOf ws instances witness lent columns-lent nodes-lent .nodes)
+  pub challenges-are : challenges ≡ lent ++ (α ∷ [])
+  pub α-small : α < P
+  pub y-length : length y ≡ circuitOf ws .k
+  pub y-small : Each 0 y (λ v. v < P)
+
+pub record RowSumClaim (ws witness columns nodes challenges y : List ℕ) (r : RowSum) : Type 0 where
+  -- "On any log, when the row sum's number is 0, its sum is this sum for the words it was lent": over all rows, the value that
+  -- `compose` gives
+  pub summed : r .number ≡ 0
+      → r .sum
+      ≡ val (sumRows 𝔾 (rowsOf (circuitOf ws)) (valueAt 𝔾 (lentEnvironment ws witness columns challenges y) (compose (circuitOf ws))))
+  -- "its number and its sum are both 0"
+  pub zero : OfBuild ws witness columns nodes challenges y → r ≡ record { number = 0; sum = 0 }
