@@ -14,8 +14,10 @@ use expression_nodes::index;
 use expression_nodes::word_at;
 use field::goldilocks::Goldilocks;
 use preprocessor_permutation::permutation_polys;
+use prover_compressed::CompressedPolys;
 use prover_compressed::lookup_compressed_polys;
 use prover_instance::instance_polys;
+use prover_z::ZColumns;
 use prover_z::permutation_z_polys;
 ghost use mathlib.Core.Path.{_≡_};
 ghost use Prim.Native.Nat.{_+_, _*_, _^_, _≤_};
@@ -88,19 +90,13 @@ fn compressed_from<'a>(
     let nodes = nodes_of(circuit);
     let widths = widths_of(circuit);
     let pairs = pairs_of(circuit);
-    lookup_compressed_polys(
-        nodes,
-        circuit,
-        witness,
-        columns,
-        user,
-        layout,
-        k,
-        widths,
-        pairs,
-        beta,
-        to,
-    );
+    let polys = CompressedPolys {
+        layout: layout,
+        k: k,
+        beta: beta,
+        to: to,
+    };
+    lookup_compressed_polys(nodes, circuit, witness, columns, user, widths, pairs, polys);
 }
 
 // The compressed columns, behind the permutation columns: input and table per lookup. `challenges` are the user's, then beta and gamma;
@@ -132,7 +128,7 @@ pub fn compressed_columns<'a>(
     );
 }
 
-// The z columns, behind all others. `challenges` are the user's, then beta and gamma; `copied` are the copied columns, and `parts` is how
+// The z columns, behind all others. `challenges` are the user's, then beta and gamma; `copied` are the copied columns, and `chunks` is how
 // many z columns there are.
 pub fn z_columns(
     circuit: &[u64],
@@ -140,9 +136,9 @@ pub fn z_columns(
     columns: &mut [u64],
     challenges: &[u64],
     copied: &[u64],
-    parts: usize,
+    chunks: usize,
 )
-    requires { ⌜ Accepted (now circuit) × (now copied ≡ copiedOf (circuitOf (now circuit))) × (parts ≡ numZ (circuitOf (now circuit))) × (zsAt (circuitOf (now circuit)) + numZ (circuitOf (now circuit)) * rowsOf (circuitOf (now circuit)) ≤ length (now columns)) ⌝ }
+    requires { ⌜ Accepted (now circuit) × (now copied ≡ copiedOf (circuitOf (now circuit))) × (chunks ≡ numZ (circuitOf (now circuit))) × (zsAt (circuitOf (now circuit)) + numZ (circuitOf (now circuit)) * rowsOf (circuitOf (now circuit)) ≤ length (now columns)) ⌝ }
     ensures { λ _. ⌜ now (columns .exit) ≡ over (now (columns .entry)) (zsAt (circuitOf (now (circuit .entry)))) (zWords (now (circuit .entry)) (now (witness .entry)) (now (columns .entry)) (now (challenges .entry))) ⌝ }
 {
     let k = index(k_of(circuit));
@@ -152,16 +148,13 @@ pub fn z_columns(
     let gamma = Goldilocks::from_u64(word_at(challenges, user + 1));
     let lookups = index(word_at(circuit, 13));
     let to = (layout.instances + copied.len() + lookups * 4) * layout.rows;
-    permutation_z_polys(
-        circuit,
-        witness,
-        columns,
-        layout,
-        k,
-        copied,
-        parts,
-        beta,
-        gamma,
-        to,
-    );
+    let z = ZColumns {
+        layout: layout,
+        k: k,
+        chunks: chunks,
+        beta: beta,
+        gamma: gamma,
+        to: to,
+    };
+    permutation_z_polys(circuit, witness, columns, copied, z);
 }
