@@ -24,7 +24,7 @@ ghost use Rattle.expression_evaluate.specs.Lent.{lent};
 ghost use Rattle.backend.specs.Circuit.{pairsOf};
 ghost use Rattle.backend.specs.Constraints.{inputsOf, tablesOf};
 ghost use Rattle.prover.specs.Words.{wordsOf};
-ghost use Rattle.prover.specs.Lent.{Behind, lentEnvironment, compressedIn, compressedPolysIn, rootsOf};
+ghost use Rattle.prover.specs.Lent.{Behind, environmentFromWords, compressedIn, compressedPolysIn, rootsOf};
 
 // What a compressed column is made with: where the given polynomials stand, of 2^k rows; beta; the roots of its expressions; and
 // the word of the column buffer that it begins at.
@@ -118,7 +118,7 @@ pub fn lookup_compressed_poly<'a>(
     poly: CompressedPoly,
 )
     requires { ⌜ Behind (poly .k) (poly .layout) (now nodes) (now columns) (poly .to) (2 ^ poly .k) × ((poly .roots .start + poly .roots .width) * 2 ≤ length (now pairs)) × (poly .roots .side < 2) ⌝ }
-    ensures { λ _. ⌜ now (columns .exit) ≡ over (now (columns .entry)) (poly .to) (column (λ b. val (compressedIn 𝔾 (lentEnvironment (now (circuit .entry)) (now (witness .entry)) (now (columns .entry)) (now (challenges .entry)) (poly .layout) (poly .k)) (elem (poly .beta)) (rootsOf (now (nodes .entry)) (now (pairs .entry)) (poly .roots)) b)) (2 ^ poly .k)) ⌝ }
+    ensures { λ _. ⌜ now (columns .exit) ≡ over (now (columns .entry)) (poly .to) (column (λ b. val (compressedIn 𝔾 (environmentFromWords (now (circuit .entry)) (now (witness .entry)) (now (columns .entry)) (now (challenges .entry)) (poly .layout) (poly .k)) (elem (poly .beta)) (rootsOf (now (nodes .entry)) (now (pairs .entry)) (poly .roots)) b)) (2 ^ poly .k)) ⌝ }
 {
     let rows = rows_of(poly.k);
     let given = poly.layout.instances * rows;
@@ -157,7 +157,7 @@ fn compressed_pair<'a>(
     poly: CompressedPoly,
 )
     requires { ⌜ Behind (poly .k) (poly .layout) (now nodes) (now columns) (poly .to) (2 ^ poly .k + 2 ^ poly .k) × ((poly .roots .start + poly .roots .width) * 2 ≤ length (now pairs)) × (poly .roots .side ≡ 0) ⌝ }
-    ensures { λ _. ⌜ now (columns .exit) ≡ over (now (columns .entry)) (poly .to) (wordsOf (2 ^ poly .k) (compressedIn 𝔾 (lentEnvironment (now (circuit .entry)) (now (witness .entry)) (now (columns .entry)) (now (challenges .entry)) (poly .layout) (poly .k)) (elem (poly .beta)) (inputsOf (take (poly .roots .width) (drop (poly .roots .start) (pairsOf (now (nodes .entry)) (now (pairs .entry)))))) ∷ compressedIn 𝔾 (lentEnvironment (now (circuit .entry)) (now (witness .entry)) (now (columns .entry)) (now (challenges .entry)) (poly .layout) (poly .k)) (elem (poly .beta)) (tablesOf (take (poly .roots .width) (drop (poly .roots .start) (pairsOf (now (nodes .entry)) (now (pairs .entry)))))) ∷ [])) ⌝ }
+    ensures { λ _. ⌜ now (columns .exit) ≡ over (now (columns .entry)) (poly .to) (wordsOf (2 ^ poly .k) (compressedIn 𝔾 (environmentFromWords (now (circuit .entry)) (now (witness .entry)) (now (columns .entry)) (now (challenges .entry)) (poly .layout) (poly .k)) (elem (poly .beta)) (inputsOf (take (poly .roots .width) (drop (poly .roots .start) (pairsOf (now (nodes .entry)) (now (pairs .entry)))))) ∷ compressedIn 𝔾 (environmentFromWords (now (circuit .entry)) (now (witness .entry)) (now (columns .entry)) (now (challenges .entry)) (poly .layout) (poly .k)) (elem (poly .beta)) (tablesOf (take (poly .roots .width) (drop (poly .roots .start) (pairsOf (now (nodes .entry)) (now (pairs .entry)))))) ∷ [])) ⌝ }
 {
     lookup_compressed_poly(nodes, circuit, witness, columns, challenges, pairs, poly);
     let layout = poly.layout;
@@ -190,7 +190,7 @@ pub fn lookup_compressed_polys<'a>(
     polys: CompressedPolys,
 )
     requires { ⌜ Behind (polys .k) (polys .layout) (now nodes) (now columns) (polys .to) (length (now widths) * (2 ^ polys .k + 2 ^ polys .k)) × (total (now widths) * 2 ≤ length (now pairs)) ⌝ }
-    ensures { λ _. ⌜ now (columns .exit) ≡ over (now (columns .entry)) (polys .to) (wordsOf (2 ^ polys .k) (compressedPolysIn 𝔾 (lentEnvironment (now (circuit .entry)) (now (witness .entry)) (now (columns .entry)) (now (challenges .entry)) (polys .layout) (polys .k)) (elem (polys .beta)) (split (now (widths .entry)) (pairsOf (now (nodes .entry)) (now (pairs .entry)))))) ⌝ }
+    ensures { λ _. ⌜ now (columns .exit) ≡ over (now (columns .entry)) (polys .to) (wordsOf (2 ^ polys .k) (compressedPolysIn 𝔾 (environmentFromWords (now (circuit .entry)) (now (witness .entry)) (now (columns .entry)) (now (challenges .entry)) (polys .layout) (polys .k)) (elem (polys .beta)) (split (now (widths .entry)) (pairsOf (now (nodes .entry)) (now (pairs .entry)))))) ⌝ }
 {
     let rows = rows_of(polys.k);
     let mut start: usize = 0;

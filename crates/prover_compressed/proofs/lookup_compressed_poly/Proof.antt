@@ -8,7 +8,7 @@ use Rattle.field.specs.Element.{elem}
 use Rattle.bh.specs.Rows.{rowAt, placeOf}
 use Rattle.bh.proofs.Order.{row-nought}
 use Rattle.lists.proofs.Turns.{Turned, turn-start, turn-more, turn-before, turn-end}
-use Rattle.prover.specs.Lent.{lentEnvironment, compressedIn, rootsOf}
+use Rattle.prover.specs.Lent.{environmentFromWords, compressedIn, rootsOf}
 use Rattle.prover.proofs.Rows.{row-turns, row-in, placed-at, read-there, read-word}
 use Rattle.prover.proofs.PowerSums.{compressed-here}
 use Rattle.prover_compressed.proofs.lookup_compressed_poly.Statement.{statement}
@@ -18,7 +18,7 @@ abbrev Inv-loop : tie.InvT-loop
 Inv-loop nodes circuit witness columns₀ challenges pairs poly rows given row₀ place₀ columns row place =
     (row ≡ rowAt (poly .k) place)
     × Turned (2 ^ poly .k) (placeOf (poly .k))
-    (λ b. val (compressedIn 𝔾 (lentEnvironment circuit witness columns₀ challenges (poly .layout) (poly .k)) (elem (poly .beta)) (rootsOf nodes pairs (poly .roots)) b)) columns₀ (poly .to) columns place
+    (λ b. val (compressedIn 𝔾 (environmentFromWords circuit witness columns₀ challenges (poly .layout) (poly .k)) (elem (poly .beta)) (rootsOf nodes pairs (poly .roots)) b)) columns₀ (poly .to) columns place
 
 abbrev μ-loop : tie.MeasureT-loop
 μ-loop nodes circuit witness columns₀ challenges pairs poly rows given row₀ place₀ columns row place = rows - place
@@ -112,7 +112,7 @@ loop-again c =
           (compressed-here (a .poly .k) (pre .0 .small) (a .poly .layout) (pre .0 .given) (a .circuit .now) (a .witness .now) (a .challenges .now) (elem (a .poly .beta)) _ (a .columns .now)
           (λ j h. read-word (l .columns) (a .columns .now) (a .poly .layout .instances) _ (a .poly .k) (a .poly .to) j (rows .ensures) (pre .0 .before) (turn-before _ _ _ _ (row-turns (a .poly .k) (pre .0 .positive) (pre .0 .small)) _ _ (pre .0 .room) _ _ (l .inv .1)) h)
           (rootsOf (a .nodes .now) (a .pairs .now) (a .poly .roots)) (l .row) (l .place) _ (row-in (a .poly .k) (l .row) (l .place) (pre .0 .positive) (pre .0 .small) (l .inv .0)) (c .before .before .to-u64 .ensures ∙ ap val (c .before .before .before .compressed-at .ensures))
-          ∙ ap (λ (x : ℕ). val (compressedIn 𝔾 (lentEnvironment (a .circuit .now) (a .witness .now) (a .columns .now) (a .challenges .now) (a .poly .layout) (a .poly .k)) (elem (a .poly .beta)) (rootsOf (a .nodes .now) (a .pairs .now) (a .poly .roots)) x)) (l .inv .0)),
+          ∙ ap (λ (x : ℕ). val (compressedIn 𝔾 (environmentFromWords (a .circuit .now) (a .witness .now) (a .columns .now) (a .challenges .now) (a .poly .layout) (a .poly .k)) (elem (a .poly .beta)) (rootsOf (a .nodes .now) (a .pairs .now) (a .poly .roots)) x)) (l .inv .0)),
     )
 
 same-length : tie.Need-same-length Inv-loop μ-loop
