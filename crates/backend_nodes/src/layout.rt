@@ -240,7 +240,7 @@ pub fn laid_out(nodes: &[u64], constraints: &[u64], pairs: &[u64]) -> bool
 }
 
 // Is a kept rotation from −k to k?
-fn near(kept: u64, k: u64) -> bool
+fn rotation_in_range(kept: u64, k: u64) -> bool
     ensures { λ r. ⌜ r ≡ leb (natAbs (signed kept)) k ⌝ }
 {
     if kept < 2147483648 {
@@ -258,7 +258,7 @@ fn in_range(nodes: &[u64], n: usize, polys: u64, user: u64, k: u64) -> bool
     let at = n * 4;
     match nodes[at] {
         4 => false,
-        5 => (nodes[at + 1] < polys) & near(nodes[at + 3], k),
+        5 => (nodes[at + 1] < polys) & rotation_in_range(nodes[at + 3], k),
         6 => nodes[at + 1] < user,
         _ => true,
     }

@@ -20,7 +20,7 @@ use Rattle.prover.specs.Log.{Log}
 use Rattle.prover.specs.Columns.{allCovered, writtenPolys, composedEnvironment}
 use Rattle.prover.proofs.Words.{words-small}
 use Rattle.hyperplonk_spec.specs.Build.{Output, logOf, wordsOf, checkBuild, buildOf, made, zeroed}
-use Rattle.hyperplonk_spec.specs.RowSum.{rowSumOf, sumOf, lentEnvironment}
+use Rattle.hyperplonk_spec.specs.RowSum.{rowSumOf, sumOf, environmentFromWords}
 use Rattle.hyperplonk_spec.specs.Meaning.{Each, Admitted, Premises, Conclusions}
 use Rattle.hyperplonk_spec.specs.Demand.{Succeeds, Demand3, DemandThreeAt, DemandThree}
 use Rattle.field.proofs.Elements.{val-zero}
@@ -91,7 +91,7 @@ module _ (ws instances witness challenges columns nodes : List ℕ) (asked : che
   sum-zero c α y =
       upTo-cong (𝔾 .add) (𝔾 .zero) _ (valueAt 𝔾 (composedEnvironment 𝔾 log (el α) (λ i. el (getD y i 0))) (compose (circuitOf ws))) (rowsOf (circuitOf ws))
       (λ b m.
-      ap (λ (e : Expr). valueAt 𝔾 (lentEnvironment ws witness lent (challenges ++ (α ∷ [])) y) e b) (reads-back ws)
+      ap (λ (e : Expr). valueAt 𝔾 (environmentFromWords ws witness lent (challenges ++ (α ∷ [])) y) e b) (reads-back ws)
       ∙ lent-value ws instances witness challenges (l .challenges-length) (let q = k-small ws (yes-all ws (l .circuit-yes)) in omega arith) α y (compose (circuitOf ws)) b m)
       ∙ c .composed-sum (el α) (λ i. el (getD y i 0))
 

@@ -24,8 +24,8 @@ use Rattle.prover.specs.Lookup.{sumCounts, same, covered, multiplicity, Turns, 
 use Rattle.hyperplonk_spec.specs.Meaning.{Embeds}
 use Rattle.hyperplonk_spec.specs.Papers.{
   paperH,
-  often,
-  sharedM,
+  occurrences,
+  normalizedMultiplicity,
   totalOf,
   SameTotals,
   CountsTurn,
@@ -188,18 +188,18 @@ module _ (𝓕 : Field) where
         t : ℕ → Bool
         t r = same 𝓕 (table r) v
 
-        counted : sumCounts rows (λ r. cond (t r) (multiplicity 𝓕 rows input table r) 0) ≡ often 𝓕 el rows input table input v
-        unfolding t often Turns
+        counted : sumCounts rows (λ r. cond (t r) (multiplicity 𝓕 rows input table r) 0) ≡ occurrences 𝓕 el rows input table input v
+        unfolding t occurrences Turns
         counted = counts-turn el rows input table .0 e v ∙ sym (count-upTo (λ b. same 𝓕 (input b) v) rows)
 
         here : ℕ
         here = upTo _+_ 0 (λ r. cond (t r) 1 0) rows
 
-        here-is : often 𝓕 el rows input table table v ≡ here
-        unfolding t often here
+        here-is : occurrences 𝓕 el rows input table table v ≡ here
+        unfolding t occurrences here
         here-is = count-upTo (λ b. same 𝓕 (table b) v) rows
 
-        left : totalOf 𝓕 el rows input table (λ r. el (multiplicity 𝓕 rows input table r)) v ≡ el (often 𝓕 el rows input table input v)
+        left : totalOf 𝓕 el rows input table (λ r. el (multiplicity 𝓕 rows input table r)) v ≡ el (occurrences 𝓕 el rows input table input v)
         unfolding t
         left =
             upTo-cong add nil (λ r. cond (t r) (el (multiplicity 𝓕 rows input table r)) nil) (λ r. el (cond (t r) (multiplicity 𝓕 rows input table r) 0)) rows
@@ -212,28 +212,28 @@ module _ (𝓕 : Field) where
             go false n = sym (h .el-zero)
 
         K : F
-        K = mul (el (often 𝓕 el rows input table input v)) (inv (el (often 𝓕 el rows input table table v)))
+        K = mul (el (occurrences 𝓕 el rows input table input v)) (inv (el (occurrences 𝓕 el rows input table table v)))
 
-        right : totalOf 𝓕 el rows input table (sharedM 𝓕 el rows input table) v ≡ mul (el here) K
-        unfolding t here K sharedM
+        right : totalOf 𝓕 el rows input table (normalizedMultiplicity 𝓕 el rows input table) v ≡ mul (el here) K
+        unfolding t here K normalizedMultiplicity
         right =
-            upTo-cong add nil (λ r. cond (t r) (sharedM 𝓕 el rows input table r) nil) (λ r. mul (el (cond (t r) 1 0)) K) rows (λ r l. at r)
+            upTo-cong add nil (λ r. cond (t r) (normalizedMultiplicity 𝓕 el rows input table r) nil) (λ r. mul (el (cond (t r) 1 0)) K) rows (λ r l. at r)
             ∙ sym (sum-mul 𝓕 (λ r. el (cond (t r) 1 0)) K rows)
             ∙ ap (λ (x : F). mul x K) (embeds-sum 𝓕 el h (λ r. cond (t r) 1 0) rows)
           where
-            at : (r : ℕ) → cond (t r) (sharedM 𝓕 el rows input table r) nil ≡ mul (el (cond (t r) 1 0)) K
+            at : (r : ℕ) → cond (t r) (normalizedMultiplicity 𝓕 el rows input table r) nil ≡ mul (el (cond (t r) 1 0)) K
             at r =
                 by-test (t r)
                 (λ w.
-                ap (λ (b : Bool). cond b (sharedM 𝓕 el rows input table r) nil) w
-                ∙ ap (λ (x : F). mul (el (often 𝓕 el rows input table input x)) (inv (el (often 𝓕 el rows input table table x)))) (same-is (table r) v w)
+                ap (λ (b : Bool). cond b (normalizedMultiplicity 𝓕 el rows input table r) nil) w
+                ∙ ap (λ (x : F). mul (el (occurrences 𝓕 el rows input table input x)) (inv (el (occurrences 𝓕 el rows input table table x)))) (same-is (table r) v w)
                 ∙ sym (ap (λ (b : Bool). mul (el (cond b 1 0)) K) w ∙ ap (λ (x : F). mul x K) (embeds-one 𝓕 el h) ∙ one-mul 𝓕 K))
                 (λ w.
-                ap (λ (b : Bool). cond b (sharedM 𝓕 el rows input table r) nil) w
+                ap (λ (b : Bool). cond b (normalizedMultiplicity 𝓕 el rows input table r) nil) w
                 ∙ sym (ap (λ (b : Bool). mul (el (cond b 1 0)) K) w ∙ ap (λ (x : F). mul x K) (h .el-zero) ∙ zero-mul 𝓕 K))
 
         -- no table row is v, so no input is
-        none-here : here ≡ 0 → often 𝓕 el rows input table input v ≡ 0
+        none-here : here ≡ 0 → occurrences 𝓕 el rows input table input v ≡ 0
         unfolding here
         none-here z =
             sym counted
@@ -247,19 +247,19 @@ module _ (𝓕 : Field) where
                 bad w = omega arith
             go false n w = refl
 
-        close : el (often 𝓕 el rows input table input v) ≡ mul (el here) K
+        close : el (occurrences 𝓕 el rows input table input v) ≡ mul (el here) K
         unfolding here K
         close = go (ℕ-discrete here 0)
           where
-            go : Dec (here ≡ 0) → el (often 𝓕 el rows input table input v) ≡ mul (el here) K
+            go : Dec (here ≡ 0) → el (occurrences 𝓕 el rows input table input v) ≡ mul (el here) K
             go (yes z) =
                 ap el (none-here z) ∙ h .el-zero ∙ sym (zero-mul 𝓕 K) ∙ ap (λ (x : F). mul x K) (sym (ap el z ∙ h .el-zero))
             go (no n) =
                 sym
-                (ap (λ (x : ℕ). mul (el here) (mul (el (often 𝓕 el rows input table input v)) (inv (el x)))) here-is
-                ∙ mul-left-comm 𝓕 (el here) (el (often 𝓕 el rows input table input v)) (inv (el here))
-                ∙ ap (mul (el (often 𝓕 el rows input table input v))) (𝓕 .mul-inv (el here) (char here (omega arith) (let q = few t rows in omega arith)))
-                ∙ mul-one 𝓕 (el (often 𝓕 el rows input table input v)))
+                (ap (λ (x : ℕ). mul (el here) (mul (el (occurrences 𝓕 el rows input table input v)) (inv (el x)))) here-is
+                ∙ mul-left-comm 𝓕 (el here) (el (occurrences 𝓕 el rows input table input v)) (inv (el here))
+                ∙ ap (mul (el (occurrences 𝓕 el rows input table input v))) (𝓕 .mul-inv (el here) (char here (omega arith) (let q = few t rows in omega arith)))
+                ∙ mul-one 𝓕 (el (occurrences 𝓕 el rows input table input v)))
 
   pub same-totals : (el : ℕ → F) (rows : ℕ) (input table : ℕ → F) → SameTotals 𝓕 el rows input table
   same-totals el rows input table h e char v = left el h rows input table e char v ∙ close el h rows input table e char v ∙ sym (right el h rows input table e char v)
@@ -282,11 +282,11 @@ module _ (𝓕 : Field) where
         ones b = mul one (inv (add γ (input b)))
 
         parts : ℕ → F
-        parts r = mul (sharedM 𝓕 el rows input table r) (inv (add γ (table r)))
+        parts r = mul (normalizedMultiplicity 𝓕 el rows input table r) (inv (add γ (table r)))
 
         identity : upTo add nil ones rows ≡ upTo add nil parts rows
         identity =
             habock-identity el rows input table γ h e
-            ∙ totals-decide el rows input table (λ r. el (multiplicity 𝓕 rows input table r)) (sharedM 𝓕 el rows input table)
+            ∙ totals-decide el rows input table (λ r. el (multiplicity 𝓕 rows input table r)) (normalizedMultiplicity 𝓕 el rows input table)
             (same-totals el rows input table h e char)
             (λ v. inv (add γ v))

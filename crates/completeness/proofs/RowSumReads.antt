@@ -19,7 +19,7 @@ use Rattle.prover.specs.Columns.{instancePolys, preprocessPolys, witnessPolys, 
 use Rattle.prover.proofs.Words.{words-get}
 use Rattle.prover.proofs.Lengths.{instances-length, permutations-length, compressed-length, m-length, h-length, z-length, written-length}
 use Rattle.hyperplonk_spec.specs.Build.{logOf, wordsOf}
-use Rattle.hyperplonk_spec.specs.RowSum.{lentColumn, lentPolys, lentEnvironment}
+use Rattle.hyperplonk_spec.specs.RowSum.{lentColumn, lentPolys, environmentFromWords}
 
 module _ (g : Log 𝔾) where
   abbrev rest : List (ℕ → 𝔾 .F)
@@ -128,11 +128,11 @@ module _ (ws instances witness challenges : List ℕ) where
           (drop-of-length-le challenges {i = suc (suc n)} (omega arith)))
 
   pub lent-value : length challenges ≡ numUser (circuitOf ws) + 2 → circuitOf ws .k < 32 → (α : ℕ) (y : List ℕ) (e : Expr) (b : ℕ) → b < rowsOf (circuitOf ws)
-      → valueAt 𝔾 (lentEnvironment ws witness lent (challenges ++ (α ∷ [])) y) e b
+      → valueAt 𝔾 (environmentFromWords ws witness lent (challenges ++ (α ∷ [])) y) e b
       ≡ valueAt 𝔾 (composedEnvironment 𝔾 log (el α) (λ i. el (getD y i 0))) e b
-  unfolding logOf lentEnvironment composedEnvironment
+  unfolding logOf environmentFromWords composedEnvironment
   lent-value h s α y e b l =
-      values-agree 𝔾 (lentEnvironment ws witness lent (challenges ++ (α ∷ [])) y)
+      values-agree 𝔾 (environmentFromWords ws witness lent (challenges ++ (α ∷ [])) y)
       (record { k = circuitOf ws .k; el = el; polys = allPolys 𝔾 log; challenges = map el (challenges ++ (α ∷ [])); eq = eqAt 𝔾 (circuitOf ws .k) (λ i. el (getD y i 0)) })
       refl
       refl

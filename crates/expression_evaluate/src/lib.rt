@@ -4,13 +4,17 @@ use expression::node::Node;
 use expression::poly::Layout;
 use expression::value::Point;
 use expression_nodes::index;
+use expression_nodes::leaves::EQ;
+use expression_nodes::leaves::K;
+use expression_nodes::leaves::PLACE;
+use expression_nodes::leaves::ROW;
 use expression_nodes::leaves::add;
 use expression_nodes::leaves::context;
 use expression_nodes::leaves::lagrange;
 use expression_nodes::leaves::layout_of;
 use expression_nodes::leaves::mul;
 use expression_nodes::leaves::neg;
-use expression_nodes::leaves::turned;
+use expression_nodes::leaves::rotated_row;
 use expression_nodes::leaves::word;
 use expression_nodes::poly::cell;
 use expression_nodes::read_node;
@@ -62,7 +66,7 @@ fn query_of<'a>(s: &[&'a [u64]; 5], c: &[usize; 12], polynomial: u64, rotation: 
     requires { ⌜ Ready (now c) ⌝ }
     ensures { λ r. ⌜ el r ≡ polyValue (lent (now (s .entry)) 1) (lent (now (s .entry)) 2) (lent (now (s .entry)) 3) (now (c .entry)) polynomial (signed rotation) ⌝ }
 {
-    let row = turned(c, rotation);
+    let row = rotated_row(c, rotation);
     let layout = layout_of(c);
     poly_of(s, layout, polynomial, row)
 }
@@ -83,9 +87,9 @@ fn node_value<'a>(s: &[&'a [u64]; 5], c: &[usize; 12], n: usize) -> u64
     let kind = d.kind;
     match kind {
         1 => d.value,
-        2 => word(c[1]),
-        3 => lagrange(d.value, c[0], c[1], c[2]),
-        4 => word(c[3]),
+        2 => word(c[ROW]),
+        3 => lagrange(d.value, c[K], c[ROW], c[PLACE]),
+        4 => word(c[EQ]),
         5 => query_of(s, c, d.first, d.value),
         6 => challenge_of(s, index(d.first)),
         7 => neg(lower(s, c, n, d.first)),

@@ -14,6 +14,31 @@ ghost use Rattle.field.specs.Field.{𝔾, el};
 ghost use Rattle.expression.specs.Nodes.{signed};
 ghost use Rattle.expression.specs.Point.{Ready, pointOf, layoutOf, contextOf};
 
+// Where each number of the context stands.
+pub const K: usize = 0;
+
+pub const ROW: usize = 1;
+
+pub const PLACE: usize = 2;
+
+pub const EQ: usize = 3;
+
+pub const ROWS: usize = 4;
+
+pub const INSTANCES: usize = 5;
+
+pub const PREPROCESS: usize = 6;
+
+pub const START: usize = 7;
+
+pub const WITNESS: usize = 8;
+
+pub const PERMUTATIONS: usize = 9;
+
+pub const SKIPPED: usize = 10;
+
+pub const REST: usize = 11;
+
 // The point and the layout as the walk hands them down: twelve numbers.
 pub fn context(layout: Layout, point: Point) -> [usize; 12]
     ensures { λ r. ⌜ r ≡ contextOf layout point ⌝ }
@@ -55,14 +80,14 @@ pub fn word(x: usize) -> u64
 pub fn layout_of(c: &[usize; 12]) -> Layout
     ensures { λ r. ⌜ r ≡ layoutOf (now (c .entry)) ⌝ }
 {
-    let rows = c[4];
-    let instances = c[5];
-    let preprocess = c[6];
-    let start = c[7];
-    let witness = c[8];
-    let permutations = c[9];
-    let skipped = c[10];
-    let rest = c[11];
+    let rows = c[ROWS];
+    let instances = c[INSTANCES];
+    let preprocess = c[PREPROCESS];
+    let start = c[START];
+    let witness = c[WITNESS];
+    let permutations = c[PERMUTATIONS];
+    let skipped = c[SKIPPED];
+    let rest = c[REST];
     Layout {
         rows,
         instances,
@@ -76,12 +101,12 @@ pub fn layout_of(c: &[usize; 12]) -> Layout
 }
 
 // The row that the rotation kept in a word leads to.
-pub fn turned(c: &[usize; 12], rotation: u64) -> usize
+pub fn rotated_row(c: &[usize; 12], rotation: u64) -> usize
     requires { ⌜ Ready (now c) ⌝ }
     ensures { λ r. ⌜ (r ≡ rotated (pointOf (now (c .entry)) .k) (pointOf (now (c .entry)) .row) (signed rotation)) × (r < 1048576) ⌝ }
 {
-    let k = c[0];
-    let row = c[1];
+    let k = c[K];
+    let row = c[ROW];
     if rotation == 2147483648 {
         return row;
     }

@@ -37,7 +37,7 @@ pub fn index(x: u64) -> usize
 }
 
 // d rows on.
-fn on(d: u64) -> Rotation
+fn forward(d: u64) -> Rotation
     requires { ⌜ d < 2 ^ 31 ⌝ }
     ensures { λ r. ⌜ r .0 ≡ pos d ⌝ }
 {
@@ -45,7 +45,7 @@ fn on(d: u64) -> Rotation
 }
 
 // d rows back.
-fn back(d: u64) -> Rotation
+fn backward(d: u64) -> Rotation
     requires { ⌜ d < 2 ^ 31 ⌝ }
     ensures { λ r. ⌜ r .0 ≡ negℤ (pos d) ⌝ }
 {
@@ -53,7 +53,7 @@ fn back(d: u64) -> Rotation
 }
 
 // A distance of more than once round the order, n steps, is cut by rounds.
-fn shorter(d: u64, n: u64) -> u64
+fn mod_period(d: u64, n: u64) -> u64
     requires { ⌜ (0 < n) × (n < 2 ^ 31) ⌝ }
     ensures { λ r. ⌜ (r % n ≡ d % n) × (r < 2 ^ 31) × (d ≤ n → r ≡ d) ⌝ }
 {
@@ -72,7 +72,7 @@ pub fn rotation_of(word: u64, k: usize) -> Rotation
 {
     let n: u64 = (1 << k) - 1;
     if word < 2147483648 {
-        return back(shorter(2147483648 - word, n));
+        return backward(mod_period(2147483648 - word, n));
     }
-    on(shorter(word - 2147483648, n))
+    forward(mod_period(word - 2147483648, n))
 }

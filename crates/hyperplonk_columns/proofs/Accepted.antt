@@ -23,24 +23,24 @@ use Rattle.prover.specs.Words.{wordsOf, Small}
 use Rattle.prover.specs.Lent.{Given}
 use Rattle.prover.proofs.Words.{words-length}
 use Rattle.hyperplonk_spec.specs.Build.{logOf, columnWords, q12}
-use Rattle.hyperplonk_prepare.specs.Prepared.{Accepted, layoutOf, permutationsAt, compressedAt, countsAt, hsAt, zsAt}
+use Rattle.hyperplonk_prepare.specs.Prepared.{Accepted, layoutOf, permutationOffset, compressedOffset, mOffset, hOffset, zOffset}
 use Rattle.hyperplonk_prepare.proofs.Accepted.{k-pos, k-few, rows-few, rows-is, few-user, given, instances-entries}
 use Rattle.hyperplonk_prepare.proofs.Computed.{columns-low}
 use Rattle.prover_lookup.specs.Lookups.{coveredFrom, countsFrom, hsFrom, CountsWritten}
 use Rattle.prover_lookup.proofs.Log.{lookups-small, all-covered-is, counts-are, hs-are}
 use Rattle.hyperplonk_columns.specs.Stages.{instanceWords, permutationWords, compressedWords, zWords}
-use Rattle.hyperplonk_columns.specs.Kinds.{uncountedPolys, countedPolys, lastPolys}
+use Rattle.hyperplonk_columns.specs.Kinds.{polysBeforeM, polysThroughM, polysAfterM}
 use Rattle.hyperplonk_columns.proofs.Fronts.{cleared}
-use Rattle.hyperplonk_columns.proofs.Columns.{counts-at, counted-more, compressed-uncounted, compressed-counted, counts-counted, counted-taken, written-more, uncounted-written, last-written}
+use Rattle.hyperplonk_columns.proofs.Columns.{counts-at, through-m-more, compressed-before-m, compressed-counted, counts-counted, counted-taken, written-more, before-m-written, last-written}
 
 -- ---- each kind begins where the one before ends
 
 pub record Placed (c : Circuit) : Type 0 where
-  pub permutations : permutationsAt c + numCopied c * rowsOf c ≡ compressedAt c
-  pub compressed : compressedAt c + numLookups c * 2 * rowsOf c ≡ countsAt c
-  pub counts : countsAt c + numLookups c * rowsOf c ≡ hsAt c
-  pub hs : hsAt c + numLookups c * rowsOf c ≡ zsAt c
-  pub zs : zsAt c + numZ c * rowsOf c ≡ columnWords c
+  pub permutations : permutationOffset c + numCopied c * rowsOf c ≡ compressedOffset c
+  pub compressed : compressedOffset c + numLookups c * 2 * rowsOf c ≡ mOffset c
+  pub counts : mOffset c + numLookups c * rowsOf c ≡ hOffset c
+  pub hs : hOffset c + numLookups c * rowsOf c ≡ zOffset c
+  pub zs : zOffset c + numZ c * rowsOf c ≡ columnWords c
 
 pub placed : (c : Circuit) → Placed c
 unfolding columnWords
@@ -102,39 +102,39 @@ module _ (ws instances witness challenges : List ℕ) (a : Accepted ws) where
   small-here = let h = k-few ws a in omega arith
 
   -- the columns before the counts
-  pub uncounted-end : (d₀ d₁ d₂ d₃ : List ℕ) → columnWords c ≤ length d₀
+  pub before-m-end : (d₀ d₁ d₂ d₃ : List ℕ) → columnWords c ≤ length d₀
       → d₁ ≡ over d₀ 0 (instanceWords ws instances)
-      → d₂ ≡ over d₁ (permutationsAt c) (permutationWords ws)
-      → d₃ ≡ over d₂ (compressedAt c) (compressedWords ws witness d₂ challenges)
-      → d₃ ≡ over d₀ 0 (wordsOf rows (uncountedPolys 𝔾 log))
+      → d₂ ≡ over d₁ (permutationOffset c) (permutationWords ws)
+      → d₃ ≡ over d₂ (compressedOffset c) (compressedWords ws witness d₂ challenges)
+      → d₃ ≡ over d₀ 0 (wordsOf rows (polysBeforeM 𝔾 log))
   unfolding logOf instancePolys permutationPolys permutationAt
-  uncounted-end d₀ d₁ d₂ d₃ room first second third =
-      uncounted-written ws instances witness challenges pos-here small-here given-here (instances-entries ws a) d₀ d₁ d₂ d₃ room first second third
+  before-m-end d₀ d₁ d₂ d₃ room first second third =
+      before-m-written ws instances witness challenges pos-here small-here given-here (instances-entries ws a) d₀ d₁ d₂ d₃ room first second third
 
   -- h and z behind the counts
   pub last-end : (d₄ d₅ d₆ : List ℕ) → columnWords c ≤ length d₄
-      → take (hsAt c) d₄ ≡ wordsOf rows (countedPolys 𝔾 log)
-      → d₅ ≡ over d₄ (hsAt c) (wordsOf rows (hPolys 𝔾 log))
-      → d₆ ≡ over d₅ (zsAt c) (zWords ws witness d₅ challenges)
-      → d₆ ≡ over d₄ (hsAt c) (wordsOf rows (lastPolys 𝔾 log))
+      → take (hOffset c) d₄ ≡ wordsOf rows (polysThroughM 𝔾 log)
+      → d₅ ≡ over d₄ (hOffset c) (wordsOf rows (hPolys 𝔾 log))
+      → d₆ ≡ over d₅ (zOffset c) (zWords ws witness d₅ challenges)
+      → d₆ ≡ over d₄ (hOffset c) (wordsOf rows (polysAfterM 𝔾 log))
   last-end d₄ d₅ d₆ room front fifth sixth =
       last-written ws instances witness challenges pos-here small-here given-here (instances-entries ws a) d₄ d₅ d₆ room front fifth sixth
 
-  module _ (d₀ d₃ : List ℕ) (room : columnWords c ≤ length d₀) (before : d₃ ≡ over d₀ 0 (wordsOf rows (uncountedPolys 𝔾 log))) where
+  module _ (d₀ d₃ : List ℕ) (room : columnWords c ≤ length d₀) (before : d₃ ≡ over d₀ 0 (wordsOf rows (polysBeforeM 𝔾 log))) where
     -- all of them
-    pub all-end : (d₄ d₆ : List ℕ) → d₄ ≡ over d₃ (countsAt c) (wordsOf rows (mPolys 𝔾 log))
-        → (take (hsAt c) d₄ ≡ wordsOf rows (countedPolys 𝔾 log) → d₆ ≡ over d₄ (hsAt c) (wordsOf rows (lastPolys 𝔾 log)))
+    pub all-end : (d₄ d₆ : List ℕ) → d₄ ≡ over d₃ (mOffset c) (wordsOf rows (mPolys 𝔾 log))
+        → (take (hOffset c) d₄ ≡ wordsOf rows (polysThroughM 𝔾 log) → d₆ ≡ over d₄ (hOffset c) (wordsOf rows (polysAfterM 𝔾 log)))
         → d₆ ≡ written (wordsOf rows (writtenPolys 𝔾 log)) d₀
     unfolding logOf
     all-end d₄ d₆ fourth last =
-        let counted : d₄ ≡ over d₀ 0 (wordsOf rows (countedPolys 𝔾 log)) =
-        fourth ∙ ap (λ (d : List ℕ). over d (countsAt c) (wordsOf rows (mPolys 𝔾 log))) before ∙ counted-more log d₀ room in
-        last (ap (take (hsAt c)) counted ∙ counted-taken log d₀)
-        ∙ ap (λ (d : List ℕ). over d (hsAt c) (wordsOf rows (lastPolys 𝔾 log))) counted
+        let counted : d₄ ≡ over d₀ 0 (wordsOf rows (polysThroughM 𝔾 log)) =
+        fourth ∙ ap (λ (d : List ℕ). over d (mOffset c) (wordsOf rows (mPolys 𝔾 log))) before ∙ through-m-more log d₀ room in
+        last (ap (take (hOffset c)) counted ∙ counted-taken log d₀)
+        ∙ ap (λ (d : List ℕ). over d (hOffset c) (wordsOf rows (polysAfterM 𝔾 log))) counted
         ∙ written-more log d₀ room
 
     -- question 15: "the column words needed become 0"
-    pub none-end : (d₄ d₆ : List ℕ) (words : ℕ) → drop (countsAt c + numLookups c * rows) d₄ ≡ drop (countsAt c + numLookups c * rows) d₃
+    pub none-end : (d₄ d₆ : List ℕ) (words : ℕ) → drop (mOffset c + numLookups c * rows) d₄ ≡ drop (mOffset c + numLookups c * rows) d₃
         → words ≡ columnWords c
         → d₆ ≡ over d₄ 0 (replicate words 0)
         → d₆ ≡ written (replicate (columnWords c) 0) d₀
@@ -144,10 +144,10 @@ module _ (ws instances witness challenges : List ℕ) (a : Accepted ws) where
         zeros
         ∙ ap (λ (n : ℕ). over d₄ 0 (replicate n 0)) q
         ∙ cleared (columnWords c) d₀ d₄
-        (drop-more (countsAt c + numLookups c * rows) (columnWords c) d₄ d₃ (omega arith) behind
+        (drop-more (mOffset c + numLookups c * rows) (columnWords c) d₄ d₃ (omega arith) behind
         ∙ ap (drop (columnWords c)) before
-        ∙ drop-past d₀ 0 (wordsOf rows (uncountedPolys 𝔾 log)) (columnWords c) (omega arith)
-        (let e = words-length rows (uncountedPolys 𝔾 log) in let q = counts-at log in omega arith))
+        ∙ drop-past d₀ 0 (wordsOf rows (polysBeforeM 𝔾 log)) (columnWords c) (omega arith)
+        (let e = words-length rows (polysBeforeM 𝔾 log) in let q = counts-at log in omega arith))
 
 -- ---- the numbers of accepted circuit words
 
@@ -180,9 +180,9 @@ module _ (ws : List ℕ) (a : Accepted ws) (v : Numbers) (e : v ≡ numbersOf (c
       let q = columns-low ws a v e in
       product-fit n (v .rows) (let w = q .0 in omega arith) (q .1)
 
-  pub places-from : ((getD ws 3 0 + v .copied) * v .rows ≡ compressedAt (circuitOf ws))
-      × ((getD ws 3 0 + v .copied + v .lookups * 2) * v .rows ≡ countsAt (circuitOf ws))
-      × ((getD ws 3 0 + v .copied + v .lookups * 3) * v .rows ≡ hsAt (circuitOf ws))
+  pub places-from : ((getD ws 3 0 + v .copied) * v .rows ≡ compressedOffset (circuitOf ws))
+      × ((getD ws 3 0 + v .copied + v .lookups * 2) * v .rows ≡ mOffset (circuitOf ws))
+      × ((getD ws 3 0 + v .copied + v .lookups * 3) * v .rows ≡ hOffset (circuitOf ws))
   unfolding numbersOf
   places-from =
       let c : Circuit = circuitOf ws in
@@ -209,19 +209,19 @@ module _ (ws instances witness challenges : List ℕ) (a : Accepted ws)
       let p = placed circuit in (a, sym (exact-instances circuit instances witness challenges q), omega arith)
 
   pub permutation-asked : (names : List ℕ) → names ≡ copied circuit → (m : ℕ) → m ≡ n
-      → Accepted ws × (names ≡ copied circuit) × (compressedAt circuit ≤ m)
+      → Accepted ws × (names ≡ copied circuit) × (compressedOffset circuit ≤ m)
   permutation-asked names e m l = let p = placed circuit in (a, e, omega arith)
 
   pub compressed-asked : (names : List ℕ) → names ≡ copied circuit → (m : ℕ) → m ≡ n
       → Accepted ws
       × (length challenges ≡ numUser circuit + 2)
       × (length names ≡ numCopied circuit)
-      × (compressedAt circuit + numLookups circuit * 2 * rowsOf circuit ≤ m)
+      × (compressedOffset circuit + numLookups circuit * 2 * rowsOf circuit ≤ m)
   compressed-asked names e m l =
       let p = placed circuit in (a, exact-challenges circuit instances witness challenges q, ap length e, omega arith)
 
-module _ (ws : List ℕ) (a : Accepted ws) (v : Numbers) (e : v ≡ numbersOf (circuitOf ws)) (x y : ℕ) (x-is : x ≡ compressedAt (circuitOf ws))
-    (y-is : y ≡ countsAt (circuitOf ws)) (n : ℕ) (room : columnWords (circuitOf ws) ≤ n) where
+module _ (ws : List ℕ) (a : Accepted ws) (v : Numbers) (e : v ≡ numbersOf (circuitOf ws)) (x y : ℕ) (x-is : x ≡ compressedOffset (circuitOf ws))
+    (y-is : y ≡ mOffset (circuitOf ws)) (n : ℕ) (room : columnWords (circuitOf ws) ≤ n) where
   lookup-words : v .lookups * 2 * v .rows ≡ numLookups (circuitOf ws) * 2 * rowsOf (circuitOf ws)
   lookup-words = ap₂ (λ (l r : ℕ). l * 2 * r) (lookups-are ws a v e) (rows-are ws a v e)
 
@@ -229,7 +229,7 @@ module _ (ws : List ℕ) (a : Accepted ws) (v : Numbers) (e : v ≡ numbersOf (c
   count-words = ap₂ (λ (l r : ℕ). l * r) (lookups-are ws a v e) (rows-are ws a v e)
 
   pub counts-asked : (instances witness challenges d₀ d : List ℕ)
-      → d ≡ over d₀ 0 (wordsOf (rowsOf (circuitOf ws)) (uncountedPolys 𝔾 (logOf ws instances witness challenges)))
+      → d ≡ over d₀ 0 (wordsOf (rowsOf (circuitOf ws)) (polysBeforeM 𝔾 (logOf ws instances witness challenges)))
       → length d ≡ n
       → (x + v .lookups * 2 * v .rows ≤ y)
       × (y + v .lookups * v .rows ≤ length d)
@@ -245,14 +245,14 @@ module _ (ws : List ℕ) (a : Accepted ws) (v : Numbers) (e : v ≡ numbersOf (c
             subst (λ (z : ℕ). z < P)
             (ap₂ (λ (d : List ℕ) (i : ℕ). getD d (i + b) 0) (sym before) (sym x-is))
             (lookups-small (logOf ws instances witness challenges)
-            (over d₀ 0 (wordsOf (rowsOf (circuitOf ws)) (uncountedPolys 𝔾 (logOf ws instances witness challenges))))
-            (compressedAt (circuitOf ws))
-            (compressed-uncounted (logOf ws instances witness challenges) d₀)
+            (over d₀ 0 (wordsOf (rowsOf (circuitOf ws)) (polysBeforeM 𝔾 (logOf ws instances witness challenges))))
+            (compressedOffset (circuitOf ws))
+            (compressed-before-m (logOf ws instances witness challenges) d₀)
             b
             (omega arith)),
       )
 
-  module _ (z : ℕ) (z-is : z ≡ hsAt (circuitOf ws)) where
+  module _ (z : ℕ) (z-is : z ≡ hOffset (circuitOf ws)) where
     pub hs-asked : (m : ℕ) → m ≡ n → (x + v .lookups * 2 * v .rows ≤ z) × (y + v .lookups * v .rows ≤ z) × (z + v .lookups * v .rows ≤ m)
     hs-asked m l =
         let p = placed (circuitOf ws) in
@@ -261,9 +261,9 @@ module _ (ws : List ℕ) (a : Accepted ws) (v : Numbers) (e : v ≡ numbersOf (c
         (omega arith, omega arith, omega arith)
 
     pub hs-written : (γ : 𝔾 .F) (instances witness challenges d d' : List ℕ) → γ ≡ el (getD challenges (v .user + 1) 0)
-        → take (hsAt (circuitOf ws)) d ≡ wordsOf (rowsOf (circuitOf ws)) (countedPolys 𝔾 (logOf ws instances witness challenges))
+        → take (hOffset (circuitOf ws)) d ≡ wordsOf (rowsOf (circuitOf ws)) (polysThroughM 𝔾 (logOf ws instances witness challenges))
         → d' ≡ over d z (hsFrom d x (v .rows) γ y (v .lookups))
-        → d' ≡ over d (hsAt (circuitOf ws)) (wordsOf (rowsOf (circuitOf ws)) (hPolys 𝔾 (logOf ws instances witness challenges)))
+        → d' ≡ over d (hOffset (circuitOf ws)) (wordsOf (rowsOf (circuitOf ws)) (hPolys 𝔾 (logOf ws instances witness challenges)))
     unfolding logOf
     hs-written γ instances witness challenges d d' γ-is front eq =
         let log' : Log 𝔾 = logOf ws instances witness challenges in
@@ -272,23 +272,23 @@ module _ (ws : List ℕ) (a : Accepted ws) (v : Numbers) (e : v ≡ numbersOf (c
         eq
         ∙ ap₂ (λ (r l : ℕ). over d z (hsFrom d x r γ y l)) (rows-are ws a v e) (lookups-are ws a v e)
         ∙ ap₂ (λ (x y : ℕ). over d z (hsFrom d x R γ y L)) x-is y-is
-        ∙ ap (λ (z : ℕ). over d z (hsFrom d (compressedAt (circuitOf ws)) R γ (countsAt (circuitOf ws)) L)) z-is
-        ∙ ap (over d (hsAt (circuitOf ws)))
-        (hs-are log' d (compressedAt (circuitOf ws)) (compressed-counted log' d front) (countsAt (circuitOf ws)) (counts-counted log' d front)
+        ∙ ap (λ (z : ℕ). over d z (hsFrom d (compressedOffset (circuitOf ws)) R γ (mOffset (circuitOf ws)) L)) z-is
+        ∙ ap (over d (hOffset (circuitOf ws)))
+        (hs-are log' d (compressedOffset (circuitOf ws)) (compressed-counted log' d front) (mOffset (circuitOf ws)) (counts-counted log' d front)
         γ (sym (γ-is ∙ ap (λ (u : ℕ). el (getD challenges (u + 1) 0)) (user-is ws a v e))))
 
   -- ---- the counts, and question 15
   module _ (instances witness challenges d₀ d d' : List ℕ) (answer : Bool)
-      (before : d ≡ over d₀ 0 (wordsOf (rowsOf (circuitOf ws)) (uncountedPolys 𝔾 (logOf ws instances witness challenges))))
+      (before : d ≡ over d₀ 0 (wordsOf (rowsOf (circuitOf ws)) (polysBeforeM 𝔾 (logOf ws instances witness challenges))))
       (w : CountsWritten d (v .lookups) x y (v .rows) answer d') where
     abbrev here : Log 𝔾
     here = logOf ws instances witness challenges
 
     compressed-there : (j : ℕ) → j < numLookups (circuitOf ws) * 2 * rowsOf (circuitOf ws)
-        → getD d (compressedAt (circuitOf ws) + j) 0 ≡ getD (wordsOf (rowsOf (circuitOf ws)) (compressedPolys 𝔾 here)) j 0
+        → getD d (compressedOffset (circuitOf ws) + j) 0 ≡ getD (wordsOf (rowsOf (circuitOf ws)) (compressedPolys 𝔾 here)) j 0
     unfolding logOf
     compressed-there j l =
-        ap (λ (d : List ℕ). getD d (compressedAt (circuitOf ws) + j) 0) before ∙ compressed-uncounted here d₀ j l
+        ap (λ (d : List ℕ). getD d (compressedOffset (circuitOf ws) + j) 0) before ∙ compressed-before-m here d₀ j l
 
     pub answer-is : answer ≡ allCovered 𝔾 here
     unfolding logOf
@@ -296,22 +296,22 @@ module _ (ws : List ℕ) (a : Accepted ws) (v : Numbers) (e : v ≡ numbersOf (c
         w .is
         ∙ ap₂ (λ (r l : ℕ). coveredFrom d x r l) (rows-are ws a v e) (lookups-are ws a v e)
         ∙ ap (λ (x : ℕ). coveredFrom d x (rowsOf (circuitOf ws)) (numLookups (circuitOf ws))) x-is
-        ∙ all-covered-is here d (compressedAt (circuitOf ws)) compressed-there
+        ∙ all-covered-is here d (compressedOffset (circuitOf ws)) compressed-there
 
-    pub counts-written : answer ≡ true → d' ≡ over d (countsAt (circuitOf ws)) (wordsOf (rowsOf (circuitOf ws)) (mPolys 𝔾 here))
+    pub counts-written : answer ≡ true → d' ≡ over d (mOffset (circuitOf ws)) (wordsOf (rowsOf (circuitOf ws)) (mPolys 𝔾 here))
     unfolding logOf
     counts-written t =
         w .counts t
         ∙ ap₂ (λ (r l : ℕ). over d y (countsFrom d x r l)) (rows-are ws a v e) (lookups-are ws a v e)
         ∙ ap₂ (λ (x y : ℕ). over d y (countsFrom d x (rowsOf (circuitOf ws)) (numLookups (circuitOf ws)))) x-is y-is
-        ∙ ap (over d (countsAt (circuitOf ws)))
-        (counts-are here d (compressedAt (circuitOf ws)) compressed-there refl
+        ∙ ap (over d (mOffset (circuitOf ws)))
+        (counts-are here d (compressedOffset (circuitOf ws)) compressed-there refl
         (let r = rows-few ws a in let t = rows-is ws a in omega arith))
 
-    pub counts-behind : drop (countsAt (circuitOf ws) + numLookups (circuitOf ws) * rowsOf (circuitOf ws)) d'
-        ≡ drop (countsAt (circuitOf ws) + numLookups (circuitOf ws) * rowsOf (circuitOf ws)) d
+    pub counts-behind : drop (mOffset (circuitOf ws) + numLookups (circuitOf ws) * rowsOf (circuitOf ws)) d'
+        ≡ drop (mOffset (circuitOf ws) + numLookups (circuitOf ws) * rowsOf (circuitOf ws)) d
     counts-behind =
-        let q : y + v .lookups * v .rows ≡ countsAt (circuitOf ws) + numLookups (circuitOf ws) * rowsOf (circuitOf ws) =
+        let q : y + v .lookups * v .rows ≡ mOffset (circuitOf ws) + numLookups (circuitOf ws) * rowsOf (circuitOf ws) =
         ap₂ _+_ y-is count-words in
         ap (λ (n : ℕ). drop n d') (sym q) ∙ w .back ∙ ap (λ (n : ℕ). drop n d) q
 
@@ -321,7 +321,7 @@ pub z-asked : (ws : List ℕ) → Accepted ws → (v : Numbers) → v ≡ number
     → Accepted ws
     × (names ≡ copied (circuitOf ws))
     × (v .parts ≡ numZ (circuitOf ws))
-    × (zsAt (circuitOf ws) + numZ (circuitOf ws) * rowsOf (circuitOf ws) ≤ n)
+    × (zOffset (circuitOf ws) + numZ (circuitOf ws) * rowsOf (circuitOf ws) ≤ n)
 z-asked ws a v e names h n room = let p = placed (circuitOf ws) in (a, h, parts-are ws a v e, omega arith)
 
 -- what is answered and what the columns are, by question 15

@@ -16,15 +16,15 @@ use Rattle.preprocessor.specs.Compose.{numZ}
 use Rattle.prover.specs.Log.{Log}
 use Rattle.prover.specs.Columns.{permutationAt, instancePolys, permutationPolys, compressedPolys, mPolys, hPolys, zPolys, writtenPolys}
 use Rattle.prover.specs.Words.{wordsOf}
-use Rattle.prover.specs.Lent.{Given, lentEnvironment, compressedPolysIn, lentRatio}
+use Rattle.prover.specs.Lent.{Given, environmentFromWords, compressedPolysIn, ratioInWords}
 use Rattle.prover.specs.Running.{zOf}
 use Rattle.prover.proofs.Words.{words-get, over-columns}
 use Rattle.prover.proofs.Lengths.{instances-length, permutations-length, compressed-length, m-length, h-length}
 use Rattle.prover.proofs.Lent.{Reads, compressed-agree}
 use Rattle.prover.proofs.Z.{z-agree}
 use Rattle.hyperplonk_spec.specs.Build.{logOf, columnWords}
-use Rattle.hyperplonk_prepare.specs.Prepared.{layoutOf, permutationsAt, compressedAt, countsAt, hsAt, zsAt}
-use Rattle.hyperplonk_columns.specs.Kinds.{uncountedPolys, countedPolys, lastPolys}
+use Rattle.hyperplonk_prepare.specs.Prepared.{layoutOf, permutationOffset, compressedOffset, mOffset, hOffset, zOffset}
+use Rattle.hyperplonk_columns.specs.Kinds.{polysBeforeM, polysThroughM, polysAfterM}
 use Rattle.hyperplonk_columns.proofs.Fronts.{over-take, take-over, front-get}
 
 module _ (g : Log 𝔾) where
@@ -40,29 +40,29 @@ module _ (g : Log 𝔾) where
   named-length =
       length-append (instancePolys 𝔾 g) (permutationPolys 𝔾 g) ∙ ap₂ _+_ (instances-length 𝔾 g) (permutations-length 𝔾 g)
 
-  pub uncounted-length : length (uncountedPolys 𝔾 g) ≡ numInstance c + numCopied c + numLookups c * 2
-  uncounted-length =
+  pub before-m-length : length (polysBeforeM 𝔾 g) ≡ numInstance c + numCopied c + numLookups c * 2
+  before-m-length =
       length-append (instancePolys 𝔾 g ++ permutationPolys 𝔾 g) (compressedPolys 𝔾 g) ∙ ap₂ _+_ named-length (compressed-length 𝔾 g)
 
-  counted-length : length (countedPolys 𝔾 g) ≡ numInstance c + numCopied c + numLookups c * 3
+  counted-length : length (polysThroughM 𝔾 g) ≡ numInstance c + numCopied c + numLookups c * 3
   counted-length =
-      length-append (uncountedPolys 𝔾 g) (mPolys 𝔾 g)
-      ∙ (let a = uncounted-length in let b = m-length 𝔾 g in omega arith)
+      length-append (polysBeforeM 𝔾 g) (mPolys 𝔾 g)
+      ∙ (let a = before-m-length in let b = m-length 𝔾 g in omega arith)
 
   -- where each begins
-  permutations-at : permutationsAt c ≡ length (instancePolys 𝔾 g) * R
+  permutations-at : permutationOffset c ≡ length (instancePolys 𝔾 g) * R
   permutations-at = ap (λ (n : ℕ). n * R) (sym (instances-length 𝔾 g))
 
-  compressed-at : compressedAt c ≡ length (instancePolys 𝔾 g ++ permutationPolys 𝔾 g) * R
+  compressed-at : compressedOffset c ≡ length (instancePolys 𝔾 g ++ permutationPolys 𝔾 g) * R
   compressed-at = ap (λ (n : ℕ). n * R) (sym named-length)
 
-  pub counts-at : countsAt c ≡ length (uncountedPolys 𝔾 g) * R
-  counts-at = ap (λ (n : ℕ). n * R) (sym uncounted-length)
+  pub counts-at : mOffset c ≡ length (polysBeforeM 𝔾 g) * R
+  counts-at = ap (λ (n : ℕ). n * R) (sym before-m-length)
 
-  hs-at : hsAt c ≡ length (countedPolys 𝔾 g) * R
+  hs-at : hOffset c ≡ length (polysThroughM 𝔾 g) * R
   hs-at = ap (λ (n : ℕ). n * R) (sym counted-length)
 
-  zs-at : zsAt c ≡ hsAt c + length (hPolys 𝔾 g) * R
+  zs-at : zOffset c ≡ hOffset c + length (hPolys 𝔾 g) * R
   zs-at =
       let n : numInstance c + numCopied c + numLookups c * 4 ≡ numInstance c + numCopied c + numLookups c * 3 + length (hPolys 𝔾 g) =
       let e = h-length 𝔾 g in omega arith in
@@ -83,50 +83,50 @@ module _ (g : Log 𝔾) where
 
   -- the permutation columns behind the instance columns
   named-more : (d : List ℕ) → Room d
-      → over (over d 0 (wordsOf R (instancePolys 𝔾 g))) (permutationsAt c) (wordsOf R (permutationPolys 𝔾 g))
+      → over (over d 0 (wordsOf R (instancePolys 𝔾 g))) (permutationOffset c) (wordsOf R (permutationPolys 𝔾 g))
       ≡ over d 0 (wordsOf R (instancePolys 𝔾 g ++ permutationPolys 𝔾 g))
   named-more d r =
-      over-columns R d 0 (instancePolys 𝔾 g) (permutationPolys 𝔾 g) (permutationsAt c)
+      over-columns R d 0 (instancePolys 𝔾 g) (permutationPolys 𝔾 g) (permutationOffset c)
       (permutations-at ∙ sym (zero-add (length (instancePolys 𝔾 g) * R)))
       (room-of d (numInstance c) (omega arith) r)
 
   -- the compressed columns behind both
-  uncounted-more : (d : List ℕ) → Room d
-      → over (over d 0 (wordsOf R (instancePolys 𝔾 g ++ permutationPolys 𝔾 g))) (compressedAt c) (wordsOf R (compressedPolys 𝔾 g))
-      ≡ over d 0 (wordsOf R (uncountedPolys 𝔾 g))
-  uncounted-more d r =
-      over-columns R d 0 (instancePolys 𝔾 g ++ permutationPolys 𝔾 g) (compressedPolys 𝔾 g) (compressedAt c)
+  before-m-more : (d : List ℕ) → Room d
+      → over (over d 0 (wordsOf R (instancePolys 𝔾 g ++ permutationPolys 𝔾 g))) (compressedOffset c) (wordsOf R (compressedPolys 𝔾 g))
+      ≡ over d 0 (wordsOf R (polysBeforeM 𝔾 g))
+  before-m-more d r =
+      over-columns R d 0 (instancePolys 𝔾 g ++ permutationPolys 𝔾 g) (compressedPolys 𝔾 g) (compressedOffset c)
       (compressed-at ∙ sym (zero-add (length (instancePolys 𝔾 g ++ permutationPolys 𝔾 g) * R)))
       (room-of d (numInstance c + numCopied c) (omega arith) r)
 
   -- m behind these
-  pub counted-more : (d : List ℕ) → Room d
-      → over (over d 0 (wordsOf R (uncountedPolys 𝔾 g))) (countsAt c) (wordsOf R (mPolys 𝔾 g))
-      ≡ over d 0 (wordsOf R (countedPolys 𝔾 g))
-  counted-more d r =
-      over-columns R d 0 (uncountedPolys 𝔾 g) (mPolys 𝔾 g) (countsAt c)
-      (counts-at ∙ sym (zero-add (length (uncountedPolys 𝔾 g) * R)))
+  pub through-m-more : (d : List ℕ) → Room d
+      → over (over d 0 (wordsOf R (polysBeforeM 𝔾 g))) (mOffset c) (wordsOf R (mPolys 𝔾 g))
+      ≡ over d 0 (wordsOf R (polysThroughM 𝔾 g))
+  through-m-more d r =
+      over-columns R d 0 (polysBeforeM 𝔾 g) (mPolys 𝔾 g) (mOffset c)
+      (counts-at ∙ sym (zero-add (length (polysBeforeM 𝔾 g) * R)))
       (room-of d (numInstance c + numCopied c + numLookups c * 2) (omega arith) r)
 
   -- z behind h
   last-more : (d : List ℕ) → Room d
-      → over (over d (hsAt c) (wordsOf R (hPolys 𝔾 g))) (zsAt c) (wordsOf R (zPolys 𝔾 g))
-      ≡ over d (hsAt c) (wordsOf R (lastPolys 𝔾 g))
+      → over (over d (hOffset c) (wordsOf R (hPolys 𝔾 g))) (zOffset c) (wordsOf R (zPolys 𝔾 g))
+      ≡ over d (hOffset c) (wordsOf R (polysAfterM 𝔾 g))
   last-more d r =
-      over-columns R d (hsAt c) (hPolys 𝔾 g) (zPolys 𝔾 g) (zsAt c) zs-at
+      over-columns R d (hOffset c) (hPolys 𝔾 g) (zPolys 𝔾 g) (zOffset c) zs-at
       (room-of d (numInstance c + numCopied c + numLookups c * 4) (omega arith) r)
 
   -- all of them
-  written-grouped : countedPolys 𝔾 g ++ lastPolys 𝔾 g ≡ writtenPolys 𝔾 g
+  written-grouped : polysThroughM 𝔾 g ++ polysAfterM 𝔾 g ≡ writtenPolys 𝔾 g
   unfolding writtenPolys
   written-grouped = simp append-assoc
 
   pub written-more : (d : List ℕ) → Room d
-      → over (over d 0 (wordsOf R (countedPolys 𝔾 g))) (hsAt c) (wordsOf R (lastPolys 𝔾 g))
+      → over (over d 0 (wordsOf R (polysThroughM 𝔾 g))) (hOffset c) (wordsOf R (polysAfterM 𝔾 g))
       ≡ written (wordsOf R (writtenPolys 𝔾 g)) d
   written-more d r =
-      over-columns R d 0 (countedPolys 𝔾 g) (lastPolys 𝔾 g) (hsAt c)
-      (hs-at ∙ sym (zero-add (length (countedPolys 𝔾 g) * R)))
+      over-columns R d 0 (polysThroughM 𝔾 g) (polysAfterM 𝔾 g) (hOffset c)
+      (hs-at ∙ sym (zero-add (length (polysThroughM 𝔾 g) * R)))
       (room-of d (numInstance c + numCopied c + numLookups c * 3) (omega arith) r)
       ∙ ap (λ (ps : List (ℕ → 𝔾 .F)). over d 0 (wordsOf R ps)) written-grouped
       ∙ sym (over-written (wordsOf R (writtenPolys 𝔾 g)) d)
@@ -147,48 +147,48 @@ module _ (g : Log 𝔾) where
       → (i b : ℕ) → i < numCopied c → b < R → el (getD d ((numInstance c + i) * R + b) 0) ≡ permutationAt 𝔾 g i b
   unfolding permutationPolys
   labels-read e d rs all parts front i b hi hb =
-      let n : (numInstance c + i) * R + b ≡ permutationsAt c + (i * R + b) =
+      let n : (numInstance c + i) * R + b ≡ permutationOffset c + (i * R + b) =
       let q = add-mul (numInstance c) i R in omega arith in
       let inside : i * R + b < length (permutationPolys 𝔾 g) * R =
       grid-lt (length (permutationPolys 𝔾 g)) R i b (let q = permutations-length 𝔾 g in omega arith) hb in
       ap el
       (ap (λ (m : ℕ). getD d m 0) n
-      ∙ front-get R e d (instancePolys 𝔾 g) (permutationPolys 𝔾 g) rs all parts front (permutationsAt c) permutations-at (i * R + b) inside
+      ∙ front-get R e d (instancePolys 𝔾 g) (permutationPolys 𝔾 g) rs all parts front (permutationOffset c) permutations-at (i * R + b) inside
       ∙ words-get R (permutationPolys 𝔾 g) i b (let q = permutations-length 𝔾 g in omega arith) hb)
       ∙ el-val (polyOf 𝔾 (permutationPolys 𝔾 g) i b)
       ∙ ap (λ (ps : List (ℕ → 𝔾 .F)). polyOf 𝔾 ps i b) (map-below (permutationAt 𝔾 g) (numCopied c))
       ∙ ap (λ (p : ℕ → 𝔾 .F). p b) (get-column (permutationAt 𝔾 g) (numCopied c) i (λ r. 𝔾 .zero) hi)
 
   -- the compressed columns, before and after the counts
-  compressed-read : (e d : List ℕ) (rs all : List (ℕ → 𝔾 .F)) → all ≡ uncountedPolys 𝔾 g ++ rs → d ≡ over e 0 (wordsOf R all)
-      → (j : ℕ) → j < numLookups c * 2 * R → getD d (compressedAt c + j) 0 ≡ getD (wordsOf R (compressedPolys 𝔾 g)) j 0
+  compressed-read : (e d : List ℕ) (rs all : List (ℕ → 𝔾 .F)) → all ≡ polysBeforeM 𝔾 g ++ rs → d ≡ over e 0 (wordsOf R all)
+      → (j : ℕ) → j < numLookups c * 2 * R → getD d (compressedOffset c + j) 0 ≡ getD (wordsOf R (compressedPolys 𝔾 g)) j 0
   compressed-read e d rs all parts front j l =
-      front-get R e d (instancePolys 𝔾 g ++ permutationPolys 𝔾 g) (compressedPolys 𝔾 g) rs all parts front (compressedAt c) compressed-at j
+      front-get R e d (instancePolys 𝔾 g ++ permutationPolys 𝔾 g) (compressedPolys 𝔾 g) rs all parts front (compressedOffset c) compressed-at j
       (let q : length (compressedPolys 𝔾 g) * R ≡ numLookups c * 2 * R = ap (λ (n : ℕ). n * R) (compressed-length 𝔾 g) in omega arith)
 
-  pub compressed-uncounted : (d : List ℕ) (j : ℕ) → j < numLookups c * 2 * R
-      → getD (over d 0 (wordsOf R (uncountedPolys 𝔾 g))) (compressedAt c + j) 0 ≡ getD (wordsOf R (compressedPolys 𝔾 g)) j 0
-  compressed-uncounted d =
-      compressed-read d (over d 0 (wordsOf R (uncountedPolys 𝔾 g))) [] (uncountedPolys 𝔾 g) (sym (append-nil (uncountedPolys 𝔾 g))) refl
+  pub compressed-before-m : (d : List ℕ) (j : ℕ) → j < numLookups c * 2 * R
+      → getD (over d 0 (wordsOf R (polysBeforeM 𝔾 g))) (compressedOffset c + j) 0 ≡ getD (wordsOf R (compressedPolys 𝔾 g)) j 0
+  compressed-before-m d =
+      compressed-read d (over d 0 (wordsOf R (polysBeforeM 𝔾 g))) [] (polysBeforeM 𝔾 g) (sym (append-nil (polysBeforeM 𝔾 g))) refl
 
   -- a buffer that has the columns to the counts at its front
-  module _ (d : List ℕ) (front : take (hsAt c) d ≡ wordsOf R (countedPolys 𝔾 g)) where
-    counted-front : d ≡ over d 0 (wordsOf R (countedPolys 𝔾 g))
-    counted-front = take-over R d (countedPolys 𝔾 g) (hsAt c) hs-at front
+  module _ (d : List ℕ) (front : take (hOffset c) d ≡ wordsOf R (polysThroughM 𝔾 g)) where
+    counted-front : d ≡ over d 0 (wordsOf R (polysThroughM 𝔾 g))
+    counted-front = take-over R d (polysThroughM 𝔾 g) (hOffset c) hs-at front
 
-    pub compressed-counted : (j : ℕ) → j < numLookups c * 2 * R → getD d (compressedAt c + j) 0 ≡ getD (wordsOf R (compressedPolys 𝔾 g)) j 0
-    compressed-counted = compressed-read d d (mPolys 𝔾 g) (countedPolys 𝔾 g) refl counted-front
+    pub compressed-counted : (j : ℕ) → j < numLookups c * 2 * R → getD d (compressedOffset c + j) 0 ≡ getD (wordsOf R (compressedPolys 𝔾 g)) j 0
+    compressed-counted = compressed-read d d (mPolys 𝔾 g) (polysThroughM 𝔾 g) refl counted-front
 
-    pub counts-counted : (j : ℕ) → j < numLookups c * R → getD d (countsAt c + j) 0 ≡ getD (wordsOf R (mPolys 𝔾 g)) j 0
+    pub counts-counted : (j : ℕ) → j < numLookups c * R → getD d (mOffset c + j) 0 ≡ getD (wordsOf R (mPolys 𝔾 g)) j 0
     counts-counted j l =
-        front-get R d d (uncountedPolys 𝔾 g) (mPolys 𝔾 g) [] (countedPolys 𝔾 g) (sym (append-nil (countedPolys 𝔾 g))) counted-front (countsAt c)
+        front-get R d d (polysBeforeM 𝔾 g) (mPolys 𝔾 g) [] (polysThroughM 𝔾 g) (sym (append-nil (polysThroughM 𝔾 g))) counted-front (mOffset c)
         counts-at j
         (let q : length (mPolys 𝔾 g) * R ≡ numLookups c * R = ap (λ (n : ℕ). n * R) (m-length 𝔾 g) in omega arith)
 
   -- which it has when m is written
-  pub counted-taken : (d : List ℕ) → take (hsAt c) (over d 0 (wordsOf R (countedPolys 𝔾 g))) ≡ wordsOf R (countedPolys 𝔾 g)
+  pub counted-taken : (d : List ℕ) → take (hOffset c) (over d 0 (wordsOf R (polysThroughM 𝔾 g))) ≡ wordsOf R (polysThroughM 𝔾 g)
   counted-taken d =
-      ap (λ (n : ℕ). take n (over d 0 (wordsOf R (countedPolys 𝔾 g)))) hs-at ∙ over-take R d (countedPolys 𝔾 g)
+      ap (λ (n : ℕ). take n (over d 0 (wordsOf R (polysThroughM 𝔾 g)))) hs-at ∙ over-take R d (polysThroughM 𝔾 g)
 
 -- ---- the log of the words
 
@@ -223,77 +223,77 @@ module _ (ws instances witness challenges : List ℕ) (positive : 0 < circuitOf 
 
   module _ (d₀ d₁ d₂ d₃ : List ℕ) (room : columnWords (circuitOf ws) ≤ length d₀)
       (first : d₁ ≡ over d₀ 0 (wordsOf rows (instancePolys 𝔾 log)))
-      (second : d₂ ≡ over d₁ (permutationsAt (circuitOf ws)) (wordsOf rows (permutationPolys 𝔾 log)))
+      (second : d₂ ≡ over d₁ (permutationOffset (circuitOf ws)) (wordsOf rows (permutationPolys 𝔾 log)))
       (third : d₃
-      ≡ over d₂ (compressedAt (circuitOf ws))
+      ≡ over d₂ (compressedOffset (circuitOf ws))
       (wordsOf rows
       (compressedPolysIn 𝔾
-      (lentEnvironment ws witness d₂ (take (numUser (circuitOf ws)) challenges) (layoutOf ws) (circuitOf ws .k))
+      (environmentFromWords ws witness d₂ (take (numUser (circuitOf ws)) challenges) (layoutOf ws) (circuitOf ws .k))
       (el (getD challenges (numUser (circuitOf ws)) 0))
       (circuitOf ws .lookups)))) where
     named-front : d₂ ≡ over d₀ 0 (wordsOf rows (instancePolys 𝔾 log ++ permutationPolys 𝔾 log))
     unfolding logOf
     named-front =
         second
-        ∙ ap (λ (d : List ℕ). over d (permutationsAt (circuitOf ws)) (wordsOf rows (permutationPolys 𝔾 log))) first
+        ∙ ap (λ (d : List ℕ). over d (permutationOffset (circuitOf ws)) (wordsOf rows (permutationPolys 𝔾 log))) first
         ∙ named-more log d₀ room
 
     -- the columns before the counts are the log's
-    pub uncounted-written : d₃ ≡ over d₀ 0 (wordsOf rows (uncountedPolys 𝔾 log))
+    pub before-m-written : d₃ ≡ over d₀ 0 (wordsOf rows (polysBeforeM 𝔾 log))
     unfolding logOf
-    uncounted-written =
+    before-m-written =
         third
-        ∙ ap (over d₂ (compressedAt (circuitOf ws)))
+        ∙ ap (over d₂ (compressedOffset (circuitOf ws)))
         (compressed-agree log (layoutOf ws) ws witness d₂ (take (numUser (circuitOf ws)) challenges)
         (reads d₀ d₂ (permutationPolys 𝔾 log) (instancePolys 𝔾 log ++ permutationPolys 𝔾 log) refl named-front)
         (getD challenges (numUser (circuitOf ws)) 0) refl)
-        ∙ ap (λ (d : List ℕ). over d (compressedAt (circuitOf ws)) (wordsOf rows (compressedPolys 𝔾 log))) named-front
-        ∙ uncounted-more log d₀ room
+        ∙ ap (λ (d : List ℕ). over d (compressedOffset (circuitOf ws)) (wordsOf rows (compressedPolys 𝔾 log))) named-front
+        ∙ before-m-more log d₀ room
 
   module _ (d₄ d₅ d₆ : List ℕ) (room : columnWords (circuitOf ws) ≤ length d₄)
-      (front : take (hsAt (circuitOf ws)) d₄ ≡ wordsOf rows (countedPolys 𝔾 log))
-      (fifth : d₅ ≡ over d₄ (hsAt (circuitOf ws)) (wordsOf rows (hPolys 𝔾 log)))
+      (front : take (hOffset (circuitOf ws)) d₄ ≡ wordsOf rows (polysThroughM 𝔾 log))
+      (fifth : d₅ ≡ over d₄ (hOffset (circuitOf ws)) (wordsOf rows (hPolys 𝔾 log)))
       (sixth : d₆
-      ≡ over d₅ (zsAt (circuitOf ws))
+      ≡ over d₅ (zOffset (circuitOf ws))
       (wordsOf rows
       (column
       (zOf 𝔾
-      (lentRatio (layoutOf ws) ws witness d₅ (copied (circuitOf ws)) (el (getD challenges (numUser (circuitOf ws)) 0))
+      (ratioInWords (layoutOf ws) ws witness d₅ (copied (circuitOf ws)) (el (getD challenges (numUser (circuitOf ws)) 0))
       (el (getD challenges (numUser (circuitOf ws) + 1) 0)))
       (circuitOf ws .k)
       (numCopied (circuitOf ws))
       (numZ (circuitOf ws)))
       (numZ (circuitOf ws))))) where
-    fronted : d₅ ≡ over d₄ 0 (wordsOf rows (countedPolys 𝔾 log ++ hPolys 𝔾 log))
+    fronted : d₅ ≡ over d₄ 0 (wordsOf rows (polysThroughM 𝔾 log ++ hPolys 𝔾 log))
     unfolding logOf
     fronted =
         fifth
-        ∙ ap (λ (d : List ℕ). over d (hsAt (circuitOf ws)) (wordsOf rows (hPolys 𝔾 log))) (counted-front log d₄ front)
-        ∙ over-columns rows d₄ 0 (countedPolys 𝔾 log) (hPolys 𝔾 log) (hsAt (circuitOf ws))
-        (hs-at log ∙ sym (zero-add (length (countedPolys 𝔾 log) * rows)))
+        ∙ ap (λ (d : List ℕ). over d (hOffset (circuitOf ws)) (wordsOf rows (hPolys 𝔾 log))) (counted-front log d₄ front)
+        ∙ over-columns rows d₄ 0 (polysThroughM 𝔾 log) (hPolys 𝔾 log) (hOffset (circuitOf ws))
+        (hs-at log ∙ sym (zero-add (length (polysThroughM 𝔾 log) * rows)))
         (room-of log d₄ (numInstance (circuitOf ws) + numCopied (circuitOf ws) + numLookups (circuitOf ws) * 3) (omega arith) room)
 
     -- h and z behind the counts are the log's
-    pub last-written : d₆ ≡ over d₄ (hsAt (circuitOf ws)) (wordsOf rows (lastPolys 𝔾 log))
+    pub last-written : d₆ ≡ over d₄ (hOffset (circuitOf ws)) (wordsOf rows (polysAfterM 𝔾 log))
     unfolding logOf layoutOf
     last-written =
         sixth
-        ∙ ap (over d₅ (zsAt (circuitOf ws)))
+        ∙ ap (over d₅ (zOffset (circuitOf ws)))
         (z-agree log (layoutOf ws) ws witness d₅ (take (numUser (circuitOf ws)) challenges)
         (reads d₄ d₅ (permutationPolys 𝔾 log ++ (compressedPolys 𝔾 log ++ (mPolys 𝔾 log ++ hPolys 𝔾 log)))
-        (countedPolys 𝔾 log ++ hPolys 𝔾 log) (simp append-assoc) fronted)
+        (polysThroughM 𝔾 log ++ hPolys 𝔾 log) (simp append-assoc) fronted)
         positive
         (getD challenges (numUser (circuitOf ws)) 0)
         (getD challenges (numUser (circuitOf ws) + 1) 0)
         refl
         refl
         labels)
-        ∙ ap (λ (d : List ℕ). over d (zsAt (circuitOf ws)) (wordsOf rows (zPolys 𝔾 log))) fifth
+        ∙ ap (λ (d : List ℕ). over d (zOffset (circuitOf ws)) (wordsOf rows (zPolys 𝔾 log))) fifth
         ∙ last-more log d₄ room
       where
         labels : (i b : ℕ) → i < numCopied (circuitOf ws) → b < rows
             → el (getD d₅ ((layoutOf ws .instances + i) * rows + b) 0) ≡ permutationAt 𝔾 log i b
         labels i b hi hb =
             ap (λ (n : ℕ). el (getD d₅ ((n + i) * rows + b) 0)) all-instances
-            ∙ labels-read log d₄ d₅ (compressedPolys 𝔾 log ++ (mPolys 𝔾 log ++ hPolys 𝔾 log)) (countedPolys 𝔾 log ++ hPolys 𝔾 log)
+            ∙ labels-read log d₄ d₅ (compressedPolys 𝔾 log ++ (mPolys 𝔾 log ++ hPolys 𝔾 log)) (polysThroughM 𝔾 log ++ hPolys 𝔾 log)
             (simp append-assoc) fronted i b hi hb

@@ -7,13 +7,13 @@ use Rattle.prover.specs.Columns.{instancePolys, permutationPolys, compressedPol
 
 module _ (𝓕 : Field) (g : Log 𝓕) where
   -- instance, permutation, compressed input and table per lookup
-  abbrev pub uncountedPolys : List (ℕ → 𝓕 .F)
-  uncountedPolys = (instancePolys 𝓕 g ++ permutationPolys 𝓕 g) ++ compressedPolys 𝓕 g
+  abbrev pub polysBeforeM : List (ℕ → 𝓕 .F)
+  polysBeforeM = (instancePolys 𝓕 g ++ permutationPolys 𝓕 g) ++ compressedPolys 𝓕 g
 
   -- and m
-  abbrev pub countedPolys : List (ℕ → 𝓕 .F)
-  countedPolys = uncountedPolys ++ mPolys 𝓕 g
+  abbrev pub polysThroughM : List (ℕ → 𝓕 .F)
+  polysThroughM = polysBeforeM ++ mPolys 𝓕 g
 
   -- h, z
-  abbrev pub lastPolys : List (ℕ → 𝓕 .F)
-  lastPolys = hPolys 𝓕 g ++ zPolys 𝓕 g
+  abbrev pub polysAfterM : List (ℕ → 𝓕 .F)
+  polysAfterM = hPolys 𝓕 g ++ zPolys 𝓕 g

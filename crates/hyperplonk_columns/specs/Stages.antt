@@ -10,7 +10,7 @@ use Rattle.preprocessor.specs.Permutation.{label}
 use Rattle.prover.specs.Columns.{instanceAt}
 use Rattle.prover.specs.Running.{zOf}
 use Rattle.prover.specs.Words.{wordsOf}
-use Rattle.prover.specs.Lent.{lentEnvironment, compressedPolysIn, lentRatio}
+use Rattle.prover.specs.Lent.{environmentFromWords, compressedPolysIn, ratioInWords}
 use Rattle.hyperplonk_prepare.specs.Prepared.{layoutOf}
 
 -- "challenges (the user's, then β, γ)"
@@ -39,7 +39,7 @@ abbrev pub compressedWords : List ℕ → List ℕ → List ℕ → List ℕ →
 compressedWords circuit witness columns challenges =
     wordsOf (rowsOf (circuitOf circuit))
     (compressedPolysIn 𝔾
-    (lentEnvironment circuit witness columns (lentUser circuit challenges) (layoutOf circuit) (circuitOf circuit .k))
+    (environmentFromWords circuit witness columns (lentUser circuit challenges) (layoutOf circuit) (circuitOf circuit .k))
     (lentBeta circuit challenges)
     (circuitOf circuit .lookups))
 
@@ -50,7 +50,7 @@ zWords circuit witness columns challenges =
     wordsOf (rowsOf (circuitOf circuit))
     (column
     (zOf 𝔾
-    (lentRatio (layoutOf circuit) circuit witness columns (copied (circuitOf circuit)) (lentBeta circuit challenges)
+    (ratioInWords (layoutOf circuit) circuit witness columns (copied (circuitOf circuit)) (lentBeta circuit challenges)
     (lentGamma circuit challenges))
     (circuitOf circuit .k)
     (numCopied (circuitOf circuit))

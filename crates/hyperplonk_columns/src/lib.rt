@@ -23,8 +23,8 @@ ghost use Rattle.preprocessor.specs.Pieces.{numbersOf};
 ghost use Rattle.prover.specs.Columns.{allCovered, writtenPolys};
 ghost use Rattle.prover.specs.Words.{wordsOf};
 ghost use Rattle.hyperplonk_spec.specs.Build.{logOf, columnWords, q12};
-ghost use Rattle.hyperplonk_prepare.specs.Prepared.{Accepted, Prepared, compressedAt, countsAt, hsAt};
-ghost use Rattle.hyperplonk_columns.specs.Kinds.{uncountedPolys, countedPolys, lastPolys};
+ghost use Rattle.hyperplonk_prepare.specs.Prepared.{Accepted, Prepared, compressedOffset, mOffset, hOffset};
+ghost use Rattle.hyperplonk_columns.specs.Kinds.{polysBeforeM, polysThroughM, polysAfterM};
 
 // The words at which the compressed columns, m and h begin.
 struct Places {
@@ -35,7 +35,7 @@ struct Places {
 
 fn places_of(circuit: &[u64], v: Numbers) -> Places
     requires { ⌜ Accepted (now circuit) × (v ≡ numbersOf (circuitOf (now circuit))) ⌝ }
-    ensures { λ r. ⌜ (r .compressed ≡ compressedAt (circuitOf (now (circuit .entry)))) × (r .counts ≡ countsAt (circuitOf (now (circuit .entry)))) × (r .hs ≡ hsAt (circuitOf (now (circuit .entry)))) ⌝ }
+    ensures { λ r. ⌜ (r .compressed ≡ compressedOffset (circuitOf (now (circuit .entry)))) × (r .counts ≡ mOffset (circuitOf (now (circuit .entry)))) × (r .hs ≡ hOffset (circuitOf (now (circuit .entry)))) ⌝ }
 {
     let instances = circuit[3] as usize;
     let named = instances + v.copied;
@@ -47,7 +47,7 @@ fn places_of(circuit: &[u64], v: Numbers) -> Places
 }
 
 // The columns before the counts: instance, permutation and compressed columns.
-fn uncounted_columns<'a>(
+fn columns_before_m<'a>(
     circuit: &'a [u64],
     instance: &[u64],
     witness: &'a [u64],
@@ -56,7 +56,7 @@ fn uncounted_columns<'a>(
     copied: &[u64],
 )
     requires { ⌜ Accepted (now circuit) × (now copied ≡ copiedOf (circuitOf (now circuit))) × (q12 (circuitOf (now circuit)) (now instance) (now witness) (now challenges) ≡ true) × (columnWords (circuitOf (now circuit)) ≤ length (now columns)) ⌝ }
-    ensures { λ _. ⌜ now (columns .exit) ≡ over (now (columns .entry)) 0 (wordsOf (rowsOf (circuitOf (now (circuit .entry)))) (uncountedPolys 𝔾 (logOf (now (circuit .entry)) (now (instance .entry)) (now (witness .entry)) (now (challenges .entry))))) ⌝ }
+    ensures { λ _. ⌜ now (columns .exit) ≡ over (now (columns .entry)) 0 (wordsOf (rowsOf (circuitOf (now (circuit .entry)))) (polysBeforeM 𝔾 (logOf (now (circuit .entry)) (now (instance .entry)) (now (witness .entry)) (now (challenges .entry))))) ⌝ }
 {
     instance_columns(circuit, instance, columns);
     permutation_columns(circuit, copied, columns);
@@ -64,7 +64,7 @@ fn uncounted_columns<'a>(
 }
 
 // h and z, behind the counts, of any log whose columns to the counts stand at the front of the buffer.
-fn last_columns(
+fn columns_after_m(
     circuit: &[u64],
     witness: &[u64],
     challenges: &[u64],
@@ -73,7 +73,7 @@ fn last_columns(
     v: Numbers,
 )
     requires { ⌜ Prepared (now circuit) (now copied) v × (length (now challenges) ≡ numUser (circuitOf (now circuit)) + 2) × (columnWords (circuitOf (now circuit)) ≤ length (now columns)) ⌝ }
-    ensures { λ _. ⌜ ((instances : List ℕ) → take (hsAt (circuitOf (now (circuit .entry)))) (now (columns .entry)) ≡ wordsOf (rowsOf (circuitOf (now (circuit .entry)))) (countedPolys 𝔾 (logOf (now (circuit .entry)) instances (now (witness .entry)) (now (challenges .entry)))) → now (columns .exit) ≡ over (now (columns .entry)) (hsAt (circuitOf (now (circuit .entry)))) (wordsOf (rowsOf (circuitOf (now (circuit .entry)))) (lastPolys 𝔾 (logOf (now (circuit .entry)) instances (now (witness .entry)) (now (challenges .entry)))))) ⌝ }
+    ensures { λ _. ⌜ ((instances : List ℕ) → take (hOffset (circuitOf (now (circuit .entry)))) (now (columns .entry)) ≡ wordsOf (rowsOf (circuitOf (now (circuit .entry)))) (polysThroughM 𝔾 (logOf (now (circuit .entry)) instances (now (witness .entry)) (now (challenges .entry)))) → now (columns .exit) ≡ over (now (columns .entry)) (hOffset (circuitOf (now (circuit .entry)))) (wordsOf (rowsOf (circuitOf (now (circuit .entry)))) (polysAfterM 𝔾 (logOf (now (circuit .entry)) instances (now (witness .entry)) (now (challenges .entry)))))) ⌝ }
 {
     let at = places_of(circuit, v);
     let user = v.user;
@@ -103,7 +103,7 @@ pub fn write_columns<'a>(
     requires { ⌜ Prepared (now circuit) (now copied) v × (q12 (circuitOf (now circuit)) (now instance) (now witness) (now challenges) ≡ true) × (columnWords (circuitOf (now circuit)) ≤ length (now columns)) ⌝ }
     ensures { λ r. ⌜ (r ≡ allCovered 𝔾 (logOf (now (circuit .entry)) (now (instance .entry)) (now (witness .entry)) (now (challenges .entry)))) × (now (columns .exit) ≡ cond (allCovered 𝔾 (logOf (now (circuit .entry)) (now (instance .entry)) (now (witness .entry)) (now (challenges .entry)))) (written (wordsOf (rowsOf (circuitOf (now (circuit .entry)))) (writtenPolys 𝔾 (logOf (now (circuit .entry)) (now (instance .entry)) (now (witness .entry)) (now (challenges .entry))))) (now (columns .entry))) (written (replicate (columnWords (circuitOf (now (circuit .entry)))) 0) (now (columns .entry)))) ⌝ }
 {
-    uncounted_columns(circuit, instance, witness, challenges, columns, copied);
+    columns_before_m(circuit, instance, witness, challenges, columns, copied);
     let at = places_of(circuit, v);
     let covered = lookup_m_polys(columns, v.lookups, at.compressed, at.counts, v.rows);
     if !covered {
@@ -111,6 +111,6 @@ pub fn write_columns<'a>(
         clear(columns, 0, words);
         return false;
     }
-    last_columns(circuit, witness, challenges, columns, copied, v);
+    columns_after_m(circuit, witness, challenges, columns, copied, v);
     true
 }

@@ -14,8 +14,10 @@ use expression_nodes::index;
 use field::goldilocks::Goldilocks;
 use lists::word_at;
 use preprocessor_permutation::permutation_polys;
+use prover_compressed::CompressedPolys;
 use prover_compressed::lookup_compressed_polys;
 use prover_instance::instance_polys;
+use prover_z::ZColumns;
 use prover_z::permutation_z_polys;
 ghost use mathlib.Core.Path.{_≡_};
 ghost use Prim.Native.Nat.{_+_, _*_, _^_, _≤_};
@@ -26,8 +28,8 @@ ghost use Rattle.lists.specs.Lists.{over, total};
 ghost use Rattle.backend.specs.Circuit.{Section, bodyOf, circuitOf, rowsOf, numInstance, numUser, numLookups, copied as copiedOf, numCopied};
 ghost use Rattle.preprocessor.specs.Compose.{numZ};
 ghost use Rattle.prover.specs.Words.{wordsOf};
-ghost use Rattle.prover.specs.Lent.{lentEnvironment, compressedPolysIn};
-ghost use Rattle.hyperplonk_prepare.specs.Prepared.{Accepted, layoutOf, permutationsAt, compressedAt, zsAt};
+ghost use Rattle.prover.specs.Lent.{environmentFromWords, compressedPolysIn};
+ghost use Rattle.hyperplonk_prepare.specs.Prepared.{Accepted, layoutOf, permutationOffset, compressedOffset, zOffset};
 ghost use Rattle.hyperplonk_columns.specs.Stages.{instanceWords, permutationWords, compressedWords, zWords};
 
 // Where the polynomials that are given stand.
@@ -61,8 +63,8 @@ pub fn instance_columns(circuit: &[u64], instance: &[u64], columns: &mut [u64])
 
 // The permutation columns, behind the instance columns. `copied` are the copied columns.
 pub fn permutation_columns(circuit: &[u64], copied: &[u64], columns: &mut [u64])
-    requires { ⌜ Accepted (now circuit) × (now copied ≡ copiedOf (circuitOf (now circuit))) × (compressedAt (circuitOf (now circuit)) ≤ length (now columns)) ⌝ }
-    ensures { λ _. ⌜ now (columns .exit) ≡ over (now (columns .entry)) (permutationsAt (circuitOf (now (circuit .entry)))) (permutationWords (now (circuit .entry))) ⌝ }
+    requires { ⌜ Accepted (now circuit) × (now copied ≡ copiedOf (circuitOf (now circuit))) × (compressedOffset (circuitOf (now circuit)) ≤ length (now columns)) ⌝ }
+    ensures { λ _. ⌜ now (columns .exit) ≡ over (now (columns .entry)) (permutationOffset (circuitOf (now (circuit .entry)))) (permutationWords (now (circuit .entry))) ⌝ }
 {
     let layout = layout_of(circuit);
     let at = layout.instances * layout.rows;
@@ -83,24 +85,18 @@ fn compressed_from<'a>(
     to: usize,
 )
     requires { ⌜ Accepted (now circuit) × (layout ≡ layoutOf (now circuit)) × (k ≡ circuitOf (now circuit) .k) × (numInstance (circuitOf (now circuit)) * 2 ^ k ≤ to) × (to + numLookups (circuitOf (now circuit)) * (2 ^ k + 2 ^ k) ≤ length (now columns)) ⌝ }
-    ensures { λ _. ⌜ now (columns .exit) ≡ over (now (columns .entry)) to (wordsOf (2 ^ k) (compressedPolysIn 𝔾 (lentEnvironment (now (circuit .entry)) (now (witness .entry)) (now (columns .entry)) (now (user .entry)) layout k) (elem beta) (circuitOf (now (circuit .entry)) .lookups))) ⌝ }
+    ensures { λ _. ⌜ now (columns .exit) ≡ over (now (columns .entry)) to (wordsOf (2 ^ k) (compressedPolysIn 𝔾 (environmentFromWords (now (circuit .entry)) (now (witness .entry)) (now (columns .entry)) (now (user .entry)) layout k) (elem beta) (circuitOf (now (circuit .entry)) .lookups))) ⌝ }
 {
     let nodes = nodes_of(circuit);
     let widths = widths_of(circuit);
     let pairs = pairs_of(circuit);
-    lookup_compressed_polys(
-        nodes,
-        circuit,
-        witness,
-        columns,
-        user,
-        layout,
-        k,
-        widths,
-        pairs,
-        beta,
-        to,
-    );
+    let polys = CompressedPolys {
+        layout: layout,
+        k: k,
+        beta: beta,
+        to: to,
+    };
+    lookup_compressed_polys(nodes, circuit, witness, columns, user, widths, pairs, polys);
 }
 
 // The compressed columns, behind the permutation columns: input and table per lookup. `challenges` are the user's, then beta and gamma;
@@ -112,8 +108,8 @@ pub fn compressed_columns<'a>(
     challenges: &'a [u64],
     copied: usize,
 )
-    requires { ⌜ Accepted (now circuit) × (length (now challenges) ≡ numUser (circuitOf (now circuit)) + 2) × (copied ≡ numCopied (circuitOf (now circuit))) × (compressedAt (circuitOf (now circuit)) + numLookups (circuitOf (now circuit)) * 2 * rowsOf (circuitOf (now circuit)) ≤ length (now columns)) ⌝ }
-    ensures { λ _. ⌜ now (columns .exit) ≡ over (now (columns .entry)) (compressedAt (circuitOf (now (circuit .entry)))) (compressedWords (now (circuit .entry)) (now (witness .entry)) (now (columns .entry)) (now (challenges .entry))) ⌝ }
+    requires { ⌜ Accepted (now circuit) × (length (now challenges) ≡ numUser (circuitOf (now circuit)) + 2) × (copied ≡ numCopied (circuitOf (now circuit))) × (compressedOffset (circuitOf (now circuit)) + numLookups (circuitOf (now circuit)) * 2 * rowsOf (circuitOf (now circuit)) ≤ length (now columns)) ⌝ }
+    ensures { λ _. ⌜ now (columns .exit) ≡ over (now (columns .entry)) (compressedOffset (circuitOf (now (circuit .entry)))) (compressedWords (now (circuit .entry)) (now (witness .entry)) (now (columns .entry)) (now (challenges .entry))) ⌝ }
 {
     let k = index(k_of(circuit));
     let layout = layout_of(circuit);
@@ -132,7 +128,7 @@ pub fn compressed_columns<'a>(
     );
 }
 
-// The z columns, behind all others. `challenges` are the user's, then beta and gamma; `copied` are the copied columns, and `parts` is how
+// The z columns, behind all others. `challenges` are the user's, then beta and gamma; `copied` are the copied columns, and `chunks` is how
 // many z columns there are.
 pub fn z_columns(
     circuit: &[u64],
@@ -140,10 +136,10 @@ pub fn z_columns(
     columns: &mut [u64],
     challenges: &[u64],
     copied: &[u64],
-    parts: usize,
+    chunks: usize,
 )
-    requires { ⌜ Accepted (now circuit) × (now copied ≡ copiedOf (circuitOf (now circuit))) × (parts ≡ numZ (circuitOf (now circuit))) × (zsAt (circuitOf (now circuit)) + numZ (circuitOf (now circuit)) * rowsOf (circuitOf (now circuit)) ≤ length (now columns)) ⌝ }
-    ensures { λ _. ⌜ now (columns .exit) ≡ over (now (columns .entry)) (zsAt (circuitOf (now (circuit .entry)))) (zWords (now (circuit .entry)) (now (witness .entry)) (now (columns .entry)) (now (challenges .entry))) ⌝ }
+    requires { ⌜ Accepted (now circuit) × (now copied ≡ copiedOf (circuitOf (now circuit))) × (chunks ≡ numZ (circuitOf (now circuit))) × (zOffset (circuitOf (now circuit)) + numZ (circuitOf (now circuit)) * rowsOf (circuitOf (now circuit)) ≤ length (now columns)) ⌝ }
+    ensures { λ _. ⌜ now (columns .exit) ≡ over (now (columns .entry)) (zOffset (circuitOf (now (circuit .entry)))) (zWords (now (circuit .entry)) (now (witness .entry)) (now (columns .entry)) (now (challenges .entry))) ⌝ }
 {
     let k = index(k_of(circuit));
     let layout = layout_of(circuit);
@@ -152,16 +148,13 @@ pub fn z_columns(
     let gamma = Goldilocks::from_u64(word_at(challenges, user + 1));
     let lookups = index(word_at(circuit, 13));
     let to = (layout.instances + copied.len() + lookups * 4) * layout.rows;
-    permutation_z_polys(
-        circuit,
-        witness,
-        columns,
-        layout,
-        k,
-        copied,
-        parts,
-        beta,
-        gamma,
-        to,
-    );
+    let z = ZColumns {
+        layout: layout,
+        k: k,
+        chunks: chunks,
+        beta: beta,
+        gamma: gamma,
+        to: to,
+    };
+    permutation_z_polys(circuit, witness, columns, copied, z);
 }

@@ -35,17 +35,17 @@ layoutOf ws =
 
 -- "The column buffer holds instance, permutation, compressed input and table per lookup, m, h, z, each 2^k words": where each kind
 -- begins
-abbrev pub permutationsAt : Circuit → ℕ
-permutationsAt c = numInstance c * rowsOf c
+abbrev pub permutationOffset : Circuit → ℕ
+permutationOffset c = numInstance c * rowsOf c
 
-abbrev pub compressedAt : Circuit → ℕ
-compressedAt c = (numInstance c + numCopied c) * rowsOf c
+abbrev pub compressedOffset : Circuit → ℕ
+compressedOffset c = (numInstance c + numCopied c) * rowsOf c
 
-abbrev pub countsAt : Circuit → ℕ
-countsAt c = (numInstance c + numCopied c + numLookups c * 2) * rowsOf c
+abbrev pub mOffset : Circuit → ℕ
+mOffset c = (numInstance c + numCopied c + numLookups c * 2) * rowsOf c
 
-abbrev pub hsAt : Circuit → ℕ
-hsAt c = (numInstance c + numCopied c + numLookups c * 3) * rowsOf c
+abbrev pub hOffset : Circuit → ℕ
+hOffset c = (numInstance c + numCopied c + numLookups c * 3) * rowsOf c
 
-abbrev pub zsAt : Circuit → ℕ
-zsAt c = (numInstance c + numCopied c + numLookups c * 4) * rowsOf c
+abbrev pub zOffset : Circuit → ℕ
+zOffset c = (numInstance c + numCopied c + numLookups c * 4) * rowsOf c

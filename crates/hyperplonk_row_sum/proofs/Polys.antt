@@ -23,7 +23,7 @@ use Rattle.preprocessor.specs.Compose.{numZ}
 use Rattle.prover.specs.Columns.{preprocessPolys, witnessPolys}
 use Rattle.prover.proofs.Lent.{preprocess-word}
 use Rattle.hyperplonk_spec.specs.Build.{logOf}
-use Rattle.hyperplonk_spec.specs.RowSum.{lentPolys, lentEnvironment}
+use Rattle.hyperplonk_spec.specs.RowSum.{lentPolys, environmentFromWords}
 use Rattle.expression.proofs.SameRows.{Same, same-refl, same-append, same-column, same-at}
 use Rattle.hyperplonk_prepare.specs.Prepared.{Accepted}
 use Rattle.hyperplonk_prepare.proofs.Accepted.{instances-entries}
@@ -98,8 +98,8 @@ module _ (ws witness columns challenges y : List ℕ) (accepted : Accepted ws) (
 
   pub point-value : (e : Expr)
       → valueAt 𝔾 (environmentOf ws witness columns challenges (sumLayout ws) p) e (p .row)
-      ≡ valueAt 𝔾 (lentEnvironment ws witness columns challenges y) e (p .row)
-  unfolding environmentOf lentEnvironment
+      ≡ valueAt 𝔾 (environmentFromWords ws witness columns challenges y) e (p .row)
+  unfolding environmentOf environmentFromWords
   point-value e =
       agree-value 𝔾 anything _ _ (p .row)
       (record {

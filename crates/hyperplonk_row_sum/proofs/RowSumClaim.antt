@@ -15,7 +15,7 @@ use Rattle.backend.specs.Circuit.{circuitOf, rowsOf}
 use Rattle.backend.specs.Questions.{circuitQuestions}
 use Rattle.preprocessor.specs.Compose.{compose, composedWords, composedNodes}
 use Rattle.prover.specs.Lookup.{sumRows}
-use Rattle.hyperplonk_spec.specs.RowSum.{q16, LentSum, sumQuestions, checkSum, lentEnvironment, sumOf, rowSumOf}
+use Rattle.hyperplonk_spec.specs.RowSum.{q16, LentSum, sumQuestions, checkSum, environmentFromWords, sumOf, rowSumOf}
 use Rattle.hyperplonk_spec.specs.declared.RowSum.{RowSum}
 use Rattle.hyperplonk_spec.proofs.ReadsBack.{reads-back}
 use Rattle.backend.proofs.Passed.{numbered}
@@ -58,10 +58,10 @@ module _ (ws witness columns nodes challenges y : List ℕ) where
   -- the nodes are read as the composed expression
   sum-composed : nodes ≡ composedWords (circuitOf ws)
       → sumOf ws witness columns nodes challenges y
-      ≡ sumRows 𝔾 (rowsOf (circuitOf ws)) (valueAt 𝔾 (lentEnvironment ws witness columns challenges y) (compose (circuitOf ws)))
+      ≡ sumRows 𝔾 (rowsOf (circuitOf ws)) (valueAt 𝔾 (environmentFromWords ws witness columns challenges y) (compose (circuitOf ws)))
   unfolding sumOf
   sum-composed e =
-      ap (λ (x : Expr). sumRows 𝔾 (rowsOf (circuitOf ws)) (valueAt 𝔾 (lentEnvironment ws witness columns challenges y) x))
+      ap (λ (x : Expr). sumRows 𝔾 (rowsOf (circuitOf ws)) (valueAt 𝔾 (environmentFromWords ws witness columns challenges y) x))
       (ap (λ (ns : List ℕ). exprOf ns (composedNodes (circuitOf ws) - 1)) e ∙ reads-back ws)
 
   same-lent : (cs cs' ns ns' vs vs' : List ℕ) → cs ≡ cs' → ns ≡ ns' → vs ≡ vs' → rowSumOf ws witness cs ns vs y ≡ rowSumOf ws witness cs' ns' vs' y

@@ -17,7 +17,7 @@ use Rattle.multilinear.specs.EqXY.{eqAt}
 use Rattle.backend.specs.Circuit.{circuitOf, wordK}
 use Rattle.preprocessor.specs.Compose.{composedNodes}
 use Rattle.prover.specs.Lookup.{sumRows}
-use Rattle.hyperplonk_spec.specs.RowSum.{lentEnvironment, sumOf}
+use Rattle.hyperplonk_spec.specs.RowSum.{environmentFromWords, sumOf}
 use Rattle.hyperplonk_prepare.specs.Prepared.{Accepted}
 use Rattle.hyperplonk_prepare.proofs.Accepted as known
 use Rattle.hyperplonk_row_sum.specs.Sum.{sumLayout, Summable}
@@ -84,7 +84,7 @@ module _ (ws nodes y : List ℕ) (l : Layout) (k : ℕ) (s : Summable ws nodes y
   module _ (witness columns challenges : List ℕ) where
     -- the value of the last node
     abbrev pub rootValue : ℕ → 𝔾 .F
-    rootValue = valueAt 𝔾 (lentEnvironment ws witness columns challenges y) (exprOf nodes (composedNodes (circuitOf ws) - 1))
+    rootValue = valueAt 𝔾 (environmentFromWords ws witness columns challenges y) (exprOf nodes (composedNodes (circuitOf ws) - 1))
 
     pub value-is : (p : Point) (x : 𝔾 .F) → p .k ≡ k → Placed p → el (p .eq) ≡ eqAt 𝔾 k (λ i. el (getD y i 0)) (p .row)
         → x ≡ valueAt 𝔾 (environmentOf ws witness columns challenges l p) (exprOf nodes (length nodes / 4 - 1)) (p .row)
@@ -95,7 +95,7 @@ module _ (ws nodes y : List ℕ) (l : Layout) (k : ℕ) (s : Summable ws nodes y
         ∙ point-value ws witness columns challenges y (s .accepted) p (same ∙ s .k-is) (h .small) (h .inside)
         (eq-is ∙ ap (λ (k : ℕ). eqAt 𝔾 k (λ i. el (getD y i 0)) (p .row)) (sym same))
         (exprOf nodes (length nodes / 4 - 1))
-        ∙ ap (λ (n : ℕ). valueAt 𝔾 (lentEnvironment ws witness columns challenges y) (exprOf nodes n) (p .row)) root-is
+        ∙ ap (λ (n : ℕ). valueAt 𝔾 (environmentFromWords ws witness columns challenges y) (exprOf nodes n) (p .row)) root-is
 
     pub sum-is : (sum : 𝔾 .F) (t : ℕ) → Added k rootValue sum t → t ≡ 2 ^ k → sum ≡ sumOf ws witness columns nodes challenges y
     unfolding sumOf

@@ -19,15 +19,10 @@ use preprocessor::Numbers;
 ghost use mathlib.Core.Path.{_≡_};
 ghost use Prim.Native.Nat.{_-_, _^_, _≤_, _<_};
 ghost use lib.ListN.{take};
-ghost use Rattle.field.specs.Field.{𝔾};
 ghost use Rattle.field.specs.Element.{elem};
-ghost use Rattle.bh.specs.Rows.{rowAt};
-ghost use Rattle.expression.specs.Nodes.{exprOf};
-ghost use Rattle.expression.specs.Value.{valueAt};
 ghost use Rattle.backend.specs.Circuit.{circuitOf, copied};
-ghost use Rattle.preprocessor.specs.Compose.{composedNodes};
 ghost use Rattle.preprocessor.specs.Pieces.{numbersOf};
-ghost use Rattle.hyperplonk_spec.specs.RowSum.{q16, lentEnvironment, sumOf, rowSumOf};
+ghost use Rattle.hyperplonk_spec.specs.RowSum.{q16, sumOf, rowSumOf};
 ghost use Rattle.hyperplonk_prepare.specs.Prepared.{Accepted, Prepared};
 ghost use Rattle.hyperplonk_row_sum.specs.Sum.{lengthsRight, valuesSmall, sumLayout, Summable};
 ghost use Rattle.hyperplonk_spec.specs.RowSumClaim.{RowSumClaim};
@@ -118,42 +113,7 @@ pub fn question_16(
     values_small(witness, columns, challenges, y)
 }
 
-// The value of the last node at one row, EqXY(0) at that row with it.
-fn row_value<'a>(
-    circuit: &'a [u64],
-    witness: &'a [u64],
-    columns: &'a [u64],
-    nodes: &'a [u64],
-    challenges: &'a [u64],
-    y: &[u64],
-    layout: Layout,
-    k: usize,
-    row: usize,
-    place: usize,
-) -> Goldilocks
-    requires { ⌜ Summable (now circuit) (now nodes) (now y) layout k × (place < 2 ^ k) × (row ≡ rowAt k place) ⌝ }
-    ensures { λ r. ⌜ elem r ≡ valueAt 𝔾 (lentEnvironment (now (circuit .entry)) (now (witness .entry)) (now (columns .entry)) (now (challenges .entry)) (now (y .entry))) (exprOf (now (nodes .entry)) (composedNodes (circuitOf (now (circuit .entry))) - 1)) row ⌝ }
-{
-    let eq = eq_at(k, y, row).word();
-    let root = nodes.len() / 4 - 1;
-    value(
-        nodes,
-        circuit,
-        witness,
-        columns,
-        challenges,
-        layout,
-        Point {
-            k: k,
-            row: row,
-            place: place,
-            eq: eq,
-        },
-        root,
-    )
-}
-
-// The sum of the last node's values over the rows, through the row order once.
+// The sum of the last node's values over the rows, through the row order once, EqXY(0) at each row with it.
 fn sum_rows<'a>(
     circuit: &'a [u64],
     witness: &'a [u64],
@@ -168,21 +128,26 @@ fn sum_rows<'a>(
     ensures { λ r. ⌜ elem r ≡ sumOf (now (circuit .entry)) (now (witness .entry)) (now (columns .entry)) (now (nodes .entry)) (now (challenges .entry)) (now (y .entry)) ⌝ }
 {
     let rows = rows_of(k);
+    let root = nodes.len() / 4 - 1;
     let mut sum = Goldilocks::ZERO;
     let mut row: usize = 0;
     let mut place: usize = 0;
     while place < rows {
-        let x = row_value(
+        let eq = eq_at(k, y, row).word();
+        let x = value(
+            nodes,
             circuit,
             witness,
             columns,
-            nodes,
             challenges,
-            y,
             layout,
-            k,
-            row,
-            place,
+            Point {
+                k: k,
+                row: row,
+                place: place,
+                eq: eq,
+            },
+            root,
         );
         sum = sum.add(x);
         row = row_after(row, place, k);

@@ -21,7 +21,7 @@ use Rattle.prover.specs.Columns.{userEnvironment, inputAt, tableAt, countAt, lo
 use Rattle.hyperplonk_spec.specs.Build.{logOf, columnWords, checkBuild, buildOf}
 use Rattle.hyperplonk_spec.specs.RowSum.{rowSumOf}
 use Rattle.hyperplonk_spec.specs.Meaning.{Each, EachRow, EachLookup, ZeroConstraints, EqualCells, NoZeroInput, NoZeroTable, NoZeroFactor, Premises}
-use Rattle.hyperplonk_spec.specs.Papers.{fraction, paperH, sharedM, totalOf, SharedHolds}
+use Rattle.hyperplonk_spec.specs.Papers.{fraction, paperH, normalizedMultiplicity, totalOf, SharedHolds}
 
 -- what a lookup's list of pairs has past its end
 abbrev pub noPair : Pair
@@ -151,7 +151,7 @@ module _ (g : Log 𝔾) (left : List ℕ) (j : ℕ) where
     pub h-sums : sumRows 𝔾 rows (λ b. el (h b)) ≡ 𝔾 .zero
     pub h-sums-defined : sumRows 𝔾 rows (lookupHAt 𝔾 g lookup) ≡ 𝔾 .zero
     -- "Haböck's paper shares a count out among equal table rows; here the last row takes it all, … with the same total for each table value"
-    pub same-totals : (v : 𝔾 .F) → totalOf 𝔾 el rows input table (λ r. el (m r)) v ≡ totalOf 𝔾 el rows input table (sharedM 𝔾 el rows input table) v
+    pub same-totals : (v : 𝔾 .F) → totalOf 𝔾 el rows input table (λ r. el (m r)) v ≡ totalOf 𝔾 el rows input table (normalizedMultiplicity 𝔾 el rows input table) v
     -- Haböck's identity for the words of m: Σ 1/(γ + input) = Σ m/(γ + table)
     pub identity :
         sumRows 𝔾 rows (λ b. fraction 𝔾 (𝔾 .one) (𝔾 .add (g .γ) (input b)))

@@ -56,12 +56,12 @@ module _ (𝓕 : Field) where
 
   module _ (el : ℕ → F) (rows : ℕ) (input table : ℕ → F) where
     -- how often the paper's column takes a value
-    unfoldable pub often : (ℕ → F) → F → ℕ
-    often column-of v = countOf (λ b. same 𝓕 (column-of b) v) (below rows)
+    unfoldable pub occurrences : (ℕ → F) → F → ℕ
+    occurrences column-of v = countOf (λ b. same 𝓕 (column-of b) v) (below rows)
 
     -- the paper's normalised multiplicity: the count of a value, shared out among the equal table rows
-    unfoldable pub sharedM : ℕ → F
-    sharedM r = mul (el (often input (table r))) (inv (el (often table (table r))))
+    unfoldable pub normalizedMultiplicity : ℕ → F
+    normalizedMultiplicity r = mul (el (occurrences input (table r))) (inv (el (occurrences table (table r))))
 
     -- its total over the rows where the table is v
     abbrev pub totalOf : (ℕ → F) → F → F
@@ -71,7 +71,7 @@ module _ (𝓕 : Field) where
     abbrev pub SameTotals : Type 0
     SameTotals =
         Embeds 𝓕 el → covered 𝓕 rows input table ≡ true → ((n : ℕ) → 0 < n → n < suc rows → el n ≢ zero)
-        → (v : F) → totalOf (λ r. el (multiplicity 𝓕 rows input table r)) v ≡ totalOf sharedM v
+        → (v : F) → totalOf (λ r. el (multiplicity 𝓕 rows input table r)) v ≡ totalOf normalizedMultiplicity v
 
     -- the counts turn the table into the inputs exactly when each input is in the table
     abbrev pub CountsTurn : Type 0
@@ -99,8 +99,8 @@ module _ (𝓕 : Field) where
     -- so the paper's identity, and Σ h = 0, hold of its own shared multiplicities too, with what SameTotals supposes
     pub record SharedHolds (γ : F) : Type 0 where
       pub identity :
-          sumRows 𝓕 rows (λ b. fraction one (add γ (input b))) ≡ sumRows 𝓕 rows (λ r. fraction (sharedM r) (add γ (table r)))
-      pub sum : sumRows 𝓕 rows (paperH γ input table sharedM) ≡ zero
+          sumRows 𝓕 rows (λ b. fraction one (add γ (input b))) ≡ sumRows 𝓕 rows (λ r. fraction (normalizedMultiplicity r) (add γ (table r)))
+      pub sum : sumRows 𝓕 rows (paperH γ input table normalizedMultiplicity) ≡ zero
 
     abbrev pub SharedIdentity : F → Type 0
     SharedIdentity γ =

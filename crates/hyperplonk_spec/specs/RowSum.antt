@@ -44,8 +44,8 @@ lentPolys ws witness columns =
     ++ (column (λ i. lentColumn c columns (numInstance c + i)) (numCopied c)
     ++ column (λ i. lentColumn c columns (numInstance c + numCopied c + numLookups c * 2 + i)) (numLookups c * 2 + numZ c))))
 
-unfoldable pub lentEnvironment : List ℕ → List ℕ → List ℕ → List ℕ → List ℕ → Environment 𝔾
-lentEnvironment ws witness columns challenges y =
+unfoldable pub environmentFromWords : List ℕ → List ℕ → List ℕ → List ℕ → List ℕ → Environment 𝔾
+environmentFromWords ws witness columns challenges y =
     record {
       k = circuitOf ws .k;
       el = el;
@@ -58,7 +58,7 @@ lentEnvironment ws witness columns challenges y =
 unfoldable pub sumOf : List ℕ → List ℕ → List ℕ → List ℕ → List ℕ → List ℕ → 𝔾 .F
 sumOf ws witness columns nodes challenges y =
     sumRows 𝔾 (rowsOf (circuitOf ws))
-    (valueAt 𝔾 (lentEnvironment ws witness columns challenges y) (exprOf nodes (composedNodes (circuitOf ws) - 1)))
+    (valueAt 𝔾 (environmentFromWords ws witness columns challenges y) (exprOf nodes (composedNodes (circuitOf ws) - 1)))
 
 -- what the row sum is lent
 pub record LentSum : Type 0 where

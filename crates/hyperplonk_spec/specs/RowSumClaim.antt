@@ -11,7 +11,7 @@ use Rattle.backend.specs.Circuit.{circuitOf, rowsOf}
 use Rattle.preprocessor.specs.Compose.{compose, composedNodes}
 use Rattle.prover.specs.Lookup.{sumRows}
 use Rattle.hyperplonk_spec.specs.Build.{logOf, columnWords, checkBuild, buildOf}
-use Rattle.hyperplonk_spec.specs.RowSum.{lentEnvironment}
+use Rattle.hyperplonk_spec.specs.RowSum.{environmentFromWords}
 use Rattle.hyperplonk_spec.specs.Meaning.{Each, Premises}
 use Rattle.hyperplonk_spec.specs.declared.RowSum.{RowSum}
 
@@ -38,6 +38,6 @@ pub record RowSumClaim (ws witness columns nodes challenges y : List ℕ) (r : R
   -- `compose` gives
   pub summed : r .number ≡ 0
       → r .sum
-      ≡ val (sumRows 𝔾 (rowsOf (circuitOf ws)) (valueAt 𝔾 (lentEnvironment ws witness columns challenges y) (compose (circuitOf ws))))
+      ≡ val (sumRows 𝔾 (rowsOf (circuitOf ws)) (valueAt 𝔾 (environmentFromWords ws witness columns challenges y) (compose (circuitOf ws))))
   -- "its number and its sum are both 0"
   pub zero : OfBuild ws witness columns nodes challenges y → r ≡ record { number = 0; sum = 0 }

@@ -103,23 +103,28 @@ fn value_of<'a>(
     Goldilocks::from_u64(lower(&s, &c, nodes.len() / 4, word(n)))
 }
 
-// The value of node n at every row, through the row order once.
+// What is evaluated at every row: node n, over polynomials of 2^k rows that stand as `layout` says.
+struct Evaluation {
+    layout: Layout,
+    k: usize,
+    n: usize,
+}
+
+// The value of a node at every row, through the row order once.
 fn values<'a>(
     nodes: &'a [u64],
     circuit: &'a [u64],
     witness: &'a [u64],
     columns: &'a [u64],
     challenges: &'a [u64],
-    layout: Layout,
-    k: usize,
     eq: &[u64],
-    n: usize,
+    of: Evaluation,
     out: &mut [u64],
 )
-    requires { ⌜ (n * 4 + 4 ≤ length (now nodes)) × Small layout × (0 < k) × (k < 21) × (2 ^ k ≤ length (now out)) ⌝ }
-    ensures { λ _. ⌜ now (out .exit) ≡ over (now (out .entry)) 0 (column (valueWord (now (nodes .entry)) (now (circuit .entry)) (now (witness .entry)) (now (columns .entry)) (now (challenges .entry)) layout k (now (eq .entry)) n) (2 ^ k)) ⌝ }
+    requires { ⌜ (of .n * 4 + 4 ≤ length (now nodes)) × Small (of .layout) × (0 < of .k) × (of .k < 21) × (2 ^ of .k ≤ length (now out)) ⌝ }
+    ensures { λ _. ⌜ now (out .exit) ≡ over (now (out .entry)) 0 (column (valueWord (now (nodes .entry)) (now (circuit .entry)) (now (witness .entry)) (now (columns .entry)) (now (challenges .entry)) (of .layout) (of .k) (now (eq .entry)) (of .n)) (2 ^ of .k)) ⌝ }
 {
-    let rows = rows_of(k);
+    let rows = rows_of(of.k);
     let mut row: usize = 0;
     let mut place: usize = 0;
     while place < rows {
@@ -130,17 +135,17 @@ fn values<'a>(
             witness,
             columns,
             challenges,
-            layout,
+            of.layout,
             Point {
-                k: k,
+                k: of.k,
                 row: row,
                 place: place,
                 eq: e,
             },
-            n,
+            of.n,
         );
         out[row] = x.to_u64();
-        row = row_after(row, place, k);
+        row = row_after(row, place, of.k);
         place += 1;
     }
 }
@@ -180,18 +185,12 @@ pub extern "C" fn expression_values<'a>(
     if !room {
         return;
     }
-    values(
-        nodes,
-        circuit,
-        witness,
-        columns,
-        challenges,
-        layout_from(k, layout),
-        k,
-        eq,
-        n,
-        out,
-    );
+    let of = Evaluation {
+        layout: layout_from(k, layout),
+        k: k,
+        n: n,
+    };
+    values(nodes, circuit, witness, columns, challenges, eq, of, out);
 }
 
 // Questions 1 to 11: the first no, 0 if there is none.

@@ -25,7 +25,7 @@ use Rattle.prover.specs.Columns.{powerSum, instancePolys, preprocessPoly
 use Rattle.prover.specs.Words.{wordsOf}
 use Rattle.prover.proofs.Words.{words-get}
 use Rattle.prover.proofs.Lengths.{instances-length}
-use Rattle.prover.specs.Lent.{Given, lentEnvironment, compressedIn, compressedPolysIn}
+use Rattle.prover.specs.Lent.{Given, environmentFromWords, compressedIn, compressedPolysIn}
 
 -- ---- of the column buffer the instance columns alone are read
 
@@ -83,19 +83,19 @@ module _ (l : Layout) (perms : l .permutations ≡ 0) (rest : l .rest ≡ 0) (ci
 module _ (k : ℕ) (small : k < 21) (l : Layout) (g : Given k l) (circuit witness c c' challenges : List ℕ)
     (same : (j : ℕ) → j < l .instances * 2 ^ k → getD c j 0 ≡ getD c' j 0) where
   pub lent-same : (e : Expr) (b : ℕ) → b < 2 ^ k
-      → valueAt 𝔾 (lentEnvironment circuit witness c challenges l k) e b
-      ≡ valueAt 𝔾 (lentEnvironment circuit witness c' challenges l k) e b
-  unfolding lentEnvironment
+      → valueAt 𝔾 (environmentFromWords circuit witness c challenges l k) e b
+      ≡ valueAt 𝔾 (environmentFromWords circuit witness c' challenges l k) e b
+  unfolding environmentFromWords
   lent-same =
-      values-agree 𝔾 (lentEnvironment circuit witness c challenges l k) (lentEnvironment circuit witness c' challenges l k)
+      values-agree 𝔾 (environmentFromWords circuit witness c challenges l k) (environmentFromWords circuit witness c' challenges l k)
       refl refl refl refl (omega arith)
       (λ q b h.
       polys-same l (g .permutations) (g .rest) circuit witness c c' (rw (g .rows) same) q b (rw (g .rows) h))
 
 -- at a point with no EqXY
 pub lent-point : (circuit witness c challenges : List ℕ) (l : Layout) (p : Point) → p .eq ≡ 0
-    → environmentOf circuit witness c challenges l p ≡ lentEnvironment circuit witness c challenges l (p .k)
-unfolding environmentOf lentEnvironment
+    → environmentOf circuit witness c challenges l p ≡ environmentFromWords circuit witness c challenges l (p .k)
+unfolding environmentOf environmentFromWords
 lent-point circuit witness c challenges l p e =
     ap (λ (z : 𝔾 .F).
     record { k = p .k; el = el; polys = polysOf l circuit witness c; challenges = map el challenges; eq = λ b. z })
@@ -238,19 +238,19 @@ module _ (g : Log 𝔾) (l : Layout) (circuit witness columns challenges : List 
 
   -- user expressions have the log's values
   pub lent-agrees : (e : Expr) (b : ℕ) → b < rows
-      → valueAt 𝔾 (lentEnvironment circuit witness columns challenges l (g .circuit .k)) e b ≡ valueAt 𝔾 (userEnvironment 𝔾 g) e b
-  unfolding lentEnvironment userEnvironment
+      → valueAt 𝔾 (environmentFromWords circuit witness columns challenges l (g .circuit .k)) e b ≡ valueAt 𝔾 (userEnvironment 𝔾 g) e b
+  unfolding environmentFromWords userEnvironment
   lent-agrees =
-      values-agree 𝔾 (lentEnvironment circuit witness columns challenges l (g .circuit .k)) (userEnvironment 𝔾 g) refl (sym (r .el-is))
+      values-agree 𝔾 (environmentFromWords circuit witness columns challenges l (g .circuit .k)) (userEnvironment 𝔾 g) refl (sym (r .el-is))
       refl (sym (r .user-is)) (let s = r .small in omega arith) polys-agree
 
   -- and so the compressed columns are the log's
   pub compressed-agree : (β : ℕ) → g .β ≡ el β
-      → wordsOf rows (compressedPolysIn 𝔾 (lentEnvironment circuit witness columns challenges l (g .circuit .k)) (el β) (g .circuit .lookups))
+      → wordsOf rows (compressedPolysIn 𝔾 (environmentFromWords circuit witness columns challenges l (g .circuit .k)) (el β) (g .circuit .lookups))
       ≡ wordsOf rows (compressedPolys 𝔾 g)
   unfolding compressedPolysIn compressedPolys compressedIn inputAt tableAt compressedAt
   compressed-agree β e =
-      compressed-words (lentEnvironment circuit witness columns challenges l (g .circuit .k)) (userEnvironment 𝔾 g) rows lent-agrees (el β)
+      compressed-words (environmentFromWords circuit witness columns challenges l (g .circuit .k)) (userEnvironment 𝔾 g) rows lent-agrees (el β)
       (g .circuit .lookups)
       ∙ ap (λ (z : 𝔾 .F). wordsOf rows (compressedPolysIn 𝔾 (userEnvironment 𝔾 g) z (g .circuit .lookups))) (sym e)
 

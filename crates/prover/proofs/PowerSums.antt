@@ -28,7 +28,7 @@ use Rattle.backend.specs.Circuit.{Pair, pairAt, pairsOf}
 use Rattle.backend.specs.Constraints.{inputsOf, tablesOf}
 use Rattle.prover.specs.Columns.{powerSum}
 use Rattle.prover.specs.Words.{wordsOf}
-use Rattle.prover.specs.Lent.{Given, rootsOf, compressedIn, compressedPolysIn, lentEnvironment}
+use Rattle.prover.specs.Lent.{Given, rootsOf, compressedIn, compressedPolysIn, environmentFromWords}
 use Rattle.prover.specs.declared.Roots.{Roots}
 use Rattle.prover.proofs.Words.{words-none, words-length, words-append}
 use Rattle.prover.proofs.Lent.{lent-point, lent-same, compressed-same, compressed-column}
@@ -155,7 +155,7 @@ words-two rows p q = ap (λ (xs : List ℕ). column (λ b. val (p b)) rows ++ xs
 
 module _ (k : ℕ) (small : k < 21) (l : Layout) (g : Given k l) (circuit witness challenges : List ℕ) (β : 𝔾 .F) where
   abbrev at : List ℕ → List Expr → ℕ → 𝔾 .F
-  at c es b = compressedIn 𝔾 (lentEnvironment circuit witness c challenges l k) β es b
+  at c es b = compressedIn 𝔾 (environmentFromWords circuit witness c challenges l k) β es b
 
   pub compressed-here : (part d : List ℕ) → ((j : ℕ) → j < l .instances * 2 ^ k → getD part j 0 ≡ getD d j 0)
       → (es : List Expr) (row place w : ℕ) → row < 2 ^ k
@@ -166,14 +166,14 @@ module _ (k : ℕ) (small : k < 21) (l : Layout) (g : Given k l) (circuit witnes
       ∙ ap (λ (s : Environment 𝔾). val (compressedIn 𝔾 s β es row))
       (lent-point circuit witness part challenges l (record { k = k; row = row; place = place; eq = 0 }) refl)
       ∙ ap val
-      (compressed-same (lentEnvironment circuit witness part challenges l k) (lentEnvironment circuit witness d challenges l k) (2 ^ k)
+      (compressed-same (environmentFromWords circuit witness part challenges l k) (environmentFromWords circuit witness d challenges l k) (2 ^ k)
       (lent-same k small l g circuit witness part d challenges same) β es row h)
 
   -- the same column from a buffer that was written behind the instance columns
   behind-column : (d : List ℕ) (to : ℕ) (s : List ℕ) → l .instances * 2 ^ k ≤ to → to ≤ length d → (es : List Expr)
       → column (λ b. val (at (over d to s) es b)) (2 ^ k) ≡ column (λ b. val (at d es b)) (2 ^ k)
   behind-column d to s h room es =
-      compressed-column (lentEnvironment circuit witness (over d to s) challenges l k) (lentEnvironment circuit witness d challenges l k)
+      compressed-column (environmentFromWords circuit witness (over d to s) challenges l k) (environmentFromWords circuit witness d challenges l k)
       (2 ^ k)
       (lent-same k small l g circuit witness (over d to s) d challenges (λ j m. over-before d to s j 0 room (omega arith)))
       β es
@@ -210,7 +210,7 @@ module _ (k : ℕ) (small : k < 21) (l : Layout) (g : Given k l) (circuit witnes
 
     -- ---- all lookups
     abbrev all : List ℕ → List (List Pair) → List (ℕ → 𝔾 .F)
-    all c ls = compressedPolysIn 𝔾 (lentEnvironment circuit witness c challenges l k) β ls
+    all c ls = compressedPolysIn 𝔾 (environmentFromWords circuit witness c challenges l k) β ls
 
     pub all-start : (d : List ℕ) (to : ℕ) → d ≡ over d to (wordsOf (2 ^ k) (all d (split [] (pairsOf nodes pairs))))
     unfolding split compressedPolysIn concat

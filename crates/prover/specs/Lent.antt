@@ -34,8 +34,8 @@ pub record Behind (k : ℕ) (l : Layout) (nodes columns : List ℕ) (to words : 
   pub room : to + words ≤ length columns
 
 -- what user expressions are evaluated over: no EqXY (question 8)
-unfoldable pub lentEnvironment : List ℕ → List ℕ → List ℕ → List ℕ → Layout → ℕ → Environment 𝔾
-lentEnvironment circuit witness columns challenges l k =
+unfoldable pub environmentFromWords : List ℕ → List ℕ → List ℕ → List ℕ → Layout → ℕ → Environment 𝔾
+environmentFromWords circuit witness columns challenges l k =
     record {
       k = k;
       el = el;
@@ -61,9 +61,9 @@ module _ (𝓕 : Field) (s : Environment 𝓕) (β : 𝓕 .F) where
 -- "(value + β×identity label + γ) times inverses of (value + β×permutation label + γ)": the factor of copied column i at row b.
 -- `copied` has the polynomials' numbers; the permutation columns stand behind the instance columns
 module _ (l : Layout) (circuit witness columns copied : List ℕ) (β γ : 𝔾 .F) where
-  abbrev pub lentFactor : ℕ → ℕ → ℕ → 𝔾 .F
-  lentFactor label b i = factorOf 𝔾 β γ (polyOf 𝔾 (polysOf l circuit witness columns) (getD copied i 0) b) (el label)
+  abbrev pub factorInWords : ℕ → ℕ → ℕ → 𝔾 .F
+  factorInWords label b i = factorOf 𝔾 β γ (polyOf 𝔾 (polysOf l circuit witness columns) (getD copied i 0) b) (el label)
 
-  unfoldable pub lentRatio : ℕ → ℕ → 𝔾 .F
-  lentRatio b i =
-      𝔾 .mul (lentFactor (i * l .rows + b) b i) (𝔾 .inv (lentFactor (getD columns ((l .instances + i) * l .rows + b) 0) b i))
+  unfoldable pub ratioInWords : ℕ → ℕ → 𝔾 .F
+  ratioInWords b i =
+      𝔾 .mul (factorInWords (i * l .rows + b) b i) (𝔾 .inv (factorInWords (getD columns ((l .instances + i) * l .rows + b) 0) b i))

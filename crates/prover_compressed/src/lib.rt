@@ -23,7 +23,25 @@ ghost use Rattle.expression_evaluate.specs.Lent.{lent};
 ghost use Rattle.backend.specs.Circuit.{pairsOf};
 ghost use Rattle.backend.specs.Constraints.{inputsOf, tablesOf};
 ghost use Rattle.prover.specs.Words.{wordsOf};
-ghost use Rattle.prover.specs.Lent.{Behind, lentEnvironment, compressedIn, compressedPolysIn, rootsOf};
+ghost use Rattle.prover.specs.Lent.{Behind, environmentFromWords, compressedIn, compressedPolysIn, rootsOf};
+
+// What a compressed column is made with: where the given polynomials stand, of 2^k rows; beta; the roots of its expressions; and
+// the word of the column buffer that it begins at.
+pub struct CompressedPoly {
+    pub layout: Layout,
+    pub k: usize,
+    pub beta: Goldilocks,
+    pub roots: Roots,
+    pub to: usize,
+}
+
+// What the compressed columns of all lookups are made with, the word that the first begins at.
+pub struct CompressedPolys {
+    pub layout: Layout,
+    pub k: usize,
+    pub beta: Goldilocks,
+    pub to: usize,
+}
 
 // The value of the expression at a root, 0 where there is no such node. `count` is how many nodes there are.
 fn value_of_root<'a>(s: &[&'a [u64]; 5], c: &[usize; 12], count: usize, root: u64) -> Goldilocks
@@ -65,39 +83,33 @@ fn compressed_at<'a>(
     witness: &'a [u64],
     columns: &'a [u64],
     challenges: &'a [u64],
-    layout: Layout,
-    point: Point,
     pairs: &[u64],
-    roots: Roots,
-    beta: Goldilocks,
+    poly: CompressedPoly,
+    point: Point,
 ) -> Goldilocks
-    requires { ⌜ (length (now nodes) % 4 ≡ 0) × (Small layout × Placed point) × ((roots .start + roots .width) * 2 ≤ length (now pairs)) × (roots .side < 2) ⌝ }
-    ensures { λ r. ⌜ elem r ≡ compressedIn 𝔾 (environmentOf (now (circuit .entry)) (now (witness .entry)) (now (columns .entry)) (now (challenges .entry)) layout point) (elem beta) (rootsOf (now (nodes .entry)) (now (pairs .entry)) roots) (point .row) ⌝ }
+    requires { ⌜ (length (now nodes) % 4 ≡ 0) × (Small (poly .layout) × Placed point) × ((poly .roots .start + poly .roots .width) * 2 ≤ length (now pairs)) × (poly .roots .side < 2) ⌝ }
+    ensures { λ r. ⌜ elem r ≡ compressedIn 𝔾 (environmentOf (now (circuit .entry)) (now (witness .entry)) (now (columns .entry)) (now (challenges .entry)) (poly .layout) point) (elem (poly .beta)) (rootsOf (now (nodes .entry)) (now (pairs .entry)) (poly .roots)) (point .row) ⌝ }
 {
-    let c = context(layout, point);
+    let c = context(poly.layout, point);
     let s = [nodes, circuit, witness, columns, challenges];
-    compressed_over(&s, &c, nodes.len() / 4, pairs, roots, beta)
+    compressed_over(&s, &c, nodes.len() / 4, pairs, poly.roots, poly.beta)
 }
 
-// One compressed column, from word `to` of the column buffer on, through the row order once.
+// One compressed column, through the row order once.
 pub fn lookup_compressed_poly<'a>(
     nodes: &'a [u64],
     circuit: &'a [u64],
     witness: &'a [u64],
     columns: &mut [u64],
     challenges: &'a [u64],
-    layout: Layout,
-    k: usize,
     pairs: &[u64],
-    roots: Roots,
-    beta: Goldilocks,
-    to: usize,
+    poly: CompressedPoly,
 )
-    requires { ⌜ Behind k layout (now nodes) (now columns) to (2 ^ k) × ((roots .start + roots .width) * 2 ≤ length (now pairs)) × (roots .side < 2) ⌝ }
-    ensures { λ _. ⌜ now (columns .exit) ≡ over (now (columns .entry)) to (column (λ b. val (compressedIn 𝔾 (lentEnvironment (now (circuit .entry)) (now (witness .entry)) (now (columns .entry)) (now (challenges .entry)) layout k) (elem beta) (rootsOf (now (nodes .entry)) (now (pairs .entry)) roots) b)) (2 ^ k)) ⌝ }
+    requires { ⌜ Behind (poly .k) (poly .layout) (now nodes) (now columns) (poly .to) (2 ^ poly .k) × ((poly .roots .start + poly .roots .width) * 2 ≤ length (now pairs)) × (poly .roots .side < 2) ⌝ }
+    ensures { λ _. ⌜ now (columns .exit) ≡ over (now (columns .entry)) (poly .to) (column (λ b. val (compressedIn 𝔾 (environmentFromWords (now (circuit .entry)) (now (witness .entry)) (now (columns .entry)) (now (challenges .entry)) (poly .layout) (poly .k)) (elem (poly .beta)) (rootsOf (now (nodes .entry)) (now (pairs .entry)) (poly .roots)) b)) (2 ^ poly .k)) ⌝ }
 {
-    let rows = rows_of(k);
-    let given = layout.instances * rows;
+    let rows = rows_of(poly.k);
+    let given = poly.layout.instances * rows;
     let mut row: usize = 0;
     let mut place: usize = 0;
     while place < rows {
@@ -107,75 +119,51 @@ pub fn lookup_compressed_poly<'a>(
             witness,
             &columns[0..given],
             challenges,
-            layout,
+            pairs,
+            poly,
             Point {
-                k: k,
+                k: poly.k,
                 row: row,
                 place: place,
                 eq: 0,
             },
-            pairs,
-            roots,
-            beta,
         );
-        columns[to + row] = x.to_u64();
-        row = row_after(row, place, k);
+        columns[poly.to + row] = x.to_u64();
+        row = row_after(row, place, poly.k);
         place += 1;
     }
 }
 
-// Both columns of the lookup of `width` pairs from pair `start` on: the input, then the table.
+// Both columns of a lookup: the input, which `poly` is, and the table behind it.
 fn compressed_pair<'a>(
     nodes: &'a [u64],
     circuit: &'a [u64],
     witness: &'a [u64],
     columns: &mut [u64],
     challenges: &'a [u64],
-    layout: Layout,
-    k: usize,
     pairs: &[u64],
-    start: usize,
-    width: usize,
-    beta: Goldilocks,
-    to: usize,
+    poly: CompressedPoly,
 )
-    requires { ⌜ Behind k layout (now nodes) (now columns) to (2 ^ k + 2 ^ k) × ((start + width) * 2 ≤ length (now pairs)) ⌝ }
-    ensures { λ _. ⌜ now (columns .exit) ≡ over (now (columns .entry)) to (wordsOf (2 ^ k) (compressedIn 𝔾 (lentEnvironment (now (circuit .entry)) (now (witness .entry)) (now (columns .entry)) (now (challenges .entry)) layout k) (elem beta) (inputsOf (take width (drop start (pairsOf (now (nodes .entry)) (now (pairs .entry)))))) ∷ compressedIn 𝔾 (lentEnvironment (now (circuit .entry)) (now (witness .entry)) (now (columns .entry)) (now (challenges .entry)) layout k) (elem beta) (tablesOf (take width (drop start (pairsOf (now (nodes .entry)) (now (pairs .entry)))))) ∷ [])) ⌝ }
+    requires { ⌜ Behind (poly .k) (poly .layout) (now nodes) (now columns) (poly .to) (2 ^ poly .k + 2 ^ poly .k) × ((poly .roots .start + poly .roots .width) * 2 ≤ length (now pairs)) × (poly .roots .side ≡ 0) ⌝ }
+    ensures { λ _. ⌜ now (columns .exit) ≡ over (now (columns .entry)) (poly .to) (wordsOf (2 ^ poly .k) (compressedIn 𝔾 (environmentFromWords (now (circuit .entry)) (now (witness .entry)) (now (columns .entry)) (now (challenges .entry)) (poly .layout) (poly .k)) (elem (poly .beta)) (inputsOf (take (poly .roots .width) (drop (poly .roots .start) (pairsOf (now (nodes .entry)) (now (pairs .entry)))))) ∷ compressedIn 𝔾 (environmentFromWords (now (circuit .entry)) (now (witness .entry)) (now (columns .entry)) (now (challenges .entry)) (poly .layout) (poly .k)) (elem (poly .beta)) (tablesOf (take (poly .roots .width) (drop (poly .roots .start) (pairsOf (now (nodes .entry)) (now (pairs .entry)))))) ∷ [])) ⌝ }
 {
-    lookup_compressed_poly(
-        nodes,
-        circuit,
-        witness,
-        columns,
-        challenges,
-        layout,
-        k,
-        pairs,
-        Roots {
-            start: start,
-            width: width,
-            side: 0,
-        },
-        beta,
-        to,
-    );
-    lookup_compressed_poly(
-        nodes,
-        circuit,
-        witness,
-        columns,
-        challenges,
-        layout,
-        k,
-        pairs,
-        Roots {
-            start: start,
-            width: width,
-            side: 1,
-        },
-        beta,
-        to + rows_of(k),
-    );
+    lookup_compressed_poly(nodes, circuit, witness, columns, challenges, pairs, poly);
+    let layout = poly.layout;
+    let beta = poly.beta;
+    let roots = Roots {
+        start: poly.roots.start,
+        width: poly.roots.width,
+        side: 1,
+    };
+    let to = poly.to + rows_of(poly.k);
+    let table = CompressedPoly {
+        layout: layout,
+        k: poly.k,
+        beta: beta,
+        roots: roots,
+        to: to,
+    };
+    lookup_compressed_poly(nodes, circuit, witness, columns, challenges, pairs, table);
 }
 
 // The compressed columns of all lookups, of these widths: input 0, table 0, input 1, table 1, ..
@@ -185,36 +173,34 @@ pub fn lookup_compressed_polys<'a>(
     witness: &'a [u64],
     columns: &mut [u64],
     challenges: &'a [u64],
-    layout: Layout,
-    k: usize,
     widths: &[u64],
     pairs: &[u64],
-    beta: Goldilocks,
-    to: usize,
+    polys: CompressedPolys,
 )
-    requires { ⌜ Behind k layout (now nodes) (now columns) to (length (now widths) * (2 ^ k + 2 ^ k)) × (total (now widths) * 2 ≤ length (now pairs)) ⌝ }
-    ensures { λ _. ⌜ now (columns .exit) ≡ over (now (columns .entry)) to (wordsOf (2 ^ k) (compressedPolysIn 𝔾 (lentEnvironment (now (circuit .entry)) (now (witness .entry)) (now (columns .entry)) (now (challenges .entry)) layout k) (elem beta) (split (now (widths .entry)) (pairsOf (now (nodes .entry)) (now (pairs .entry)))))) ⌝ }
+    requires { ⌜ Behind (polys .k) (polys .layout) (now nodes) (now columns) (polys .to) (length (now widths) * (2 ^ polys .k + 2 ^ polys .k)) × (total (now widths) * 2 ≤ length (now pairs)) ⌝ }
+    ensures { λ _. ⌜ now (columns .exit) ≡ over (now (columns .entry)) (polys .to) (wordsOf (2 ^ polys .k) (compressedPolysIn 𝔾 (environmentFromWords (now (circuit .entry)) (now (witness .entry)) (now (columns .entry)) (now (challenges .entry)) (polys .layout) (polys .k)) (elem (polys .beta)) (split (now (widths .entry)) (pairsOf (now (nodes .entry)) (now (pairs .entry)))))) ⌝ }
 {
-    let rows = rows_of(k);
+    let rows = rows_of(polys.k);
     let mut start: usize = 0;
-    let mut at = to;
+    let mut at = polys.to;
     let mut i: usize = 0;
     while i < widths.len() {
         let width = index(widths[i]);
-        compressed_pair(
-            nodes,
-            circuit,
-            witness,
-            columns,
-            challenges,
-            layout,
-            k,
-            pairs,
-            start,
-            width,
-            beta,
-            at,
-        );
+        let layout = polys.layout;
+        let beta = polys.beta;
+        let roots = Roots {
+            start: start,
+            width: width,
+            side: 0,
+        };
+        let poly = CompressedPoly {
+            layout: layout,
+            k: polys.k,
+            beta: beta,
+            roots: roots,
+            to: at,
+        };
+        compressed_pair(nodes, circuit, witness, columns, challenges, pairs, poly);
         start += width;
         at += rows + rows;
         i += 1;

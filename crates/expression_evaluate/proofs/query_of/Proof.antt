@@ -13,13 +13,13 @@ use Rattle.expression_evaluate.proofs.query_of.Tie as tie
 layout-of-requires : tie.Need-layout-of-requires
 layout-of-requires c κs = search needs
 
-turned-requires : tie.Need-turned-requires
-turned-requires c κs = search needs
+rotated-row-requires : tie.Need-rotated-row-requires
+rotated-row-requires c κs = search needs
 
 poly-of-requires : tie.Need-poly-of-requires
 poly-of-requires c κs = (
   subst⁻¹ Small (c .layout-of .ensures) (c .before .before .pre .layout),
-  c .before .turned .ensures .1,
+  c .before .rotated-row .ensures .1,
 )
 
 returns : tie.Need-returns
@@ -29,7 +29,7 @@ returns c =
     c .poly-of .ensures
     ∙ ap₂ (λ (l : Layout) (b : ℕ). polyOf 𝔾 (polysOf l (lent (a .s .now) 1) (lent (a .s .now) 2) (lent (a .s .now) 3)) (a .polynomial) b)
     (c .before .layout-of .ensures)
-    (c .before .before .turned .ensures .0)
+    (c .before .before .rotated-row .ensures .0)
 
 pub query-of-spec : {M : Type 1} → statement M
-query-of-spec = tie.close (tie.spec turned-requires layout-of-requires poly-of-requires returns)
+query-of-spec = tie.close (tie.spec rotated-row-requires layout-of-requires poly-of-requires returns)

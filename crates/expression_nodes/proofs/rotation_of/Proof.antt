@@ -12,47 +12,47 @@ shl-n c = search needs
 sub-n : tie.Need-sub-n
 sub-n c = subst⁻¹ (λ (x : ℕ). 1 ≤ x) (one-shifted (c .args .k) (c .pre .1)) (pow-pos (c .args .k))
 
-sub-shorter : tie.Need-sub-shorter
-sub-shorter c = search needs
+sub-mod-period : tie.Need-sub-mod-period
+sub-mod-period c = search needs
 
-shorter-requires : tie.Need-shorter-requires
-shorter-requires c κs = round-small (c .before .args .k) (c .before .pre .0) (c .before .pre .1)
+mod-period-requires : tie.Need-mod-period-requires
+mod-period-requires c κs = round-small (c .before .args .k) (c .before .pre .0) (c .before .pre .1)
 
-back-requires : tie.Need-back-requires
-back-requires c κs = search needs
+backward-requires : tie.Need-backward-requires
+backward-requires c κs = search needs
 
 returns : tie.Need-returns
 returns c =
     let a = c .before .before .before in
     let e = one-shifted (a .args .k) (a .pre .1) in
-    let s = c .before .shorter in
+    let s = c .before .mod-period in
     let w = a .args .word in (
-      keeps-back (a .args .k) (a .pre .0) (a .pre .1) w (s .result) (c .back .result .0) (c .before .before .if1 .taken)
+      keeps-back (a .args .k) (a .pre .0) (a .pre .1) w (s .result) (c .backward .result .0) (c .before .before .if1 .taken)
           (subst (λ (x : ℕ). s .result % (x - 1) ≡ (2147483648 - w) % (x - 1)) e (s .ensures .0))
-          (c .back .ensures),
-      number-back (a .args .k) (a .pre .0) (a .pre .1) w (s .result) (c .back .result .0) (c .before .before .if1 .taken)
+          (c .backward .ensures),
+      number-back (a .args .k) (a .pre .0) (a .pre .1) w (s .result) (c .backward .result .0) (c .before .before .if1 .taken)
           (subst (λ (x : ℕ). 2147483648 - w ≤ x - 1 → s .result ≡ 2147483648 - w) e (s .ensures .2))
-          (c .back .ensures),
+          (c .backward .ensures),
     )
 
-shorter-requires-2 : tie.Need-shorter-requires-2
-shorter-requires-2 c κs = round-small (c .before .args .k) (c .before .pre .0) (c .before .pre .1)
+mod-period-requires-2 : tie.Need-mod-period-requires-2
+mod-period-requires-2 c κs = round-small (c .before .args .k) (c .before .pre .0) (c .before .pre .1)
 
-on-requires : tie.Need-on-requires
-on-requires c κs = search needs
+forward-requires : tie.Need-forward-requires
+forward-requires c κs = search needs
 
 returns-2 : tie.Need-returns-2
 returns-2 c =
     let a = c .before .before .before in
     let e = one-shifted (a .args .k) (a .pre .1) in
-    let s = c .before .shorter2 in
+    let s = c .before .mod-period2 in
     let w = a .args .word in (
-      keeps-on (a .args .k) (a .pre .0) (a .pre .1) w (s .result) (c .on .result .0) (c .before .before .if1 .left)
+      keeps-on (a .args .k) (a .pre .0) (a .pre .1) w (s .result) (c .forward .result .0) (c .before .before .if1 .left)
           (subst (λ (x : ℕ). s .result % (x - 1) ≡ (w - 2147483648) % (x - 1)) e (s .ensures .0))
-          (c .on .ensures),
-      number-on (a .args .k) (a .pre .0) (a .pre .1) w (s .result) (c .on .result .0) (c .before .before .if1 .left)
+          (c .forward .ensures),
+      number-on (a .args .k) (a .pre .0) (a .pre .1) w (s .result) (c .forward .result .0) (c .before .before .if1 .left)
           (subst (λ (x : ℕ). w - 2147483648 ≤ x - 1 → s .result ≡ w - 2147483648) e (s .ensures .2))
-          (c .on .ensures),
+          (c .forward .ensures),
     )
 
 pub rotation-of-spec : {M : Type 1} → statement M
@@ -61,10 +61,10 @@ rotation-of-spec =
     (tie.spec
     shl-n
     sub-n
-    sub-shorter
-    shorter-requires
-    back-requires
+    sub-mod-period
+    mod-period-requires
+    backward-requires
     returns
-    shorter-requires-2
-    on-requires
+    mod-period-requires-2
+    forward-requires
     returns-2)

@@ -32,9 +32,9 @@ use Rattle.preprocessor.proofs.Copied.{label-lt, label-columns}
 use Rattle.prover.specs.Columns.{instanceAt}
 use Rattle.prover.specs.Running.{zOf}
 use Rattle.prover.specs.Words.{wordsOf}
-use Rattle.prover.specs.Lent.{Given, Behind, lentEnvironment, compressedPolysIn, lentRatio}
+use Rattle.prover.specs.Lent.{Given, Behind, environmentFromWords, compressedPolysIn, ratioInWords}
 use Rattle.prover.proofs.Lent.{lookups-are}
-use Rattle.hyperplonk_prepare.specs.Prepared.{Accepted, layoutOf, permutationsAt, compressedAt, zsAt}
+use Rattle.hyperplonk_prepare.specs.Prepared.{Accepted, layoutOf, permutationOffset, compressedOffset, zOffset}
 use Rattle.hyperplonk_prepare.proofs.Accepted as accepted
 
 pub layout-is : (ws : List ℕ) (rows witness instances preprocess start : ℕ) → rows ≡ 2 ^ wordK ws → witness ≡ numWitness (circuitOf ws)
@@ -96,14 +96,14 @@ module _ (ws : List ℕ) (a : Accepted ws) where
     unfolding circuitOf
     given-of = subst (Given (wordK ws)) (sym is) (accepted.given ws a)
 
-    pub permutations-at : l .instances * l .rows ≡ permutationsAt (circuitOf ws)
+    pub permutations-at : l .instances * l .rows ≡ permutationOffset (circuitOf ws)
     permutations-at = ap₂ _*_ instances-of rows-of
 
-    pub compressed-at : (n : ℕ) → n ≡ numCopied (circuitOf ws) → (l .instances + n) * l .rows ≡ compressedAt (circuitOf ws)
+    pub compressed-at : (n : ℕ) → n ≡ numCopied (circuitOf ws) → (l .instances + n) * l .rows ≡ compressedOffset (circuitOf ws)
     compressed-at n e = ap₂ _*_ (ap₂ _+_ instances-of e) rows-of
 
     pub zs-at : (n m : ℕ) → n ≡ numCopied (circuitOf ws) → m ≡ getD ws 13 0
-        → (l .instances + n + m * 4) * l .rows ≡ zsAt (circuitOf ws)
+        → (l .instances + n + m * 4) * l .rows ≡ zOffset (circuitOf ws)
     zs-at n m e f =
         ap₂ _*_
         (ap₂ _+_ (ap₂ _+_ instances-of e)
@@ -163,7 +163,7 @@ module _ (ws : List ℕ) (a : Accepted ws) where
       ∙ sym (ap (map words) (map-column (λ i b. el (label c i b)) (λ i. i) n) ∙ map-column words (λ i b. el (label c i b)) n))
 
   pub permutation-asks : (l : Layout) (names lengths cells columns : List ℕ) → l ≡ layoutOf ws → names ≡ copied (circuitOf ws)
-      → lengths ≡ bodyOf ws Section.lengths → cells ≡ bodyOf ws Section.cells → compressedAt (circuitOf ws) ≤ length columns
+      → lengths ≡ bodyOf ws Section.lengths → cells ≡ bodyOf ws Section.cells → compressedOffset (circuitOf ws) ≤ length columns
       → Walkable names (l .rows) (split lengths (cellsOf cells))
       × ((total lengths ≡ length cells / 2) × (l .instances * l .rows + length names * l .rows ≤ length columns))
   permutation-asks l names lengths cells columns is en el ec room =
@@ -179,7 +179,7 @@ module _ (ws : List ℕ) (a : Accepted ws) where
       → lengths ≡ bodyOf ws Section.lengths → cells ≡ bodyOf ws Section.cells
       → new ≡ over d (l .instances * l .rows) (permutationColumns names (l .rows) (split lengths (cellsOf cells)))
       → new
-      ≡ over d (permutationsAt (circuitOf ws))
+      ≡ over d (permutationOffset (circuitOf ws))
       (wordsOf (rowsOf (circuitOf ws)) (map (λ i b. el (label (circuitOf ws) i b)) (below (numCopied (circuitOf ws)))))
   permutation-written l names lengths cells d new is en el' ec h =
       h
@@ -215,17 +215,17 @@ module _ (ws : List ℕ) (a : Accepted ws) where
       → new
       ≡ over d to
       (wordsOf (2 ^ k)
-      (compressedPolysIn 𝔾 (lentEnvironment ws witness d user l k) β (split widths (pairsOf nodes pairs))))
+      (compressedPolysIn 𝔾 (environmentFromWords ws witness d user l k) β (split widths (pairsOf nodes pairs))))
       → new
       ≡ over d to
-      (wordsOf (2 ^ k) (compressedPolysIn 𝔾 (lentEnvironment ws witness d user l k) β (circuitOf ws .lookups)))
+      (wordsOf (2 ^ k) (compressedPolysIn 𝔾 (environmentFromWords ws witness d user l k) β (circuitOf ws .lookups)))
   compressed-written l k to β nodes widths pairs witness user d new en ew ep h =
       h
-      ∙ ap (λ ls. over d to (wordsOf (2 ^ k) (compressedPolysIn 𝔾 (lentEnvironment ws witness d user l k) β ls)))
+      ∙ ap (λ ls. over d to (wordsOf (2 ^ k) (compressedPolysIn 𝔾 (environmentFromWords ws witness d user l k) β ls)))
       (ap₂ split ew (ap₂ pairsOf en ep) ∙ lookups-are ws (accepted.pairs-length ws a))
 
   pub compressed-room : (l : Layout) (k n : ℕ) (columns : List ℕ) → l ≡ layoutOf ws → k ≡ wordK ws → n ≡ numCopied (circuitOf ws)
-      → compressedAt (circuitOf ws) + numLookups (circuitOf ws) * 2 * rowsOf (circuitOf ws) ≤ length columns
+      → compressedOffset (circuitOf ws) + numLookups (circuitOf ws) * 2 * rowsOf (circuitOf ws) ≤ length columns
       → (k ≡ circuitOf ws .k) × (numInstance (circuitOf ws) * 2 ^ k ≤ (l .instances + n) * l .rows)
       × ((l .instances + n) * l .rows + numLookups (circuitOf ws) * (2 ^ k + 2 ^ k) ≤ length columns)
   compressed-room l k n columns is ek e room =
@@ -243,21 +243,21 @@ module _ (ws : List ℕ) (a : Accepted ws) where
       → n ≡ numCopied (circuitOf ws) → user ≡ numUser (circuitOf ws) → β ≡ el (getD challenges user 0)
       → new
       ≡ over d ((l .instances + n) * l .rows)
-      (wordsOf (2 ^ k) (compressedPolysIn 𝔾 (lentEnvironment ws witness d (take (user - 0) challenges) l k) β (circuitOf ws .lookups)))
+      (wordsOf (2 ^ k) (compressedPolysIn 𝔾 (environmentFromWords ws witness d (take (user - 0) challenges) l k) β (circuitOf ws .lookups)))
       → new
-      ≡ over d (compressedAt (circuitOf ws))
+      ≡ over d (compressedOffset (circuitOf ws))
       (wordsOf (rowsOf (circuitOf ws))
       (compressedPolysIn 𝔾
-      (lentEnvironment ws witness d (take (numUser (circuitOf ws)) challenges) (layoutOf ws) (circuitOf ws .k))
+      (environmentFromWords ws witness d (take (numUser (circuitOf ws)) challenges) (layoutOf ws) (circuitOf ws .k))
       (el (getD challenges (numUser (circuitOf ws)) 0))
       (circuitOf ws .lookups)))
   compressed-all l k n user β witness challenges d new is ek en eu eb h =
       let c : Circuit = circuitOf ws in
-      let to : ℕ = compressedAt c in
+      let to : ℕ = compressedOffset c in
       let write : ℕ → Layout → ℕ → 𝔾 .F → List ℕ = λ k l user β.
-      over d to (wordsOf (2 ^ k) (compressedPolysIn 𝔾 (lentEnvironment ws witness d (take user challenges) l k) β (c .lookups))) in
+      over d to (wordsOf (2 ^ k) (compressedPolysIn 𝔾 (environmentFromWords ws witness d (take user challenges) l k) β (c .lookups))) in
       h
-      ∙ ap₂ (λ (to m : ℕ). over d to (wordsOf (2 ^ k) (compressedPolysIn 𝔾 (lentEnvironment ws witness d (take m challenges) l k) β (c .lookups))))
+      ∙ ap₂ (λ (to m : ℕ). over d to (wordsOf (2 ^ k) (compressedPolysIn 𝔾 (environmentFromWords ws witness d (take m challenges) l k) β (c .lookups))))
       (compressed-at l is n en)
       (let q : user - 0 ≡ user = omega arith in q)
       ∙ ap₂ (λ (k : ℕ) (l : Layout). write k l user β) (ek ∙ sym (accepted.k-is ws a)) is
@@ -266,7 +266,7 @@ module _ (ws : List ℕ) (a : Accepted ws) where
   -- ---- z columns
   pub z-asks : (l : Layout) (k parts lookups : ℕ) (names columns : List ℕ) → l ≡ layoutOf ws → k ≡ wordK ws → lookups ≡ getD ws 13 0
       → names ≡ copied (circuitOf ws) → parts ≡ numZ (circuitOf ws)
-      → zsAt (circuitOf ws) + numZ (circuitOf ws) * rowsOf (circuitOf ws) ≤ length columns
+      → zOffset (circuitOf ws) + numZ (circuitOf ws) * rowsOf (circuitOf ws) ≤ length columns
       → ((0 < k) × (k < 21)) × Given k l × (parts ≤ length names) × (length names ≤ 1048576)
       × ((l .instances + length names) * 2 ^ k ≤ (l .instances + length names + lookups * 4) * l .rows)
       × ((l .instances + length names + lookups * 4) * l .rows + parts * 2 ^ k ≤ length columns)
@@ -287,13 +287,13 @@ module _ (ws : List ℕ) (a : Accepted ws) where
       → beta ≡ el (getD challenges user 0) → gamma ≡ el (getD challenges (user + 1) 0)
       → new
       ≡ over d ((l .instances + length names + lookups * 4) * l .rows)
-      (wordsOf (2 ^ k) (column (zOf 𝔾 (lentRatio l ws witness d names beta gamma) k (length names) parts) parts))
+      (wordsOf (2 ^ k) (column (zOf 𝔾 (ratioInWords l ws witness d names beta gamma) k (length names) parts) parts))
       → new
-      ≡ over d (zsAt (circuitOf ws))
+      ≡ over d (zOffset (circuitOf ws))
       (wordsOf (rowsOf (circuitOf ws))
       (column
       (zOf 𝔾
-      (lentRatio (layoutOf ws) ws witness d (copied (circuitOf ws)) (el (getD challenges (numUser (circuitOf ws)) 0))
+      (ratioInWords (layoutOf ws) ws witness d (copied (circuitOf ws)) (el (getD challenges (numUser (circuitOf ws)) 0))
       (el (getD challenges (numUser (circuitOf ws) + 1) 0)))
       (circuitOf ws .k)
       (numCopied (circuitOf ws))
@@ -302,12 +302,12 @@ module _ (ws : List ℕ) (a : Accepted ws) where
   z-written l k parts lookups user beta gamma names witness challenges d new is ek em en ez eu eb eg h =
       let c : Circuit = circuitOf ws in
       let write : ℕ → Layout → ℕ → List ℕ → ℕ → 𝔾 .F → 𝔾 .F → List ℕ = λ to l k names parts beta gamma.
-      over d to (wordsOf (2 ^ k) (column (zOf 𝔾 (lentRatio l ws witness d names beta gamma) k (length names) parts) parts)) in
+      over d to (wordsOf (2 ^ k) (column (zOf 𝔾 (ratioInWords l ws witness d names beta gamma) k (length names) parts) parts)) in
       h
       ∙ ap₂ (λ (to k : ℕ). write to l k names parts beta gamma) (zs-at l is (length names) lookups (ap length en) em)
       (ek ∙ sym (accepted.k-is ws a))
-      ∙ ap₂ (λ (l : Layout) (names : List ℕ). write (zsAt c) l (c .k) names parts beta gamma) is en
-      ∙ ap (λ (parts : ℕ). write (zsAt c) (layoutOf ws) (c .k) (copied c) parts beta gamma) ez
-      ∙ ap₂ (λ (beta gamma : 𝔾 .F). write (zsAt c) (layoutOf ws) (c .k) (copied c) (numZ c) beta gamma)
+      ∙ ap₂ (λ (l : Layout) (names : List ℕ). write (zOffset c) l (c .k) names parts beta gamma) is en
+      ∙ ap (λ (parts : ℕ). write (zOffset c) (layoutOf ws) (c .k) (copied c) parts beta gamma) ez
+      ∙ ap₂ (λ (beta gamma : 𝔾 .F). write (zOffset c) (layoutOf ws) (c .k) (copied c) (numZ c) beta gamma)
       (eb ∙ ap (λ (user : ℕ). el (getD challenges user 0)) eu)
       (eg ∙ ap (λ (user : ℕ). el (getD challenges (user + 1) 0)) eu)

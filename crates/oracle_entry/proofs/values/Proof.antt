@@ -14,12 +14,12 @@ use Rattle.oracle_entry.proofs.values.Statement.{statement}
 use Rattle.oracle_entry.proofs.values.Tie as tie
 
 abbrev Inv-loop : tie.InvT-loop
-Inv-loop nodes circuit witness columns challenges layout k eq n out₀ rows row₀ place₀ out row place =
-    (row ≡ rowAt k place)
-    × Turned (2 ^ k) (placeOf k) (valueWord nodes circuit witness columns challenges layout k eq n) out₀ 0 out place
+Inv-loop nodes circuit witness columns challenges eq of out₀ rows row₀ place₀ out row place =
+    (row ≡ rowAt (of .k) place)
+    × Turned (2 ^ of .k) (placeOf (of .k)) (valueWord nodes circuit witness columns challenges (of .layout) (of .k) eq (of .n)) out₀ 0 out place
 
 abbrev μ-loop : tie.MeasureT-loop
-μ-loop nodes circuit witness columns challenges layout k eq n out₀ rows row₀ place₀ out row place = rows - place
+μ-loop nodes circuit witness columns challenges eq of out₀ rows row₀ place₀ out row place = rows - place
 
 -- the function's entry
 abbrev start : tie.At-loop Inv-loop μ-loop → tie.Start Inv-loop μ-loop
@@ -31,7 +31,7 @@ rows-of-requires c κs = omega (arith, c .before .before .before .before .before
 loop-holds : tie.Need-loop-holds Inv-loop μ-loop
 loop-holds c =
     let s = c .before .before .before .before .before .before .before .before in
-    (sym (row-nought (s .args .k)), turn-start _ _ _ _ (row-turns (s .args .k) (s .pre .2) (s .pre .3)) (s .args .out .now) 0 (from-nought _ _ (s .pre .4)))
+    (sym (row-nought (s .args .of .k)), turn-start _ _ _ _ (row-turns (s .args .of .k) (s .pre .2) (s .pre .3)) (s .args .out .now) 0 (from-nought _ _ (s .pre .4)))
 
 word-at-requires : tie.Need-word-at-requires Inv-loop μ-loop
 word-at-requires c κs = search needs
@@ -46,8 +46,8 @@ value-of-requires c κs =
         record {
           positive = s .pre .2;
           small = s .pre .3;
-          inside = row-in (s .args .k) (l .loop .row) (l .loop .place) (s .pre .2) (s .pre .3) (l .loop .inv .0);
-          placed = placed-at (s .args .k) (l .loop .row) (l .loop .place) (s .pre .2) (s .pre .3) (omega (arith, c .before .loop-test .taken, l .before .rows-of .ensures)) (l .loop .inv .0);
+          inside = row-in (s .args .of .k) (l .loop .row) (l .loop .place) (s .pre .2) (s .pre .3) (l .loop .inv .0);
+          placed = placed-at (s .args .of .k) (l .loop .row) (l .loop .place) (s .pre .2) (s .pre .3) (omega (arith, c .before .loop-test .taken, l .before .rows-of .ensures)) (l .loop .inv .0);
         },
       ),
     )
@@ -59,13 +59,13 @@ mul-out : tie.Need-mul-out Inv-loop μ-loop
 mul-out c =
     let l = c .before .before .before .before in
     let s = start l in
-    omega (arith, s .pre .4, s .good, l .loop .inv .1 .size, row-in (s .args .k) (l .loop .row) (l .loop .place) (s .pre .2) (s .pre .3) (l .loop .inv .0))
+    omega (arith, s .pre .4, s .good, l .loop .inv .1 .size, row-in (s .args .of .k) (l .loop .row) (l .loop .place) (s .pre .2) (s .pre .3) (l .loop .inv .0))
 
 slice-write-out : tie.Need-slice-write-out Inv-loop μ-loop
 slice-write-out c =
     let l = c .before .before .before .before in
     let s = start l in
-    omega (arith, s .pre .4, s .good, l .loop .inv .1 .size, row-in (s .args .k) (l .loop .row) (l .loop .place) (s .pre .2) (s .pre .3) (l .loop .inv .0))
+    omega (arith, s .pre .4, s .good, l .loop .inv .1 .size, row-in (s .args .of .k) (l .loop .row) (l .loop .place) (s .pre .2) (s .pre .3) (l .loop .inv .0))
 
 row-after-requires : tie.Need-row-after-requires Inv-loop μ-loop
 row-after-requires c κs =
@@ -84,15 +84,15 @@ loop-again c =
     let l = c .before .before .before .before .before in
     let s = start l in
     let a = s .args in
-    let inside : l .loop .place < 2 ^ (a .k) = omega (arith, c .before .before .before .before .loop-test .taken, l .before .rows-of .ensures) in (
+    let inside : l .loop .place < 2 ^ (a .of .k) = omega (arith, c .before .before .before .before .loop-test .taken, l .before .rows-of .ensures) in (
       c .row-after .ensures .0,
-      turn-more _ _ _ _ (row-turns (a .k) (s .pre .2) (s .pre .3)) (a .out .now) 0 (from-nought _ _ (s .pre .4)) _ _ (l .loop .inv .1) inside _ (nought-on _ _ (l .loop .inv .0)) _
-          (value-word (a .nodes .now) (a .circuit .now) (a .witness .now) (a .columns .now) (a .challenges .now) (a .layout) (a .k) (a .eq .now) (a .n) (l .loop .row) (l .loop .place) _ _ _
-          (placed-at (a .k) (l .loop .row) (l .loop .place) (s .pre .2) (s .pre .3) inside (l .loop .inv .0))
+      turn-more _ _ _ _ (row-turns (a .of .k) (s .pre .2) (s .pre .3)) (a .out .now) 0 (from-nought _ _ (s .pre .4)) _ _ (l .loop .inv .1) inside _ (nought-on _ _ (l .loop .inv .0)) _
+          (value-word (a .nodes .now) (a .circuit .now) (a .witness .now) (a .columns .now) (a .challenges .now) (a .of .layout) (a .of .k) (a .eq .now) (a .of .n) (l .loop .row) (l .loop .place) _ _ _
+          (placed-at (a .of .k) (l .loop .row) (l .loop .place) (s .pre .2) (s .pre .3) inside (l .loop .inv .0))
           (c .before .before .before .word-at .ensures)
           (c .before .before .value-of .ensures)
           (c .before .to-u64 .ensures)
-          ∙ ap (λ (b : ℕ). valueWord (a .nodes .now) (a .circuit .now) (a .witness .now) (a .columns .now) (a .challenges .now) (a .layout) (a .k) (a .eq .now) (a .n) b) (l .loop .inv .0)),
+          ∙ ap (λ (b : ℕ). valueWord (a .nodes .now) (a .circuit .now) (a .witness .now) (a .columns .now) (a .challenges .now) (a .of .layout) (a .of .k) (a .eq .now) (a .of .n) b) (l .loop .inv .0)),
     )
 
 same-length : tie.Need-same-length Inv-loop μ-loop
@@ -101,7 +101,7 @@ same-length c = c .before .loop .inv .1 .size
 returns : tie.Need-returns Inv-loop μ-loop
 returns c =
     let s = start (c .before) in
-    turn-end _ _ _ _ (row-turns (s .args .k) (s .pre .2) (s .pre .3)) (s .args .out .now) 0 (from-nought _ _ (s .pre .4)) _ _ (c .before .loop .inv .1) (omega (arith, c .loop-test .left, c .before .before .rows-of .ensures))
+    turn-end _ _ _ _ (row-turns (s .args .of .k) (s .pre .2) (s .pre .3)) (s .args .out .now) 0 (from-nought _ _ (s .pre .4)) _ _ (c .before .loop .inv .1) (omega (arith, c .loop-test .left, c .before .before .rows-of .ensures))
 
 pub values-spec : {M : Type 1} → statement M
 values-spec =

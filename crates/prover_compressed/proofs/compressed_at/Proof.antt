@@ -20,7 +20,7 @@ compressed-over-requires c κs =
     let pre = c .before .before .before .before .before .before .before .before .before .pre in (
       refl,
       pre .0,
-      subst⁻¹ Ready (c .before .before .context .ensures) (ready-context (a .layout) (a .point) (pre .1 .0) (pre .1 .1)),
+      subst⁻¹ Ready (c .before .before .context .ensures) (ready-context (a .poly .layout) (a .point) (pre .1 .0) (pre .1 .1)),
       pre .2,
       pre .3,
     )
@@ -31,7 +31,7 @@ returns c =
     c .compressed-over .ensures
     ∙ ap
     (λ (l : List ℕ).
-    compressedIn 𝔾 (environmentOf (a .circuit .now) (a .witness .now) (a .columns .now) (a .challenges .now) (layoutOf l) (pointOf l)) (elem (a .beta)) (rootsOf (a .nodes .now) (a .pairs .now) (a .roots)) (pointOf l .row))
+    compressedIn 𝔾 (environmentOf (a .circuit .now) (a .witness .now) (a .columns .now) (a .challenges .now) (layoutOf l) (pointOf l)) (elem (a .poly .beta)) (rootsOf (a .nodes .now) (a .pairs .now) (a .poly .roots)) (pointOf l .row))
     (c .before .before .before .context .ensures)
 
 pub compressed-at-spec : {M : Type 1} → statement M

@@ -9,20 +9,20 @@ use Rattle.bh.specs.Rows.{rowAt, placeOf}
 use Rattle.bh.proofs.Order.{row-nought}
 use Rattle.bh.proofs.Rows.{row-in, placed-at}
 use Rattle.lists.proofs.Turns.{Turned, turn-start, turn-more, turn-before, turn-end}
-use Rattle.prover.specs.Lent.{lentEnvironment, compressedIn, rootsOf}
+use Rattle.prover.specs.Lent.{environmentFromWords, compressedIn, rootsOf}
 use Rattle.prover.proofs.Rows.{row-turns, read-there, read-word}
 use Rattle.prover.proofs.PowerSums.{compressed-here}
 use Rattle.prover_compressed.proofs.lookup_compressed_poly.Statement.{statement}
 use Rattle.prover_compressed.proofs.lookup_compressed_poly.Tie as tie
 
 abbrev Inv-loop : tie.InvT-loop
-Inv-loop nodes circuit witness columns₀ challenges layout k pairs roots beta to rows given row₀ place₀ columns row place =
-    (row ≡ rowAt k place)
-    × Turned (2 ^ k) (placeOf k)
-    (λ b. val (compressedIn 𝔾 (lentEnvironment circuit witness columns₀ challenges layout k) (elem beta) (rootsOf nodes pairs roots) b)) columns₀ to columns place
+Inv-loop nodes circuit witness columns₀ challenges pairs poly rows given row₀ place₀ columns row place =
+    (row ≡ rowAt (poly .k) place)
+    × Turned (2 ^ poly .k) (placeOf (poly .k))
+    (λ b. val (compressedIn 𝔾 (environmentFromWords circuit witness columns₀ challenges (poly .layout) (poly .k)) (elem (poly .beta)) (rootsOf nodes pairs (poly .roots)) b)) columns₀ (poly .to) columns place
 
 abbrev μ-loop : tie.MeasureT-loop
-μ-loop nodes circuit witness columns₀ challenges layout k pairs roots beta to rows given row₀ place₀ columns row place = rows - place
+μ-loop nodes circuit witness columns₀ challenges pairs poly rows given row₀ place₀ columns row place = rows - place
 
 rows-of-requires : tie.Need-rows-of-requires Inv-loop μ-loop
 rows-of-requires c κs = omega (arith, c .before .before .before .before .before .before .pre .0 .small)
@@ -36,8 +36,8 @@ loop-holds : tie.Need-loop-holds Inv-loop μ-loop
 loop-holds c =
     let a = c .before .before .before .before .before .before .before .before .args in
     let pre = c .before .before .before .before .before .before .before .before .pre in (
-      sym (row-nought (a .k)),
-      turn-start _ _ _ _ (row-turns (a .k) (pre .0 .positive) (pre .0 .small)) _ _ (pre .0 .room),
+      sym (row-nought (a .poly .k)),
+      turn-start _ _ _ _ (row-turns (a .poly .k) (pre .0 .positive) (pre .0 .small)) _ _ (pre .0 .room),
     )
 
 sub-compressed-at : tie.Need-sub-compressed-at Inv-loop μ-loop
@@ -62,8 +62,8 @@ compressed-at-requires c κs =
         record {
           positive = pre .0 .positive;
           small = pre .0 .small;
-          inside = row-in (a .k) (l .row) (l .place) (pre .0 .positive) (pre .0 .small) (l .inv .0);
-          placed = placed-at (a .k) (l .row) (l .place) (pre .0 .positive) (pre .0 .small) (omega (arith, c .before .before .loop-test .taken, c .before .before .before .before .before .rows-of .ensures)) (l .inv .0);
+          inside = row-in (a .poly .k) (l .row) (l .place) (pre .0 .positive) (pre .0 .small) (l .inv .0);
+          placed = placed-at (a .poly .k) (l .row) (l .place) (pre .0 .positive) (pre .0 .small) (omega (arith, c .before .before .loop-test .taken, c .before .before .before .before .before .rows-of .ensures)) (l .inv .0);
         },
       ),
       pre .1,
@@ -75,45 +75,45 @@ to-u64-requires c κs = search needs
 
 add-columns : tie.Need-add-columns Inv-loop μ-loop
 add-columns c =
-    let pre = c .before .before .before .before .before .before .before .before .before .before .before .before .before .before .pre in
-    let l = c .before .before .before .before .before .loop in
-    omega (arith, pre .0 .room, c .before .before .before .before .before .before .before .before .before .before .before .before .before .before .good, l .inv .1 .size, row-in (c .before .before .before .before .before .before .before .before .before .before .before .before .before .before .args .k) (l .row) (l .place) (pre .0 .positive) (pre .0 .small) (l .inv .0))
+    let pre = c .before .before .before .before .before .before .before .before .before .before .before .before .before .before .before .pre in
+    let l = c .before .before .before .before .before .before .loop in
+    omega (arith, pre .0 .room, c .before .before .before .before .before .before .before .before .before .before .before .before .before .before .before .good, l .inv .1 .size, row-in (c .before .before .before .before .before .before .before .before .before .before .before .before .before .before .before .args .poly .k) (l .row) (l .place) (pre .0 .positive) (pre .0 .small) (l .inv .0))
 
 mul-columns : tie.Need-mul-columns Inv-loop μ-loop
 mul-columns c =
-    let pre = c .before .before .before .before .before .before .before .before .before .before .before .before .before .before .pre in
-    let l = c .before .before .before .before .before .loop in
-    omega (arith, pre .0 .room, c .before .before .before .before .before .before .before .before .before .before .before .before .before .before .good, l .inv .1 .size, row-in (c .before .before .before .before .before .before .before .before .before .before .before .before .before .before .args .k) (l .row) (l .place) (pre .0 .positive) (pre .0 .small) (l .inv .0))
+    let pre = c .before .before .before .before .before .before .before .before .before .before .before .before .before .before .before .pre in
+    let l = c .before .before .before .before .before .before .loop in
+    omega (arith, pre .0 .room, c .before .before .before .before .before .before .before .before .before .before .before .before .before .before .before .good, l .inv .1 .size, row-in (c .before .before .before .before .before .before .before .before .before .before .before .before .before .before .before .args .poly .k) (l .row) (l .place) (pre .0 .positive) (pre .0 .small) (l .inv .0))
 
 slice-write-columns : tie.Need-slice-write-columns Inv-loop μ-loop
 slice-write-columns c =
-    let pre = c .before .before .before .before .before .before .before .before .before .before .before .before .before .before .pre in
-    let l = c .before .before .before .before .before .loop in
-    omega (arith, pre .0 .room, c .before .before .before .before .before .before .before .before .before .before .before .before .before .before .good, l .inv .1 .size, row-in (c .before .before .before .before .before .before .before .before .before .before .before .before .before .before .args .k) (l .row) (l .place) (pre .0 .positive) (pre .0 .small) (l .inv .0))
+    let pre = c .before .before .before .before .before .before .before .before .before .before .before .before .before .before .before .pre in
+    let l = c .before .before .before .before .before .before .loop in
+    omega (arith, pre .0 .room, c .before .before .before .before .before .before .before .before .before .before .before .before .before .before .before .good, l .inv .1 .size, row-in (c .before .before .before .before .before .before .before .before .before .before .before .before .before .before .before .args .poly .k) (l .row) (l .place) (pre .0 .positive) (pre .0 .small) (l .inv .0))
 
 row-after-requires : tie.Need-row-after-requires Inv-loop μ-loop
 row-after-requires c κs =
-    let pre = c .before .before .before .before .before .before .before .before .before .before .before .before .before .before .pre in
-    (pre .0 .positive, pre .0 .small, c .before .before .before .before .before .loop .inv .0)
+    let pre = c .before .before .before .before .before .before .before .before .before .before .before .before .before .before .before .pre in
+    (pre .0 .positive, pre .0 .small, c .before .before .before .before .before .before .loop .inv .0)
 
 add-place : tie.Need-add-place Inv-loop μ-loop
-add-place c = omega (arith, c .before .before .before .before .before .loop-test .taken)
+add-place c = omega (arith, c .before .before .before .before .before .before .loop-test .taken)
 
 loop-less : tie.Need-loop-less Inv-loop μ-loop
-loop-less c = omega (arith, c .before .before .before .before .before .loop-test .taken)
+loop-less c = omega (arith, c .before .before .before .before .before .before .loop-test .taken)
 
 loop-again : tie.Need-loop-again Inv-loop μ-loop
 loop-again c =
-    let a = c .before .before .before .before .before .before .before .before .before .before .before .before .before .before .before .args in
-    let pre = c .before .before .before .before .before .before .before .before .before .before .before .before .before .before .before .pre in
-    let l = c .before .before .before .before .before .before .loop in
-    let rows = c .before .before .before .before .before .before .before .before .rows-of in (
+    let a = c .before .before .before .before .before .before .before .before .before .before .before .before .before .before .before .before .args in
+    let pre = c .before .before .before .before .before .before .before .before .before .before .before .before .before .before .before .before .pre in
+    let l = c .before .before .before .before .before .before .before .loop in
+    let rows = c .before .before .before .before .before .before .before .before .before .rows-of in (
       c .row-after .ensures .0,
-      turn-more _ _ _ _ (row-turns (a .k) (pre .0 .positive) (pre .0 .small)) _ _ (pre .0 .room) _ _ (l .inv .1) (omega (arith, c .before .before .before .before .before .loop-test .taken, rows .ensures)) _ (ap (λ (x : ℕ). a .to + x) (l .inv .0)) _
-          (compressed-here (a .k) (pre .0 .small) (a .layout) (pre .0 .given) (a .circuit .now) (a .witness .now) (a .challenges .now) (elem (a .beta)) _ (a .columns .now)
-          (λ j h. read-word (l .columns) (a .columns .now) (a .layout .instances) _ (a .k) (a .to) j (rows .ensures) (pre .0 .before) (turn-before _ _ _ _ (row-turns (a .k) (pre .0 .positive) (pre .0 .small)) _ _ (pre .0 .room) _ _ (l .inv .1)) h)
-          (rootsOf (a .nodes .now) (a .pairs .now) (a .roots)) (l .row) (l .place) _ (row-in (a .k) (l .row) (l .place) (pre .0 .positive) (pre .0 .small) (l .inv .0)) (c .before .to-u64 .ensures ∙ ap val (c .before .before .compressed-at .ensures))
-          ∙ ap (λ (x : ℕ). val (compressedIn 𝔾 (lentEnvironment (a .circuit .now) (a .witness .now) (a .columns .now) (a .challenges .now) (a .layout) (a .k)) (elem (a .beta)) (rootsOf (a .nodes .now) (a .pairs .now) (a .roots)) x)) (l .inv .0)),
+      turn-more _ _ _ _ (row-turns (a .poly .k) (pre .0 .positive) (pre .0 .small)) _ _ (pre .0 .room) _ _ (l .inv .1) (omega (arith, c .before .before .before .before .before .before .loop-test .taken, rows .ensures)) _ (ap (λ (x : ℕ). a .poly .to + x) (l .inv .0)) _
+          (compressed-here (a .poly .k) (pre .0 .small) (a .poly .layout) (pre .0 .given) (a .circuit .now) (a .witness .now) (a .challenges .now) (elem (a .poly .beta)) _ (a .columns .now)
+          (λ j h. read-word (l .columns) (a .columns .now) (a .poly .layout .instances) _ (a .poly .k) (a .poly .to) j (rows .ensures) (pre .0 .before) (turn-before _ _ _ _ (row-turns (a .poly .k) (pre .0 .positive) (pre .0 .small)) _ _ (pre .0 .room) _ _ (l .inv .1)) h)
+          (rootsOf (a .nodes .now) (a .pairs .now) (a .poly .roots)) (l .row) (l .place) _ (row-in (a .poly .k) (l .row) (l .place) (pre .0 .positive) (pre .0 .small) (l .inv .0)) (c .before .before .to-u64 .ensures ∙ ap val (c .before .before .before .compressed-at .ensures))
+          ∙ ap (λ (x : ℕ). val (compressedIn 𝔾 (environmentFromWords (a .circuit .now) (a .witness .now) (a .columns .now) (a .challenges .now) (a .poly .layout) (a .poly .k)) (elem (a .poly .beta)) (rootsOf (a .nodes .now) (a .pairs .now) (a .poly .roots)) x)) (l .inv .0)),
     )
 
 same-length : tie.Need-same-length Inv-loop μ-loop
@@ -122,7 +122,7 @@ same-length c = c .before .loop .inv .1 .size
 returns : tie.Need-returns Inv-loop μ-loop
 returns c =
     let pre = c .before .before .before .before .before .before .before .before .before .before .pre in
-    turn-end _ _ _ _ (row-turns (c .before .before .before .before .before .before .before .before .before .before .args .k) (pre .0 .positive) (pre .0 .small)) _ _ (pre .0 .room) _ _ (c .before .loop .inv .1) (omega (arith, c .loop-test .left, c .before .before .before .rows-of .ensures))
+    turn-end _ _ _ _ (row-turns (c .before .before .before .before .before .before .before .before .before .before .args .poly .k) (pre .0 .positive) (pre .0 .small)) _ _ (pre .0 .room) _ _ (c .before .loop .inv .1) (omega (arith, c .loop-test .left, c .before .before .before .rows-of .ensures))
 
 pub lookup-compressed-poly-spec : {M : Type 1} → statement M
 lookup-compressed-poly-spec =

@@ -13,7 +13,7 @@ use Rattle.backend_nodes.proofs.layout.in_range.Statement.{statement}
 use Rattle.backend_nodes.proofs.layout.in_range.Tie as tie
 use Rattle.backend_nodes.proofs.layout.in_range.Reads as reads
 use Rattle.backend_nodes.proofs.layout.in_range.Lts as lts
-use Rattle.backend_nodes.proofs.layout.near.Reads as near-reads
+use Rattle.backend_nodes.proofs.layout.rotation_in_range.Reads as rotation-in-range-reads
 
 -- src/layout.rt:217:14
 mul-at : tie.Need-mul-at
@@ -40,20 +40,20 @@ shared-slice-read-result : tie.Need-shared-slice-read-result
 shared-slice-read-result c = search needs
 
 -- src/layout.rt:220:51
-add-near : tie.Need-add-near
-add-near c = search needs
+add-rotation-in-range : tie.Need-add-rotation-in-range
+add-rotation-in-range c = search needs
 
 -- src/layout.rt:220:45
-mul-near : tie.Need-mul-near
-mul-near c = search needs
+mul-rotation-in-range : tie.Need-mul-rotation-in-range
+mul-rotation-in-range c = search needs
 
 -- src/layout.rt:220:45
-shared-slice-read-near : tie.Need-shared-slice-read-near
-shared-slice-read-near c = search needs
+shared-slice-read-rotation-in-range : tie.Need-shared-slice-read-rotation-in-range
+shared-slice-read-rotation-in-range c = search needs
 
 -- src/layout.rt:220:40
-near-requires : tie.Need-near-requires
-near-requires c κs = search needs
+rotation-in-range-requires : tie.Need-rotation-in-range-requires
+rotation-in-range-requires c κs = search needs
 
 -- src/layout.rt:221:20
 add-result-2 : tie.Need-add-result-2
@@ -79,7 +79,7 @@ returns-2 : tie.Need-returns-2
 unfolding kindOf
 returns-2 c =
     let a = c .before .before .before .before .before .before .args in
-    ap (λ (t : Bool). ltb (getD (a .nodes .now) (a .n * 4 + 1) 0) (a .polys) && t) (c .near .ensures)
+    ap (λ (t : Bool). ltb (getD (a .nodes .now) (a .n * 4 + 1) 0) (a .polys) && t) (c .rotation-in-range .ensures)
     ∙ by-kind (a .nodes .now) (a .n) (inRange (a .polys) (a .user) (a .k)) 5 (c .before .before .before .match .keys2)
 
 -- src/layout.rt:213:1
@@ -107,10 +107,10 @@ in-range-spec =
     add-result
     mul-result
     shared-slice-read-result
-    add-near
-    mul-near
-    shared-slice-read-near
-    near-requires
+    add-rotation-in-range
+    mul-rotation-in-range
+    shared-slice-read-rotation-in-range
+    rotation-in-range-requires
     add-result-2
     mul-result-2
     shared-slice-read-result-2

@@ -2,8 +2,8 @@ use mathlib.Core.Path.{refl}
 use native.Mathlib.Nat.{mod-mod, mod-lt}
 use native.Mathlib.Omega.{arith}
 use borrow.Author.Needs.{needs}
-use Rattle.expression_nodes.proofs.shorter.Statement.{statement}
-use Rattle.expression_nodes.proofs.shorter.Tie as tie
+use Rattle.expression_nodes.proofs.mod_period.Statement.{statement}
+use Rattle.expression_nodes.proofs.mod_period.Tie as tie
 
 returns : tie.Need-returns
 returns c = (refl, omega arith, λ h. refl)
@@ -17,5 +17,5 @@ returns-2 c =
     let m = mod-lt (a .args .d) (a .pre .0) in
     (mod-mod (a .args .d) (a .args .n), omega arith, λ h. omega arith)
 
-pub shorter-spec : {M : Type 1} → statement M
-shorter-spec = tie.close (tie.spec returns rem-result returns-2)
+pub mod-period-spec : {M : Type 1} → statement M
+mod-period-spec = tie.close (tie.spec returns rem-result returns-2)

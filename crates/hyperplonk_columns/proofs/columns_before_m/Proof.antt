@@ -1,9 +1,9 @@
--- `uncounted_columns` meets its contract. Assumes nothing.
+-- `columns_before_m` meets its contract. Assumes nothing.
 use mathlib.Core.Path.{_∙_}
 use lib.ListN.{length}
-use Rattle.hyperplonk_columns.proofs.Accepted.{instance-asked, permutation-asked, compressed-asked, uncounted-end}
-use Rattle.hyperplonk_columns.proofs.uncounted_columns.Statement.{statement}
-use Rattle.hyperplonk_columns.proofs.uncounted_columns.Tie as tie
+use Rattle.hyperplonk_columns.proofs.Accepted.{instance-asked, permutation-asked, compressed-asked, before-m-end}
+use Rattle.hyperplonk_columns.proofs.columns_before_m.Statement.{statement}
+use Rattle.hyperplonk_columns.proofs.columns_before_m.Tie as tie
 
 instance-columns-requires : tie.Need-instance-columns-requires
 instance-columns-requires c κs =
@@ -44,7 +44,7 @@ same-length c =
 returns : tie.Need-returns
 returns c =
     let s = c .before .before .before .before .before .before .before .before .before .before .before .before .before .before .before .before .before .before in
-    uncounted-end (s .args .circuit .now) (s .args .instance .now) (s .args .witness .now) (s .args .challenges .now) (s .pre .0)
+    before-m-end (s .args .circuit .now) (s .args .instance .now) (s .args .witness .now) (s .args .challenges .now) (s .pre .0)
     (s .args .columns .now)
     _
     _
@@ -54,8 +54,8 @@ returns c =
     (c .before .before .before .before .before .before .permutation-columns .ensures)
     (c .before .before .compressed-columns .ensures)
 
-pub uncounted-columns-spec : {M : Type 1} → statement M
-uncounted-columns-spec =
+pub columns-before-m-spec : {M : Type 1} → statement M
+columns-before-m-spec =
     tie.close
     (tie.spec
     instance-columns-requires

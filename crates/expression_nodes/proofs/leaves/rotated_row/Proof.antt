@@ -6,8 +6,8 @@ use Rattle.bh.specs.Rows.{rotated, iter}
 use Rattle.expression.specs.Nodes.{signed}
 use Rattle.expression.specs.Point.{pointOf}
 use borrow.Author.Needs.{needs}
-use Rattle.expression_nodes.proofs.leaves.turned.Statement.{statement}
-use Rattle.expression_nodes.proofs.leaves.turned.Tie as tie
+use Rattle.expression_nodes.proofs.leaves.rotated_row.Statement.{statement}
+use Rattle.expression_nodes.proofs.leaves.rotated_row.Tie as tie
 
 -- the word of rotation 0 leads nowhere else
 stays : (k b : ℕ) → b ≡ rotated k b (signed 2147483648)
@@ -45,7 +45,7 @@ returns-2 c =
       small (p .k) _ (a .pre .point .small) (c .rotate .ensures .1),
     )
 
-pub turned-spec : {M : Type 1} → statement M
-turned-spec =
+pub rotated-row-spec : {M : Type 1} → statement M
+rotated-row-spec =
     tie.close
     (tie.spec element-copy-out-k element-copy-out-row returns rotation-of-requires rotate-requires returns-2)

@@ -1,11 +1,11 @@
--- `last_columns` meets its contract. Assumes nothing.
+-- `columns_after_m` meets its contract. Assumes nothing.
 use borrow.Author.Needs.{needs}
 use mathlib.Core.Path.{_∙_, refl}
 use native.Mathlib.Omega.{arith}
 use lib.ListN.{length}
 use Rattle.hyperplonk_columns.proofs.Accepted.{user-few, user-is, hs-asked, hs-written, z-asked, last-end}
-use Rattle.hyperplonk_columns.proofs.last_columns.Statement.{statement}
-use Rattle.hyperplonk_columns.proofs.last_columns.Tie as tie
+use Rattle.hyperplonk_columns.proofs.columns_after_m.Statement.{statement}
+use Rattle.hyperplonk_columns.proofs.columns_after_m.Tie as tie
 
 places-of-requires : tie.Need-places-of-requires
 places-of-requires c κs = search needs
@@ -64,8 +64,8 @@ returns c instances front =
     (c .before .before .before .before .before .before .lookup-h-polys .ensures))
     (c .before .before .z-columns .ensures)
 
-pub last-columns-spec : {M : Type 1} → statement M
-last-columns-spec =
+pub columns-after-m-spec : {M : Type 1} → statement M
+columns-after-m-spec =
     tie.close
     (tie.spec
     places-of-requires

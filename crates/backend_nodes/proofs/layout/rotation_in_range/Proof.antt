@@ -5,10 +5,10 @@ use Prim.Native.Nat.{ℕ, _+_, _*_, _-_, _/_, _≤_, _<_}
 use native.Mathlib.Omega.{arith}
 use lib.ListN.{length, getD, take}
 use Rattle.backend_nodes.proofs.layout.Nodes.{near-low, near-high}
-use Rattle.backend_nodes.proofs.layout.near.Statement.{statement}
-use Rattle.backend_nodes.proofs.layout.near.Tie as tie
-use Rattle.backend_nodes.proofs.layout.near.Reads as reads
-use Rattle.backend_nodes.proofs.layout.near.Lts as lts
+use Rattle.backend_nodes.proofs.layout.rotation_in_range.Statement.{statement}
+use Rattle.backend_nodes.proofs.layout.rotation_in_range.Tie as tie
+use Rattle.backend_nodes.proofs.layout.rotation_in_range.Reads as reads
+use Rattle.backend_nodes.proofs.layout.rotation_in_range.Lts as lts
 
 -- src/layout.rt:206:9
 sub-result : tie.Need-sub-result
@@ -22,5 +22,5 @@ returns c = near-low (c .before .args .kept) (c .before .args .k) (c .if1 .taken
 returns-2 : tie.Need-returns-2
 returns-2 c = near-high (c .before .args .kept) (c .before .args .k) (c .if1 .left)
 
-pub near-spec : {M : Type 1} → statement M
-near-spec = tie.close (tie.spec sub-result returns returns-2)
+pub rotation-in-range-spec : {M : Type 1} → statement M
+rotation-in-range-spec = tie.close (tie.spec sub-result returns returns-2)

@@ -1,7 +1,7 @@
 use Rattle.expression.proofs.Signed.{back-fits, back-is}
 use borrow.Author.Needs.{needs}
-use Rattle.expression_nodes.proofs.back.Statement.{statement}
-use Rattle.expression_nodes.proofs.back.Tie as tie
+use Rattle.expression_nodes.proofs.backward.Statement.{statement}
+use Rattle.expression_nodes.proofs.backward.Tie as tie
 
 cast-t2 : tie.Need-cast-t2
 cast-t2 c = search needs
@@ -12,5 +12,5 @@ sub-t3 c = back-fits (c .args .d) (c .pre)
 returns : tie.Need-returns
 returns c = back-is (c .args .d) (c .pre)
 
-pub back-spec : {M : Type 1} → statement M
-back-spec = tie.close (tie.spec cast-t2 sub-t3 returns)
+pub backward-spec : {M : Type 1} → statement M
+backward-spec = tie.close (tie.spec cast-t2 sub-t3 returns)
