@@ -2,6 +2,7 @@
 use crate::index;
 use crate::rotation_of;
 use bh::rotations::rotate;
+use expression::node::SIGNED_OFFSET;
 use expression::poly::Layout;
 use expression::value::Point;
 use field::goldilocks::Goldilocks;
@@ -82,7 +83,7 @@ pub fn turned(c: &[usize; 12], rotation: u64) -> usize
 {
     let k = c[0];
     let row = c[1];
-    if rotation == 2147483648 {
+    if rotation == SIGNED_OFFSET {
         return row;
     }
     rotate(row, rotation_of(rotation, k), k)
