@@ -1,4 +1,6 @@
 // Questions 7 and 8: are the nodes as laid out, and the numbers that they name in range?
+use expression::kind;
+use expression::node::SIGNED_OFFSET;
 ghost use mathlib.Core.Path.{_≡_};
 ghost use mathlib.Core.Bool.{_&&_};
 ghost use mathlib.Core.List.{[], _∷_, _++_, map};
@@ -16,18 +18,18 @@ fn shaped(kind: u64, first: u64, second: u64, value: u64) -> bool
     ensures { λ r. ⌜ r ≡ def.shaped (kindOf kind) first second value ⌝ }
 {
     match kind {
-        1 => (first == 0) & (second == 0),
-        2 => (first == 0) & (second == 0) & (value == 0),
-        3 => (first == 0) & (second == 0) & (value < 4294967296),
-        4 => (first == 0) & (second == 0),
-        5 => (second == 0) & (value < 4294967296),
-        6 => (second == 0) & (value == 0),
-        7 => (second == 0) & (value == 0),
-        8 => value == 0,
-        9 => value == 0,
-        10 => second == 0,
-        11 => value == 0,
-        12 => (value == 1) | (value == 0) & (second == 0),
+        kind::CONSTANT => (first == 0) & (second == 0),
+        kind::IDENTITY => (first == 0) & (second == 0) & (value == 0),
+        kind::LAGRANGE => (first == 0) & (second == 0) & (value < 4294967296),
+        kind::EQ_XY => (first == 0) & (second == 0),
+        kind::POLYNOMIAL => (second == 0) & (value < 4294967296),
+        kind::CHALLENGE => (second == 0) & (value == 0),
+        kind::NEGATED => (second == 0) & (value == 0),
+        kind::SUM => value == 0,
+        kind::PRODUCT => value == 0,
+        kind::SCALED => second == 0,
+        kind::DISTRIBUTE_POWERS => value == 0,
+        kind::ITEM => (value == 1) | (value == 0) & (second == 0),
         _ => false,
     }
 }
@@ -65,7 +67,7 @@ fn first_item(nodes: &[u64], limit: usize, node: u64) -> bool
 {
     if node < limit as u64 {
         let at = node as usize * 4;
-        (nodes[at] == 12) & (nodes[at + 3] == 1)
+        (nodes[at] == kind::ITEM) & (nodes[at + 3] == 1)
     } else {
         false
     }
@@ -85,12 +87,12 @@ fn in_place(nodes: &[u64], n: usize) -> bool
         return false;
     }
     match kind {
-        7 => plain(nodes, n, first),
-        8 => plain(nodes, n, first) & plain(nodes, n, second),
-        9 => plain(nodes, n, first) & plain(nodes, n, second),
-        10 => plain(nodes, n, first),
-        11 => plain(nodes, n, first) & first_item(nodes, n, second),
-        12 => plain(nodes, n, first) & ((value == 0) | item(nodes, n, second)),
+        kind::NEGATED => plain(nodes, n, first),
+        kind::SUM => plain(nodes, n, first) & plain(nodes, n, second),
+        kind::PRODUCT => plain(nodes, n, first) & plain(nodes, n, second),
+        kind::SCALED => plain(nodes, n, first),
+        kind::DISTRIBUTE_POWERS => plain(nodes, n, first) & first_item(nodes, n, second),
+        kind::ITEM => plain(nodes, n, first) & ((value == 0) | item(nodes, n, second)),
         _ => true,
     }
 }
@@ -142,25 +144,25 @@ fn count_named(counts: &mut [u64; 1024], kind: u64, first: u64, second: u64, val
     ensures { λ r. ⌜ Tally (now (counts .entry)) (def.named (kindOf kind) first second value) (now (counts .exit)) ⌝ }
 {
     match kind {
-        7 => {
+        kind::NEGATED => {
             count_name(counts, first);
         }
-        8 => {
-            count_name(counts, first);
-            count_name(counts, second);
-        }
-        9 => {
+        kind::SUM => {
             count_name(counts, first);
             count_name(counts, second);
         }
-        10 => {
-            count_name(counts, first);
-        }
-        11 => {
+        kind::PRODUCT => {
             count_name(counts, first);
             count_name(counts, second);
         }
-        12 => {
+        kind::SCALED => {
+            count_name(counts, first);
+        }
+        kind::DISTRIBUTE_POWERS => {
+            count_name(counts, first);
+            count_name(counts, second);
+        }
+        kind::ITEM => {
             count_name(counts, first);
             if value != 0 {
                 count_name(counts, second);
@@ -243,10 +245,10 @@ pub fn laid_out(nodes: &[u64], constraints: &[u64], pairs: &[u64]) -> bool
 fn rotation_in_range(kept: u64, k: u64) -> bool
     ensures { λ r. ⌜ r ≡ leb (natAbs (signed kept)) k ⌝ }
 {
-    if kept < 2147483648 {
-        2147483648 - kept <= k
+    if kept < SIGNED_OFFSET {
+        SIGNED_OFFSET - kept <= k
     } else {
-        kept - 2147483648 <= k
+        kept - SIGNED_OFFSET <= k
     }
 }
 
@@ -257,9 +259,9 @@ fn in_range(nodes: &[u64], n: usize, polys: u64, user: u64, k: u64) -> bool
 {
     let at = n * 4;
     match nodes[at] {
-        4 => false,
-        5 => (nodes[at + 1] < polys) & rotation_in_range(nodes[at + 3], k),
-        6 => nodes[at + 1] < user,
+        kind::EQ_XY => false,
+        kind::POLYNOMIAL => (nodes[at + 1] < polys) & rotation_in_range(nodes[at + 3], k),
+        kind::CHALLENGE => nodes[at + 1] < user,
         _ => true,
     }
 }

@@ -1,6 +1,8 @@
 // 3 and then 4 put to the bodies.
 use backend_sections::bodies::user_to;
 use backend_sections::bodies::witness_to;
+use backend_sections::contents::CELL_COUNT;
+use backend_sections::contents::PAIR_COUNT;
 use backend_sections::reader::lengths_of;
 use backend_sections::reader::widths_of;
 use backend_sections::words::all_below;
@@ -56,8 +58,8 @@ pub fn question_4_bodies(circuit: &[u64]) -> bool
     requires { ⌜ Laid (now circuit) ⌝ }
     ensures { λ r. ⌜ r ≡ q4-bodies (now (circuit .entry)) ⌝ }
 {
-    let pairs = circuit[15];
-    let cells = circuit[19];
+    let pairs = circuit[PAIR_COUNT];
+    let cells = circuit[CELL_COUNT];
     let widths = widths_to(circuit, pairs + 1);
     let lengths = lengths_to(circuit, cells + 1);
     (pairs == widths) & (cells == lengths)

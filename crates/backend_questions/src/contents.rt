@@ -1,9 +1,21 @@
 // Questions 1 to 4, put to the contents.
+use backend_sections::contents::CELL_COUNT;
 use backend_sections::contents::CELLS;
+use backend_sections::contents::CONSTRAINT_COUNT;
+use backend_sections::contents::FIRST_COUNT;
+use backend_sections::contents::FIRST_START;
+use backend_sections::contents::INSTANCE_COUNT;
+use backend_sections::contents::K_WORD;
+use backend_sections::contents::LENGTH_COUNT;
+use backend_sections::contents::NODE_COUNT;
 use backend_sections::contents::NODES;
 use backend_sections::contents::PAIRS;
 use backend_sections::contents::PREPROCESS;
+use backend_sections::contents::PREPROCESS_COUNT;
+use backend_sections::contents::ROUND_COUNT;
 use backend_sections::contents::ROUNDS;
+use backend_sections::contents::STATED_WORD;
+use backend_sections::contents::WIDTH_COUNT;
 use lists::word_at;
 ghost use mathlib.Core.Path.{_≡_};
 ghost use Prim.Native.Nat.{_+_, _*_, _%_, _^_, _<_, min};
@@ -23,7 +35,7 @@ pub fn question_1(circuit: &[u64]) -> bool
 pub fn question_2(circuit: &[u64]) -> bool
     ensures { λ r. ⌜ r ≡ q2 (now (circuit .entry)) ⌝ }
 {
-    let k = word_at(circuit, 0);
+    let k = word_at(circuit, K_WORD);
     (1 <= k) & (k <= LARGEST_K)
 }
 
@@ -31,15 +43,15 @@ pub fn question_2(circuit: &[u64]) -> bool
 pub fn question_3(circuit: &[u64]) -> bool
     ensures { λ r. ⌜ r ≡ q3 (now (circuit .entry)) ⌝ }
 {
-    let stated = word_at(circuit, 1);
-    let instances = word_at(circuit, 3);
-    let preprocess = word_at(circuit, 5);
-    let rounds = word_at(circuit, 7);
-    let nodes = word_at(circuit, 9);
-    let constraints = word_at(circuit, 11);
-    let widths = word_at(circuit, 13);
-    let lengths = word_at(circuit, 17);
-    let cells = word_at(circuit, 19);
+    let stated = word_at(circuit, STATED_WORD);
+    let instances = word_at(circuit, INSTANCE_COUNT);
+    let preprocess = word_at(circuit, PREPROCESS_COUNT);
+    let rounds = word_at(circuit, ROUND_COUNT);
+    let nodes = word_at(circuit, NODE_COUNT);
+    let constraints = word_at(circuit, CONSTRAINT_COUNT);
+    let widths = word_at(circuit, WIDTH_COUNT);
+    let lengths = word_at(circuit, LENGTH_COUNT);
+    let cells = word_at(circuit, CELL_COUNT);
     let columns = (instances <= 8) & (preprocess <= 32) & (1 <= rounds) & (rounds <= 4);
     let expressions = (nodes <= 1024) & (constraints <= 32) & (widths <= 8);
     let copies = (lengths <= 1024) & (cells <= 4096);
@@ -93,7 +105,7 @@ fn words_in(k: u64, s: usize, count: u64, room: u64) -> u64
 pub fn question_4(circuit: &[u64]) -> bool
     ensures { λ r. ⌜ r ≡ q4 (now (circuit .entry)) ⌝ }
 {
-    let k = word_at(circuit, 0);
+    let k = word_at(circuit, K_WORD);
     let len = circuit.len() as u64;
     let mut at: u64 = 20;
     if len < at {
@@ -101,8 +113,8 @@ pub fn question_4(circuit: &[u64]) -> bool
     }
     let mut s: usize = 0;
     while s < 9 {
-        let start = word_at(circuit, 2 + s * 2);
-        let count = word_at(circuit, 3 + s * 2);
+        let start = word_at(circuit, FIRST_START + s * 2);
+        let count = word_at(circuit, FIRST_COUNT + s * 2);
         let words = words_in(k, s, count, len - at);
         if start != at {
             return false;

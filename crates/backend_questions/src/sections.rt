@@ -1,5 +1,8 @@
 // Questions 5, 6 and 9.
 use backend_sections::bodies::rows;
+use backend_sections::contents::CONSTRAINT_COUNT;
+use backend_sections::contents::LENGTH_COUNT;
+use backend_sections::contents::WIDTH_COUNT;
 use backend_sections::reader::instances_of;
 use backend_sections::reader::nodes_of;
 use backend_sections::reader::preprocess_of;
@@ -9,6 +12,7 @@ use backend_sections::words::all_below;
 use backend_sections::words::all_elements;
 use backend_sections::words::all_positive;
 use backend_sections::words::is_element;
+use expression::kind;
 ghost use mathlib.Core.Path.{_≡_};
 ghost use Rattle.backend.specs.Circuit.{circuitOf};
 ghost use Rattle.backend.specs.Questions.{roundsGood, valuesSmall, q5, q6, q9};
@@ -46,7 +50,7 @@ fn values_small(nodes: &[u64]) -> bool
     while i < n {
         let kind = nodes[i * 4];
         let value = nodes[i * 4 + 3];
-        let held = (kind == 1) | (kind == 10);
+        let held = (kind == kind::CONSTANT) | (kind == kind::SCALED);
         let bad = held & !is_element(value);
         if bad {
             return false;
@@ -73,8 +77,8 @@ pub fn question_9(circuit: &[u64]) -> bool
 {
     let widths = widths_of(circuit);
     let wide = all_positive(widths, 1, 0, widths.len());
-    let constraints = circuit[11];
-    let lookups = circuit[13];
-    let cycles = circuit[17];
+    let constraints = circuit[CONSTRAINT_COUNT];
+    let lookups = circuit[WIDTH_COUNT];
+    let cycles = circuit[LENGTH_COUNT];
     wide & ((0 < constraints) | (0 < lookups) | (0 < cycles))
 }

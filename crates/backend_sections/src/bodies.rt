@@ -1,4 +1,6 @@
 // The numbers of a circuit, from its bodies.
+use crate::contents::INSTANCE_COUNT;
+use crate::contents::PREPROCESS_COUNT;
 use crate::reader::k_of;
 use crate::reader::rounds_of;
 use crate::words::total_to;
@@ -57,5 +59,5 @@ pub fn num_poly(circuit: &[u64]) -> u64
     ensures { λ r. ⌜ r ≡ numPoly (circuitOf (now (circuit .entry))) ⌝ }
 {
     let witness = num_witness(circuit);
-    circuit[3] + circuit[5] + witness
+    circuit[INSTANCE_COUNT] + circuit[PREPROCESS_COUNT] + witness
 }

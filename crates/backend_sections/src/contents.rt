@@ -1,10 +1,41 @@
-// "Circuit words, a table of contents first": the places of the sections, and a section.
+// "Circuit words, a table of contents first": its words, the places of the sections, and a section.
 use backend::Part;
 ghost use mathlib.Core.Path.{_≡_};
 ghost use Prim.Native.Nat.{_<_, _≤_};
 ghost use lib.ListN.{length};
 ghost use Rattle.backend.specs.Circuit.{sectionAt};
 ghost use Rattle.backend.specs.Laid.{Laid, partOf};
+
+// The words of the contents: k, the stated maximum degree + 1, then the start and the count of each section, two words on for the next.
+pub const K_WORD: usize = 0;
+
+pub const STATED_WORD: usize = 1;
+
+pub const FIRST_START: usize = 2;
+
+pub const FIRST_COUNT: usize = 3;
+
+pub const NEXT_START: usize = 4;
+
+pub const INSTANCE_COUNT: usize = 3;
+
+pub const PREPROCESS_START: usize = 4;
+
+pub const PREPROCESS_COUNT: usize = 5;
+
+pub const ROUND_COUNT: usize = 7;
+
+pub const NODE_COUNT: usize = 9;
+
+pub const CONSTRAINT_COUNT: usize = 11;
+
+pub const WIDTH_COUNT: usize = 13;
+
+pub const PAIR_COUNT: usize = 15;
+
+pub const LENGTH_COUNT: usize = 17;
+
+pub const CELL_COUNT: usize = 19;
 
 // The places of the sections.
 pub const INSTANCES: usize = 0;
@@ -31,8 +62,8 @@ pub fn section(circuit: &[u64], s: usize) -> Part
     ensures { λ r. ⌜ r ≡ partOf (now (circuit .entry)) (sectionAt s) ⌝ }
     ensures { λ r. ⌜ (r .start ≤ r .end) × (r .end ≤ length (now (circuit .entry))) ⌝ }
 {
-    let start = circuit[2 + s * 2] as usize;
-    let count = circuit[3 + s * 2] as usize;
+    let start = circuit[FIRST_START + s * 2] as usize;
+    let count = circuit[FIRST_COUNT + s * 2] as usize;
     if s == CELLS {
         return Part {
             start: start,
@@ -40,7 +71,7 @@ pub fn section(circuit: &[u64], s: usize) -> Part
             count: count,
         };
     }
-    let end = circuit[4 + s * 2] as usize;
+    let end = circuit[NEXT_START + s * 2] as usize;
     Part {
         start: start,
         end: end,

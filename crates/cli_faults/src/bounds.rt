@@ -4,9 +4,6 @@ use lists::word_at;
 // No place.
 pub const NONE: usize = 18446744073709551615;
 
-// p
-pub const MODULUS: u64 = 18446744069414584321;
-
 // A place some words on.
 pub fn after(at: usize, words: usize) -> usize {
     std::num::wrapping_add_usize(at, words)

@@ -1,11 +1,11 @@
 // What questions 12, 13 and 16 found: lengths that are not the exact ones, values that are not below p.
 use backend_sections::words::is_element;
-use cli_faults::bounds::MODULUS;
 use cli_faults::bounds::NONE;
 use cli_faults::bounds::bounds_of;
 use cli_faults::bounds::sum_of;
 use cli_texts::files;
 use cli_texts::say;
+use field::MODULUS;
 use lists::word_at;
 
 // The arguments of build and of check that name the files.

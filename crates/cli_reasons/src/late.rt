@@ -1,6 +1,5 @@
 // What is said of questions 5, 6 and 8 to 11.
 use cli_faults::bounds::Bounds;
-use cli_faults::bounds::MODULUS;
 use cli_faults::bounds::NONE;
 use cli_faults::bounds::after;
 use cli_faults::bounds::bounds_of;
@@ -10,6 +9,7 @@ use cli_faults::degrees::degree_of;
 use cli_faults::degrees::lookup_degree;
 use cli_faults::degrees::lookup_start;
 use cli_texts::say;
+use field::MODULUS;
 use lists::word_at;
 
 // One less than a count.

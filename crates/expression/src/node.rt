@@ -6,3 +6,6 @@ pub struct Node {
     pub second: u64,
     pub value: u64,
 }
+
+// A signed number i is kept as the word 2^31 + i.
+pub const SIGNED_OFFSET: u64 = 2147483648;

@@ -1,5 +1,6 @@
 // The degree of an expression (Rust `degree`), and how many nodes its tree takes, from its node words. Each is capped in every
 // step, so that no sum wraps.
+use expression::kind;
 use expression_nodes::index;
 use expression_nodes::read_node;
 ghost use mathlib.Core.Path.{_≡_};
@@ -9,6 +10,9 @@ ghost use Rattle.expression.specs.Expr.{evaluate, spread, rest, degree};
 ghost use Rattle.expression.specs.Nodes.{exprOf, itemsOf, under, noExpr, noExprs};
 ghost use Rattle.expression.specs.Flat.{size};
 ghost use Rattle.expression.specs.Walks.{capSum, capOps, listed};
+
+// No more nodes than these are counted: 2^60.
+pub const LARGEST_SIZE: u64 = 1152921504606846976;
 
 // The larger of two degrees.
 fn most(a: u64, b: u64) -> u64
@@ -51,23 +55,23 @@ fn node_degree(ws: &[u64], n: usize) -> u64
     let d = read_node(ws, n);
     let kind = d.kind;
     match kind {
-        2 => 1,
-        3 => 1,
-        4 => 1,
-        5 => 1,
-        7 => lower_degree(ws, n, d.first),
-        8 => {
+        kind::IDENTITY => 1,
+        kind::LAGRANGE => 1,
+        kind::EQ_XY => 1,
+        kind::POLYNOMIAL => 1,
+        kind::NEGATED => lower_degree(ws, n, d.first),
+        kind::SUM => {
             let x = lower_degree(ws, n, d.first);
             let y = lower_degree(ws, n, d.second);
             most(x, y)
         }
-        9 => {
+        kind::PRODUCT => {
             let x = lower_degree(ws, n, d.first);
             let y = lower_degree(ws, n, d.second);
             plus(x, y)
         }
-        10 => lower_degree(ws, n, d.first),
-        11 => {
+        kind::SCALED => lower_degree(ws, n, d.first),
+        kind::DISTRIBUTE_POWERS => {
             let base = lower_degree(ws, n, d.first);
             let item = index(d.second);
             if item < n {
@@ -131,14 +135,14 @@ fn items_degree(ws: &[u64], n: usize, base: u64, power: u64, acc: u64) -> u64
 fn both(a: u64, b: u64) -> u64
     ensures { λ r. ⌜ r ≡ min 1152921504606846976 (a + b) ⌝ }
 {
-    if 1152921504606846976 <= a {
-        return 1152921504606846976;
+    if LARGEST_SIZE <= a {
+        return LARGEST_SIZE;
     }
-    if 1152921504606846976 <= b {
-        return 1152921504606846976;
+    if LARGEST_SIZE <= b {
+        return LARGEST_SIZE;
     }
-    if 1152921504606846976 <= a + b {
-        return 1152921504606846976;
+    if LARGEST_SIZE <= a + b {
+        return LARGEST_SIZE;
     }
     a + b
 }
@@ -151,19 +155,19 @@ pub fn size_of(ws: &[u64], n: usize) -> u64
     let d = read_node(ws, n);
     let kind = d.kind;
     match kind {
-        7 => both(1, lower_size(ws, n, d.first)),
-        8 => {
+        kind::NEGATED => both(1, lower_size(ws, n, d.first)),
+        kind::SUM => {
             let x = lower_size(ws, n, d.first);
             let y = lower_size(ws, n, d.second);
             both(1, both(x, y))
         }
-        9 => {
+        kind::PRODUCT => {
             let x = lower_size(ws, n, d.first);
             let y = lower_size(ws, n, d.second);
             both(1, both(x, y))
         }
-        10 => both(1, lower_size(ws, n, d.first)),
-        11 => {
+        kind::SCALED => both(1, lower_size(ws, n, d.first)),
+        kind::DISTRIBUTE_POWERS => {
             let base = lower_size(ws, n, d.first);
             let items = lower_items_size(ws, n, d.second);
             both(1, both(items, base))

@@ -1,5 +1,6 @@
 // The value of an expression at a row (Rust `evaluate`), from its node words. The recursion hands words on, each standing for its
 // element; `value` gives the element.
+use expression::kind;
 use expression::node::Node;
 use expression::poly::Layout;
 use expression::value::Point;
@@ -86,28 +87,28 @@ fn node_value<'a>(s: &[&'a [u64]; 5], c: &[usize; 12], n: usize) -> u64
     let d = node_of(s, n);
     let kind = d.kind;
     match kind {
-        1 => d.value,
-        2 => word(c[ROW]),
-        3 => lagrange(d.value, c[K], c[ROW], c[PLACE]),
-        4 => word(c[EQ]),
-        5 => query_of(s, c, d.first, d.value),
-        6 => challenge_of(s, index(d.first)),
-        7 => neg(lower(s, c, n, d.first)),
-        8 => {
+        kind::CONSTANT => d.value,
+        kind::IDENTITY => word(c[ROW]),
+        kind::LAGRANGE => lagrange(d.value, c[K], c[ROW], c[PLACE]),
+        kind::EQ_XY => word(c[EQ]),
+        kind::POLYNOMIAL => query_of(s, c, d.first, d.value),
+        kind::CHALLENGE => challenge_of(s, index(d.first)),
+        kind::NEGATED => neg(lower(s, c, n, d.first)),
+        kind::SUM => {
             let x = lower(s, c, n, d.first);
             let y = lower(s, c, n, d.second);
             add(x, y)
         }
-        9 => {
+        kind::PRODUCT => {
             let x = lower(s, c, n, d.first);
             let y = lower(s, c, n, d.second);
             mul(x, y)
         }
-        10 => {
+        kind::SCALED => {
             let x = lower(s, c, n, d.first);
             mul(x, d.value)
         }
-        11 => {
+        kind::DISTRIBUTE_POWERS => {
             let base = lower(s, c, n, d.first);
             let item = index(d.second);
             if item < n {
@@ -128,10 +129,10 @@ pub fn lower<'a>(s: &[&'a [u64]; 5], c: &[usize; 12], n: usize, a: u64) -> u64
     if b < n {
         let d = node_of(s, b);
         let kind = d.kind;
-        if kind == 5 {
+        if kind == kind::POLYNOMIAL {
             return query_of(s, c, d.first, d.value);
         }
-        if kind == 6 {
+        if kind == kind::CHALLENGE {
             return challenge_of(s, index(d.first));
         }
         return node_value(s, c, b);

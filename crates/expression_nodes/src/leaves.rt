@@ -2,6 +2,7 @@
 use crate::index;
 use crate::rotation_of;
 use bh::rotations::rotate;
+use expression::node::SIGNED_OFFSET;
 use expression::poly::Layout;
 use expression::value::Point;
 use field::goldilocks::Goldilocks;
@@ -107,7 +108,7 @@ pub fn rotated_row(c: &[usize; 12], rotation: u64) -> usize
 {
     let k = c[K];
     let row = c[ROW];
-    if rotation == 2147483648 {
+    if rotation == SIGNED_OFFSET {
         return row;
     }
     rotate(row, rotation_of(rotation, k), k)

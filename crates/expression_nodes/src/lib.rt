@@ -4,6 +4,7 @@ pub mod poly;
 
 use bh::Rotation;
 use expression::node::Node;
+use expression::node::SIGNED_OFFSET;
 ghost use mathlib.Core.Path.{_≡_};
 ghost use Prim.Native.Nat.{ℕ, _+_, _*_, _^_, _≤_, _<_, _%_};
 ghost use lib.ListN.{length};
@@ -71,8 +72,8 @@ pub fn rotation_of(word: u64, k: usize) -> Rotation
     ensures number { λ r. ⌜ (natAbs (signed word) ≤ k → r .0 ≡ signed word) ⌝ }
 {
     let n: u64 = (1 << k) - 1;
-    if word < 2147483648 {
-        return backward(mod_period(2147483648 - word, n));
+    if word < SIGNED_OFFSET {
+        return backward(mod_period(SIGNED_OFFSET - word, n));
     }
-    forward(mod_period(word - 2147483648, n))
+    forward(mod_period(word - SIGNED_OFFSET, n))
 }

@@ -1,4 +1,5 @@
 // The queries of an expression (Rust `used_query`), from its node words.
+use expression::kind;
 use expression_nodes::index;
 use expression_nodes::read_node;
 ghost use mathlib.Core.Path.{_≡_};
@@ -11,6 +12,9 @@ ghost use Rattle.expression.specs.Expr.{evaluate, spread, rest};
 ghost use Rattle.expression.specs.Nodes.{exprOf, itemsOf, under, noExpr};
 ghost use Rattle.expression.specs.Walks.{usedOps};
 ghost use Rattle.expression.specs.Queries.{queryOf, usedQueries, queriesInto};
+
+// The word that keeps rotation 0, as a place.
+const SIGNED_OFFSET: usize = 2147483648;
 
 fn either(a: bool, b: bool) -> bool
     ensures { λ r. ⌜ r ≡ (a || b) ⌝ }
@@ -32,20 +36,20 @@ fn node_uses(ws: &[u64], n: usize, polynomial: u64, word: u64) -> bool
     let d = read_node(ws, n);
     let kind = d.kind;
     match kind {
-        5 => same(polynomial, word, d.first, d.value),
-        7 => lower_uses(ws, n, d.first, polynomial, word),
-        8 => {
+        kind::POLYNOMIAL => same(polynomial, word, d.first, d.value),
+        kind::NEGATED => lower_uses(ws, n, d.first, polynomial, word),
+        kind::SUM => {
             let x = lower_uses(ws, n, d.first, polynomial, word);
             let y = lower_uses(ws, n, d.second, polynomial, word);
             either(x, y)
         }
-        9 => {
+        kind::PRODUCT => {
             let x = lower_uses(ws, n, d.first, polynomial, word);
             let y = lower_uses(ws, n, d.second, polynomial, word);
             either(x, y)
         }
-        10 => lower_uses(ws, n, d.first, polynomial, word),
-        11 => {
+        kind::SCALED => lower_uses(ws, n, d.first, polynomial, word),
+        kind::DISTRIBUTE_POWERS => {
             let base = lower_uses(ws, n, d.first, polynomial, word);
             let item = index(d.second);
             if item < n {
@@ -117,7 +121,7 @@ pub fn count_queries(ws: &[u64], n: usize, polys: usize, k: usize) -> usize
     ensures { λ r. ⌜ r ≡ length (usedQueries (exprOf (now (ws .entry)) n) polys k) ⌝ }
 {
     let wide = k + k + 1;
-    let low = 2147483648 - k;
+    let low = SIGNED_OFFSET - k;
     let end = polys * wide;
     let mut count: usize = 0;
     let mut i: usize = 0;
@@ -141,7 +145,7 @@ pub fn used_queries(ws: &[u64], n: usize, polys: usize, k: usize, out: &mut [u64
         return count;
     }
     let wide = k + k + 1;
-    let low = 2147483648 - k;
+    let low = SIGNED_OFFSET - k;
     let end = polys * wide;
     let mut at: usize = 0;
     let mut i: usize = 0;

@@ -2,6 +2,7 @@
 // stands for the words from word `from` on; what falls outside it is left out.
 pub mod operations;
 
+use expression::kind;
 use expression_nodes::index;
 use expression_nodes::read_node;
 ghost use mathlib.Core.Path.{_≡_};
@@ -55,18 +56,18 @@ pub fn copy_expr(ws: &[u64], nodes: &mut [u64], from: usize, n: usize, at: usize
     let d = read_node(ws, n);
     let k = d.kind;
     match k {
-        1 => push(nodes, from, at, 1, 0, 0, d.value),
-        2 => push(nodes, from, at, 2, 0, 0, 0),
-        3 => push(nodes, from, at, 3, 0, 0, d.value),
-        4 => push(nodes, from, at, 4, 0, 0, d.value),
-        5 => push(nodes, from, at, 5, d.first, 0, d.value),
-        6 => push(nodes, from, at, 6, d.first, 0, 0),
-        7 => copy_one(ws, nodes, from, n, at, 7, d.first, 0),
-        8 => copy_pair(ws, nodes, from, n, at, 8, d.first, d.second),
-        9 => copy_pair(ws, nodes, from, n, at, 9, d.first, d.second),
-        10 => copy_one(ws, nodes, from, n, at, 10, d.first, d.value),
-        11 => copy_powers(ws, nodes, from, n, at, d.first, d.second),
-        _ => push(nodes, from, at, 1, 0, 0, 0),
+        kind::CONSTANT => push(nodes, from, at, kind::CONSTANT, 0, 0, d.value),
+        kind::IDENTITY => push(nodes, from, at, kind::IDENTITY, 0, 0, 0),
+        kind::LAGRANGE => push(nodes, from, at, kind::LAGRANGE, 0, 0, d.value),
+        kind::EQ_XY => push(nodes, from, at, kind::EQ_XY, 0, 0, d.value),
+        kind::POLYNOMIAL => push(nodes, from, at, kind::POLYNOMIAL, d.first, 0, d.value),
+        kind::CHALLENGE => push(nodes, from, at, kind::CHALLENGE, d.first, 0, 0),
+        kind::NEGATED => copy_one(ws, nodes, from, n, at, kind::NEGATED, d.first, 0),
+        kind::SUM => copy_pair(ws, nodes, from, n, at, kind::SUM, d.first, d.second),
+        kind::PRODUCT => copy_pair(ws, nodes, from, n, at, kind::PRODUCT, d.first, d.second),
+        kind::SCALED => copy_one(ws, nodes, from, n, at, kind::SCALED, d.first, d.value),
+        kind::DISTRIBUTE_POWERS => copy_powers(ws, nodes, from, n, at, d.first, d.second),
+        _ => push(nodes, from, at, kind::CONSTANT, 0, 0, 0),
     }
 }
 
@@ -79,7 +80,7 @@ fn copy_low(ws: &[u64], nodes: &mut [u64], from: usize, n: usize, at: usize, a: 
     if c < n {
         return copy_expr(ws, nodes, from, c, at);
     }
-    push(nodes, from, at, 1, 0, 0, 0)
+    push(nodes, from, at, kind::CONSTANT, 0, 0, 0)
 }
 
 // A node of a kind with one part.
@@ -137,7 +138,7 @@ fn copy_powers(
         nodes,
         from,
         l.next,
-        11,
+        kind::DISTRIBUTE_POWERS,
         l.base as u64,
         (l.next - 1) as u64,
         0,
@@ -176,14 +177,14 @@ fn copy_items(
             nodes,
             from,
             l.next,
-            12,
+            kind::ITEM,
             (x - 1) as u64,
             (l.next - 1) as u64,
             1,
         );
         return Listed { next, base: l.base };
     }
-    let x = push(nodes, from, at, 1, 0, 0, 0);
+    let x = push(nodes, from, at, kind::CONSTANT, 0, 0, 0);
     copy_base(ws, nodes, from, n, x, base)
 }
 
@@ -193,6 +194,6 @@ fn copy_base(ws: &[u64], nodes: &mut [u64], from: usize, n: usize, at: usize, ba
     ensures { λ r. ⌜ WrittenBase from (under n noExpr (exprOf (now (ws .entry))) base) at (now (nodes .entry)) (now (nodes .exit)) (r .next) (r .base) ⌝ }
 {
     let y = copy_low(ws, nodes, from, n, at, base);
-    let next = push(nodes, from, y, 12, (at - 1) as u64, 0, 0);
+    let next = push(nodes, from, y, kind::ITEM, (at - 1) as u64, 0, 0);
     Listed { next, base: y - 1 }
 }

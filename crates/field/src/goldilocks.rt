@@ -1,5 +1,6 @@
 // The field type. A field value is held as a word, any word that is its number modulo p: `from_u64` takes the word as it is, each
 // operation reduces what it must, and `to_u64` gives the number below p. `word` promises no more than some word of the element.
+use crate::MODULUS;
 use crate::invert_u64;
 use crate::neg_u64;
 use crate::product_word;
@@ -12,8 +13,6 @@ ghost use lib.ListN.{length, getD};
 ghost use Rattle.field.specs.Field.{𝔾, el, val};
 ghost use Rattle.field.specs.Parse.{parsed};
 ghost use Rattle.field.specs.Element.{elem, isZero};
-
-const MODULUS: u64 = 18446744069414584321;
 
 pub struct Goldilocks(u64);
 

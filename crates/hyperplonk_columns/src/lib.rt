@@ -5,6 +5,7 @@ use crate::stages::compressed_columns;
 use crate::stages::instance_columns;
 use crate::stages::permutation_columns;
 use crate::stages::z_columns;
+use backend_sections::contents::INSTANCE_COUNT;
 use field::goldilocks::Goldilocks;
 use hyperplonk_prepare::needed::column_words;
 use preprocessor::Numbers;
@@ -37,7 +38,7 @@ fn places_of(circuit: &[u64], v: Numbers) -> Places
     requires { ⌜ Accepted (now circuit) × (v ≡ numbersOf (circuitOf (now circuit))) ⌝ }
     ensures { λ r. ⌜ (r .compressed ≡ compressedOffset (circuitOf (now (circuit .entry)))) × (r .counts ≡ mOffset (circuitOf (now (circuit .entry)))) × (r .hs ≡ hOffset (circuitOf (now (circuit .entry)))) ⌝ }
 {
-    let instances = circuit[3] as usize;
+    let instances = circuit[INSTANCE_COUNT] as usize;
     let named = instances + v.copied;
     Places {
         compressed: named * v.rows,

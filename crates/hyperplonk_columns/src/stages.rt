@@ -2,6 +2,10 @@
 use backend_sections::bodies::num_user;
 use backend_sections::bodies::num_witness;
 use backend_sections::bodies::rows;
+use backend_sections::contents::INSTANCE_COUNT;
+use backend_sections::contents::PREPROCESS_COUNT;
+use backend_sections::contents::PREPROCESS_START;
+use backend_sections::contents::WIDTH_COUNT;
 use backend_sections::reader::cells_of;
 use backend_sections::reader::instances_of;
 use backend_sections::reader::k_of;
@@ -41,9 +45,9 @@ pub fn layout_of(circuit: &[u64]) -> Layout
     let witness = num_witness(circuit);
     Layout {
         rows: index(all),
-        instances: index(word_at(circuit, 3)),
-        preprocess: index(word_at(circuit, 5)),
-        start: index(word_at(circuit, 4)),
+        instances: index(word_at(circuit, INSTANCE_COUNT)),
+        preprocess: index(word_at(circuit, PREPROCESS_COUNT)),
+        start: index(word_at(circuit, PREPROCESS_START)),
         witness: index(witness),
         permutations: 0,
         skipped: 0,
@@ -146,7 +150,7 @@ pub fn z_columns(
     let user = index(num_user(circuit));
     let beta = Goldilocks::from_u64(word_at(challenges, user));
     let gamma = Goldilocks::from_u64(word_at(challenges, user + 1));
-    let lookups = index(word_at(circuit, 13));
+    let lookups = index(word_at(circuit, WIDTH_COUNT));
     let to = (layout.instances + copied.len() + lookups * 4) * layout.rows;
     let z = ZColumns {
         layout: layout,

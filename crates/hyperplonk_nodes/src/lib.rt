@@ -15,6 +15,9 @@ ghost use Rattle.preprocessor.specs.Compose.{composedWords, composedNodes};
 ghost use Rattle.preprocessor.specs.Pieces.{Composed};
 ghost use Rattle.hyperplonk_prepare.specs.Prepared.{Prepared};
 
+// The words that are composed at a time to be compared.
+const WINDOW: usize = 2048;
+
 // The composed nodes that fall into `nodes`, which stands for the words from word `from` on; returns the number of nodes.
 pub fn compose_nodes(
     circuit: &[u64],
@@ -53,10 +56,10 @@ fn window_end(at: usize, end: usize) -> usize
     requires { ⌜ at < end ⌝ }
     ensures { λ r. ⌜ (at < r) × ((r ≤ end) × (r ≤ at + 2048)) ⌝ }
 {
-    if end - at <= 2048 {
+    if end - at <= WINDOW {
         return end;
     }
-    at + 2048
+    at + WINDOW
 }
 
 // Are words `at` to `end` of `nodes` those of the composed expression?
@@ -71,7 +74,7 @@ fn same_window(
     requires { ⌜ Prepared (now circuit) (now copied) v × ((length (now nodes) ≡ composedNodes (circuitOf (now circuit)) * 4) × ((at ≤ end) × ((end ≤ length (now nodes)) × (end ≤ at + 2048)))) ⌝ }
     ensures { λ r. ⌜ r ≡ sameWords (take (end - at) (drop at (now (nodes .entry)))) (take (end - at) (drop at (composedWords (circuitOf (now (circuit .entry)))))) ⌝ }
 {
-    let mut window = [0; 2048];
+    let mut window = [0; WINDOW];
     let count = end - at;
     compose_nodes(circuit, copied, v, at, &mut window);
     same_words(&nodes[at..end], &window[0..count])

@@ -7,6 +7,7 @@ use backend_nodes::degrees::max_degree;
 use backend_sections::bodies::num_poly;
 use backend_sections::bodies::num_user;
 use backend_sections::bodies::rows;
+use backend_sections::contents::WIDTH_COUNT;
 use backend_sections::copied::Copied;
 use backend_sections::copied::copied_columns;
 use backend_sections::reader::cells_of;
@@ -58,7 +59,7 @@ pub fn numbers(circuit: &[u64], copied: usize) -> Numbers
     let polys = num_poly(circuit);
     let user = num_user(circuit);
     let rows = rows(circuit);
-    let lookups = circuit[13];
+    let lookups = circuit[WIDTH_COUNT];
     let part = degree_of(circuit) - 1;
     let parts = (copied + part - 1) / part;
     Numbers {

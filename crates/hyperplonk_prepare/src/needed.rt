@@ -1,4 +1,5 @@
 // How many words the columns and the nodes of accepted circuit words need, and question 14, whether the buffers have them.
+use backend_sections::contents::INSTANCE_COUNT;
 use backend_sections::reader::constraints_of;
 use backend_sections::reader::nodes_of;
 use backend_sections::reader::pairs_of;
@@ -20,7 +21,7 @@ pub fn column_words(circuit: &[u64], v: Numbers) -> usize
     requires { ⌜ Accepted (now circuit) × (v ≡ numbersOf (circuitOf (now circuit))) ⌝ }
     ensures { λ r. ⌜ r ≡ columnWords (circuitOf (now (circuit .entry))) ⌝ }
 {
-    let instances = circuit[3] as usize;
+    let instances = circuit[INSTANCE_COUNT] as usize;
     (instances + v.copied + v.lookups * 4 + v.parts) * v.rows
 }
 

@@ -1,5 +1,8 @@
 // The row sum: question 16, and the sum of the composed expression over the rows.
 use backend_questions::first_no;
+use backend_sections::contents::INSTANCE_COUNT;
+use backend_sections::contents::PREPROCESS_COUNT;
+use backend_sections::contents::PREPROCESS_START;
 use backend_sections::reader::k_of;
 use backend_sections::words::all_elements;
 use bh::row_after;
@@ -32,9 +35,9 @@ pub fn sum_layout(circuit: &[u64], v: Numbers) -> Layout
     requires { ⌜ Accepted (now circuit) × (v ≡ numbersOf (circuitOf (now circuit))) ⌝ }
     ensures { λ r. ⌜ r ≡ sumLayout (now (circuit .entry)) ⌝ }
 {
-    let instances = circuit[3] as usize;
-    let start = circuit[4] as usize;
-    let preprocess = circuit[5] as usize;
+    let instances = circuit[INSTANCE_COUNT] as usize;
+    let start = circuit[PREPROCESS_START] as usize;
+    let preprocess = circuit[PREPROCESS_COUNT] as usize;
     Layout {
         rows: v.rows,
         instances: instances,
