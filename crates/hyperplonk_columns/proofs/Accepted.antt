@@ -14,8 +14,7 @@ use Rattle.lists.specs.Lists.{over, total, written}
 use Rattle.lists.proofs.Tests.{and-left, and-right}
 use Rattle.lists.proofs.Over.{drop-more, drop-past}
 use Rattle.backend.specs.Circuit.{Circuit, Section, bodyOf, circuitOf, rowsOf, numInstance, numWitness, numUser, copied, numCopied, numLookups}
-use Rattle.preprocessor.specs.Compose.{numZ}
-use Rattle.preprocessor.specs.Pieces.{numbersOf}
+use Rattle.preprocessor.specs.Compose.{numZ, numbersOf}
 use Rattle.preprocessor.specs.declared.Numbers.{Numbers}
 use Rattle.prover.specs.Log.{Log}
 use Rattle.prover.specs.Columns.{permutationAt, instancePolys, permutationPolys, compressedPolys, mPolys, hPolys, writtenPolys, allCovered}

@@ -19,7 +19,7 @@ ghost use lib.ListN.{length, take, replicate};
 ghost use Rattle.field.specs.Field.{𝔾};
 ghost use Rattle.lists.specs.Lists.{over, written};
 ghost use Rattle.backend.specs.Circuit.{circuitOf, rowsOf, numUser, copied as copiedOf};
-ghost use Rattle.preprocessor.specs.Pieces.{numbersOf};
+ghost use Rattle.preprocessor.specs.Compose.{numbersOf};
 ghost use Rattle.prover.specs.Columns.{allCovered, writtenPolys};
 ghost use Rattle.prover.specs.Words.{wordsOf};
 ghost use Rattle.hyperplonk_spec.specs.Build.{logOf, columnWords, q12};

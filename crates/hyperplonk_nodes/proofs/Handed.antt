@@ -6,8 +6,8 @@ use native.Mathlib.Omega.{arith}
 use Rattle.expression.specs.Flat.{size}
 use Rattle.expression.specs.Written.{mostWords}
 use Rattle.backend.specs.Circuit.{Section, bodyOf, circuitOf}
-use Rattle.preprocessor.specs.Compose.{composedNodes}
-use Rattle.preprocessor.specs.Pieces.{composeTree, handedTrees, Handed, PiecesOf}
+use Rattle.preprocessor.specs.Compose.{composedNodes, composeTree}
+use Rattle.preprocessor.specs.Pieces.{handedTrees, Handed, PiecesOf}
 use Rattle.preprocessor.specs.declared.Numbers.{Numbers}
 use Rattle.preprocessor.proofs.Composed.{composed-is}
 use Rattle.hyperplonk_prepare.specs.Prepared.{Prepared}

@@ -26,9 +26,9 @@ use Rattle.backend.specs.Laid.{Laid, Counted}
 use Rattle.backend.proofs.Sections.{body-length}
 use Rattle.backend.proofs.Numbers.{polys}
 use Rattle.backend.proofs.Degree.{all-most, root-in, left-roots, right-roots, least-high, least-low}
-use Rattle.preprocessor.specs.Compose.{numZ}
+use Rattle.preprocessor.specs.Compose.{numZ, numbersOf}
 use Rattle.preprocessor.specs.Permutation.{Walkable}
-use Rattle.preprocessor.specs.Pieces.{numbersOf, IsNode, Limits, Words, Handed, PiecesOf}
+use Rattle.preprocessor.specs.Pieces.{IsNode, Limits, Words, Handed, PiecesOf}
 use Rattle.preprocessor.proofs.Copied.{walkable, cells-of}
 use Rattle.preprocessor.proofs.Composed.{circuit-pieces}
 use Rattle.prover.specs.Lent.{Given}

@@ -23,9 +23,9 @@ use Rattle.backend.specs.Layout.{laidOut}
 use Rattle.backend.specs.Questions.{q7}
 use Rattle.backend.proofs.Numbers.{each-one, not-past}
 use Rattle.backend.proofs.Degree.{ten-is, d-is}
-use Rattle.preprocessor.specs.Compose.{numZ, composedNodes}
+use Rattle.preprocessor.specs.Compose.{numZ, composedNodes, numbersOf}
 use Rattle.preprocessor.specs.Count.{most}
-use Rattle.preprocessor.specs.Pieces.{numbersOf, Words, PiecesOf}
+use Rattle.preprocessor.specs.Pieces.{Words, PiecesOf}
 use Rattle.preprocessor.specs.declared.Numbers.{Numbers}
 use Rattle.hyperplonk_spec.specs.Build.{columnWords, q12, q13, q14}
 use Rattle.hyperplonk_prepare.specs.Prepared.{Accepted}

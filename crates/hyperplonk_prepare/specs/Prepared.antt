@@ -6,7 +6,7 @@ use Rattle.lists.specs.Lists.{firstNo}
 use Rattle.expression.specs.declared.poly.Layout.{Layout}
 use Rattle.backend.specs.Circuit.{Circuit, Section, circuitOf, wordK, entries, startOf, rowsOf, numInstance, numWitness, copied, numCopied, numLookups}
 use Rattle.backend.specs.Questions.{circuitQuestions}
-use Rattle.preprocessor.specs.Pieces.{numbersOf}
+use Rattle.preprocessor.specs.Compose.{numbersOf}
 use Rattle.preprocessor.specs.declared.Numbers.{Numbers}
 
 -- questions 1 to 11 are yes

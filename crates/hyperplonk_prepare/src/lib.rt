@@ -23,7 +23,7 @@ ghost use lib.ListN.{take, replicate};
 ghost use Rattle.backend.specs.Circuit.{circuitOf, numCopied};
 ghost use Rattle.backend.specs.Circuit as def;
 ghost use Rattle.backend.specs.Constraints.{maxDegree};
-ghost use Rattle.preprocessor.specs.Pieces.{numbersOf};
+ghost use Rattle.preprocessor.specs.Compose.{numbersOf};
 ghost use Rattle.hyperplonk_prepare.specs.Prepared.{Accepted};
 
 // The copied columns of the circuit, and zeros after them.

@@ -9,9 +9,8 @@ ghost use mathlib.Core.List.{List};
 ghost use Prim.Native.Nat.{ℕ, _<_, _^_, min};
 ghost use lib.ListN.{length};
 ghost use Rattle.backend.specs.Circuit.{circuitOf};
-ghost use Rattle.preprocessor.specs.Compose.{composedNodes};
+ghost use Rattle.preprocessor.specs.Compose.{composedNodes, numbersOf};
 ghost use Rattle.preprocessor.specs.Count.{most};
-ghost use Rattle.preprocessor.specs.Pieces.{numbersOf};
 ghost use Rattle.hyperplonk_spec.specs.Build.{columnWords, q14};
 ghost use Rattle.hyperplonk_prepare.specs.Prepared.{Accepted};
 

@@ -15,7 +15,7 @@ use Rattle.expression.specs.declared.poly.Layout.{Layout}
 use Rattle.backend.specs.Circuit.{wordK, circuitOf, copied}
 use Rattle.backend.specs.Questions.{circuitQuestions}
 use Rattle.backend.proofs.Answers.{says-no, says-yes}
-use Rattle.preprocessor.specs.Pieces.{numbersOf}
+use Rattle.preprocessor.specs.Compose.{numbersOf}
 use Rattle.preprocessor.specs.declared.Numbers.{Numbers}
 use Rattle.hyperplonk_spec.specs.RowSum.{q16, LentSum, sumQuestions, checkSum, sumOf, rowSumOf}
 use Rattle.hyperplonk_spec.specs.declared.RowSum.{RowSum}

@@ -18,9 +18,8 @@ use Rattle.backend.specs.Circuit.{Circuit, wordK, circuitOf, rowsOf, numWitness
 use Rattle.backend.specs.Questions.{small}
 use Rattle.backend.proofs.Answers.{says-no, says-yes}
 use Rattle.backend.proofs.Numbers.{polys}
-use Rattle.preprocessor.specs.Compose.{compose, composedWords, composedNodes}
+use Rattle.preprocessor.specs.Compose.{compose, composedWords, composedNodes, numbersOf}
 use Rattle.preprocessor.specs.Count.{most}
-use Rattle.preprocessor.specs.Pieces.{numbersOf}
 use Rattle.preprocessor.specs.declared.Numbers.{Numbers}
 use Rattle.hyperplonk_spec.specs.Build.{columnWords}
 use Rattle.hyperplonk_spec.specs.RowSum.{q16}

@@ -14,56 +14,27 @@ use Rattle.expression.specs.Flat.{size, flat}
 use Rattle.expression.specs.Written.{Written}
 use Rattle.expression.proofs.FlatLength.{flat-length}
 use Rattle.backend.specs.Circuit.{Circuit, Pair, Section, circuitOf, bodyOf, entries, pairAt, copied, numCopied}
-use Rattle.backend.specs.Constraints.{lookupConstraint, lookupConstraints, maxDegree}
+use Rattle.backend.specs.Constraints.{maxDegree}
 use Rattle.preprocessor.specs.Compose.{
   numZ,
   constraintCut,
-  identityFactor,
-  permutationFactor,
-  nextZ,
-  partConstraint,
-  startConstraint,
-  permutationConstraints,
   composedConstraints,
-  zeroCheck,
   compose,
   composedWords,
   composedNodes,
-}
-use Rattle.preprocessor.specs.Pieces.{
   numbersOf,
-  identityTree,
-  permutationTree,
-  nextTree,
-  partTree,
-  startTree,
-  lookupsOf,
-  lookupTreeOf,
   constraintTrees,
-  handedTrees,
-  zeroTree,
-  outerTrees,
   composeTree,
-  PiecesOf,
-  Composed,
 }
+use Rattle.preprocessor.specs.Pieces.{lookupsOf, handedTrees, PiecesOf, Composed}
 use Rattle.preprocessor.specs.declared.Numbers.{Numbers}
 
 -- "the constraints cut by D − 1" have N parts
 pub constraint-parts : (c : Circuit) → length (constraintCut c) ≡ numZ c
-unfolding constraintCut numZ
+unfolding numbersOf numZ
 constraint-parts c =
     cut-length (maxDegree c - 1) (below (numCopied c))
     ∙ ap (λ (n : ℕ). ceilDiv n (maxDegree c - 1)) (below-length (numCopied c))
-
-pub constraint-trees : (c : Circuit)
-    → constraintTrees (numbersOf c) (copied c) (c .constraints) (c .lookups) ≡ composedConstraints c
-unfolding constraintTrees lookupTreeOf startTree partTree identityTree permutationTree nextTree numbersOf composedConstraints lookupConstraints lookupConstraint permutationConstraints startConstraint partConstraint identityFactor permutationFactor nextZ constraintCut
-constraint-trees c = refl
-
-pub compose-tree : (c : Circuit) → composeTree (numbersOf c) (composedConstraints c) ≡ compose c
-unfolding composeTree outerTrees zeroTree numbersOf compose zeroCheck
-compose-tree c = refl
 
 module _ {c : Circuit} {v : Numbers} {names nodes roots widths pairs : List ℕ} where
   pub handed-are : PiecesOf c v names nodes roots widths pairs → handedTrees v names nodes roots widths pairs ≡ composedConstraints c
@@ -72,11 +43,10 @@ module _ {c : Circuit} {v : Numbers} {names nodes roots widths pairs : List ℕ}
       ∙ ap (λ (ns : List ℕ). constraintTrees (numbersOf c) ns (map (exprOf nodes) roots) (lookupsOf nodes widths pairs)) (p .copied-are)
       ∙ ap (λ (es : List Expr). constraintTrees (numbersOf c) (copied c) es (lookupsOf nodes widths pairs)) (p .constraints-are)
       ∙ ap (λ (ls : List (List Pair)). constraintTrees (numbersOf c) (copied c) (c .constraints) ls) (p .lookups-are)
-      ∙ constraint-trees c
 
   pub composed-is : PiecesOf c v names nodes roots widths pairs → composeTree v (handedTrees v names nodes roots widths pairs) ≡ compose c
   composed-is p =
-      ap (composeTree v) (handed-are p) ∙ ap (λ (u : Numbers). composeTree u (composedConstraints c)) (p .numbers-are) ∙ compose-tree c
+      ap (composeTree v) (handed-are p) ∙ ap (λ (u : Numbers). composeTree u (composedConstraints c)) (p .numbers-are)
 
   pub composed-written : {from : ℕ} {d d1 : List ℕ} {next : ℕ} → PiecesOf c v names nodes roots widths pairs
       → Written from (composeTree v (handedTrees v names nodes roots widths pairs)) 0 d d1 next

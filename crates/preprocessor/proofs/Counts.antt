@@ -14,22 +14,8 @@ use Rattle.expression.specs.Expr.{Expr, distributePowers}
 use Rattle.expression.specs.Nodes.{exprOf}
 use Rattle.expression.specs.Flat.{size}
 use Rattle.backend.specs.Circuit.{Circuit}
-use Rattle.preprocessor.specs.Compose.{compose, composedNodes}
-use Rattle.preprocessor.specs.Pieces.{
-  Limits,
-  Words,
-  mAt,
-  hAt,
-  sideExprs,
-  sideTree,
-  lookupsOf,
-  lookupTreeOf,
-  handedTrees,
-  composeTree,
-  numConstraints,
-  permutationNodes,
-  PiecesOf,
-}
+use Rattle.preprocessor.specs.Compose.{compose, composedNodes, numberOfM, numberOfH, lookupTreeOf, composeTree}
+use Rattle.preprocessor.specs.Pieces.{Limits, Words, sideExprs, sideTree, lookupsOf, handedTrees, numConstraints, permutationNodes, PiecesOf}
 use Rattle.preprocessor.specs.Count.{nodesIn, listNodes, most}
 use Rattle.preprocessor.specs.declared.Numbers.{Numbers}
 use Rattle.preprocessor.proofs.Handed.{handed-length, lookup-tree, lookup-size, side-length, side-size}
@@ -128,7 +114,7 @@ lookup-is v nodes widths pairs j s w r enough h es ew e =
     ∙ ap (min most)
     (sym
     (ap size (lookup-tree nodes widths pairs enough j h v)
-    ∙ lookup-size (mAt v j) (hAt v j) (sideTree nodes pairs (v .user) (total (take j widths) * 2) (getD widths j 0))
+    ∙ lookup-size (numberOfM v j) (numberOfH v j) (sideTree nodes pairs (v .user) (total (take j widths) * 2) (getD widths j 0))
     (sideTree nodes pairs (v .user) (total (take j widths) * 2 + 1) (getD widths j 0))))
 
 -- the permutation's

@@ -21,25 +21,8 @@ use Rattle.expression.specs.Flat.{body, size}
 use Rattle.expression.specs.Written.{Pushed, Written}
 use Rattle.backend.specs.Circuit.{Pair, pairAt}
 use Rattle.backend.specs.Constraints.{inputsOf, tablesOf, lookupTree}
-use Rattle.preprocessor.specs.Pieces.{
-  Limits,
-  Handed,
-  IsNode,
-  mAt,
-  hAt,
-  startTree,
-  partTree,
-  lookupsOf,
-  lookupTreeOf,
-  sideExprs,
-  sideTree,
-  constraintTrees,
-  handedTrees,
-  zeroTree,
-  outerTrees,
-  composeTree,
-  numConstraints,
-}
+use Rattle.preprocessor.specs.Compose.{numberOfM, numberOfH, startTree, partTree, lookupTreeOf, permutationTrees, constraintTrees, zeroTree, outerTrees, composeTree}
+use Rattle.preprocessor.specs.Pieces.{Limits, Handed, IsNode, lookupsOf, sideExprs, sideTree, handedTrees, numConstraints}
 use Rattle.preprocessor.specs.declared.Numbers.{Numbers}
 use Rattle.preprocessor.proofs.Lists.{nth}
 
@@ -82,13 +65,13 @@ module _ (nodes widths pairs : List ℕ) (enough : total widths * 2 ≤ length p
 
   pub lookup-tree : (v : Numbers)
       → lookupTreeOf v (lookupsOf nodes widths pairs) j
-      ≡ lookupTree (at (mAt v j)) (at (hAt v j)) (sideTree nodes pairs (v .user) (before * 2) width)
+      ≡ lookupTree (at (numberOfM v j)) (at (numberOfH v j)) (sideTree nodes pairs (v .user) (before * 2) width)
       (sideTree nodes pairs (v .user) (before * 2 + 1) width)
   unfolding lookupTreeOf sideTree
   lookup-tree v =
       ap₂
       (λ (a b : List Expr).
-      lookupTree (at (mAt v j)) (at (hAt v j))
+      lookupTree (at (numberOfM v j)) (at (numberOfH v j))
       (Expr.sum (distributePowers a (Expr.challenge (v .user))) (Expr.challenge (v .user + 1)))
       (Expr.sum (distributePowers b (Expr.challenge (v .user))) (Expr.challenge (v .user + 1))))
       inputs-are
@@ -144,7 +127,7 @@ module _ (v : Numbers) (names nodes roots widths pairs : List ℕ) where
   some-length false = ap suc (column-length (partTree v names) (v .parts))
 
   pub handed-length : length es ≡ numConstraints (length roots) v
-  unfolding constraintTrees numConstraints
+  unfolding constraintTrees permutationTrees numConstraints
   handed-length =
       length-append user (column lookup (v .lookups) ++ cond (eqb (v .copied) 0) [] some)
       ∙ ap₂ _+_ (length-map roots (exprOf nodes))
@@ -153,7 +136,7 @@ module _ (v : Numbers) (names nodes roots widths pairs : List ℕ) where
       ∙ omega arith
 
   pub own-nth : (i n : ℕ) → i < length roots → n ≡ getD roots i 0 → nth es i ≡ exprOf nodes n
-  unfolding constraintTrees
+  unfolding constraintTrees permutationTrees
   own-nth i n h e =
       get-left user (column lookup (v .lookups) ++ cond (eqb (v .copied) 0) [] some) i (Expr.constant 0)
       (let e = length-map roots (exprOf nodes) in omega arith)
@@ -162,7 +145,7 @@ module _ (v : Numbers) (names nodes roots widths pairs : List ℕ) where
 
   past-own : (i k : ℕ) → i ≡ length roots + k
       → nth es i ≡ nth (column lookup (v .lookups) ++ cond (eqb (v .copied) 0) [] some) k
-  unfolding constraintTrees
+  unfolding constraintTrees permutationTrees
   past-own i k e =
       get-past user (column lookup (v .lookups) ++ cond (eqb (v .copied) 0) [] some) i k (Expr.constant 0)
       (e ∙ ap (λ (n : ℕ). n + k) (sym (length-map roots (exprOf nodes))))
@@ -172,7 +155,7 @@ module _ (v : Numbers) (names nodes roots widths pairs : List ℕ) where
       → s ≡ total (take j widths)
       → w ≡ getD widths j 0
       → nth es i
-      ≡ lookupTree (at (mAt v j)) (at (hAt v j)) (sideTree nodes pairs (v .user) (s * 2) w)
+      ≡ lookupTree (at (numberOfM v j)) (at (numberOfH v j)) (sideTree nodes pairs (v .user) (s * 2) w)
       (sideTree nodes pairs (v .user) (s * 2 + 1) w)
   lookup-nth i j s w e h all enough es ew =
       past-own i j e
@@ -182,7 +165,7 @@ module _ (v : Numbers) (names nodes roots widths pairs : List ℕ) where
       ∙ lookup-tree nodes widths pairs enough j (omega arith) v
       ∙ ap₂
       (λ (s w : ℕ).
-      lookupTree (at (mAt v j)) (at (hAt v j)) (sideTree nodes pairs (v .user) (s * 2) w)
+      lookupTree (at (numberOfM v j)) (at (numberOfH v j)) (sideTree nodes pairs (v .user) (s * 2) w)
       (sideTree nodes pairs (v .user) (s * 2 + 1) w))
       (sym es)
       (sym ew)
@@ -220,22 +203,22 @@ module _ (v : Numbers) (es : List Expr) where
   pub outer-length : length (outerTrees v es) ≡ suc (v .lookups)
   unfolding outerTrees
   outer-length =
-      length-append (column (λ j. at (hAt v j)) (v .lookups)) (zeroTree v es ∷ [])
-      ∙ ap (λ (n : ℕ). n + 1) (column-length (λ j. at (hAt v j)) (v .lookups))
+      length-append (column (λ j. at (numberOfH v j)) (v .lookups)) (zeroTree v es ∷ [])
+      ∙ ap (λ (n : ℕ). n + 1) (column-length (λ j. at (numberOfH v j)) (v .lookups))
       ∙ omega arith
 
-  pub query-nth : (i : ℕ) → i < v .lookups → nth (outerTrees v es) i ≡ at (hAt v i)
+  pub query-nth : (i : ℕ) → i < v .lookups → nth (outerTrees v es) i ≡ at (numberOfH v i)
   unfolding outerTrees
   query-nth i h =
-      get-left (column (λ j. at (hAt v j)) (v .lookups)) (zeroTree v es ∷ []) i (Expr.constant 0)
-      (let l = column-length (λ j. at (hAt v j)) (v .lookups) in omega arith)
-      ∙ get-column (λ j. at (hAt v j)) (v .lookups) i (Expr.constant 0) h
+      get-left (column (λ j. at (numberOfH v j)) (v .lookups)) (zeroTree v es ∷ []) i (Expr.constant 0)
+      (let l = column-length (λ j. at (numberOfH v j)) (v .lookups) in omega arith)
+      ∙ get-column (λ j. at (numberOfH v j)) (v .lookups) i (Expr.constant 0) h
 
   pub zero-nth : (i : ℕ) → i ≡ v .lookups → nth (outerTrees v es) i ≡ zeroTree v es
   unfolding outerTrees
   zero-nth i h =
-      get-past (column (λ j. at (hAt v j)) (v .lookups)) (zeroTree v es ∷ []) i 0 (Expr.constant 0)
-      (let l = column-length (λ j. at (hAt v j)) (v .lookups) in omega arith)
+      get-past (column (λ j. at (numberOfH v j)) (v .lookups)) (zeroTree v es ∷ []) i 0 (Expr.constant 0)
+      (let l = column-length (λ j. at (numberOfH v j)) (v .lookups) in omega arith)
 
 -- the nodes of a sum with gamma, and of a product with a query
 pub side-size : (nodes pairs : List ℕ) (user s w : ℕ)
@@ -252,4 +235,4 @@ zero-size v es = omega arith
 pub compose-alone : (v : Numbers) (es : List Expr) → v .lookups ≡ 0 → composeTree v es ≡ zeroTree v es
 unfolding composeTree outerTrees distributePowers column
 compose-alone v es h =
-    ap (λ (n : ℕ). distributePowers (column (λ j. at (hAt v j)) n ++ (zeroTree v es ∷ [])) (Expr.challenge (v .user + 2))) h
+    ap (λ (n : ℕ). distributePowers (column (λ j. at (numberOfH v j)) n ++ (zeroTree v es ∷ [])) (Expr.challenge (v .user + 2))) h

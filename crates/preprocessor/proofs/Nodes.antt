@@ -15,27 +15,12 @@ use Rattle.expression.specs.Nodes.{exprOf}
 use Rattle.expression.specs.Flat.{body, sizes, extra, size}
 use Rattle.backend.specs.Circuit.{Circuit, Pair, numUser, numLookups, numCopied, copied}
 use Rattle.backend.specs.Constraints.{inputsOf, tablesOf, lookupTree}
-use Rattle.preprocessor.specs.Compose.{numZ, compose, composedConstraints, composedNodes}
-use Rattle.preprocessor.specs.Pieces.{
-  Limits,
-  hAt,
-  partOf,
-  startTree,
-  partTree,
-  lookupTreeOf,
-  constraintTrees,
-  zeroTree,
-  outerTrees,
-  composeTree,
-  numConstraints,
-  permutationNodes,
-  numbersOf,
-}
+use Rattle.preprocessor.specs.Compose.{numZ, compose, composedConstraints, composedNodes, numberOfH, chunk, startTree, partTree, lookupTreeOf, permutationTrees, constraintTrees, zeroTree, outerTrees, composeTree, numbersOf}
+use Rattle.preprocessor.specs.Pieces.{Limits, numConstraints, permutationNodes}
 use Rattle.preprocessor.specs.Count.{nodesIn, listNodes}
 use Rattle.preprocessor.specs.declared.Numbers.{Numbers}
 use Rattle.preprocessor.proofs.Parts.{part-size, start-size}
 use Rattle.preprocessor.proofs.Handed.{outer-length, zero-size}
-use Rattle.preprocessor.proofs.Composed.{constraint-trees, compose-tree}
 
 pub nodes-append : (es fs : List Expr) → nodesIn (es ++ fs) ≡ nodesIn es + nodesIn fs
 unfolding nodesIn
@@ -94,8 +79,8 @@ queries-nodes f (suc n) =
 outer-nodes : (v : Numbers) (es : List Expr) → nodesIn (outerTrees v es) ≡ v .lookups + size (zeroTree v es)
 unfolding outerTrees
 outer-nodes v es =
-    nodes-append (column (λ j. at (hAt v j)) (v .lookups)) (zeroTree v es ∷ [])
-    ∙ ap₂ _+_ (queries-nodes (hAt v) (v .lookups)) (nodes-one (zeroTree v es))
+    nodes-append (column (λ j. at (numberOfH v j)) (v .lookups)) (zeroTree v es ∷ [])
+    ∙ ap₂ _+_ (queries-nodes (numberOfH v) (v .lookups)) (nodes-one (zeroTree v es))
 
 pub compose-size : (v : Numbers) (es : List Expr)
     → size (composeTree v es) ≡ nodesIn es + listNodes (length es) + 2 + v .lookups + listNodes (suc (v .lookups))
@@ -133,7 +118,7 @@ scaled-total a (suc n) =
     omega arith
 
 -- the parts hold each copied column once
-parts-total : (v : Numbers) → Limits v → total (column (λ i. length (partOf v i)) (v .parts)) ≡ v .copied
+parts-total : (v : Numbers) → Limits v → total (column (λ i. length (chunk v i)) (v .parts)) ≡ v .copied
 parts-total v l =
     let C : List (List ℕ) = cut (v .part) (below (v .copied)) in
     let n : v .parts ≡ length C =
@@ -154,8 +139,8 @@ permutation-nodes v l names =
     let p =
     nodes-column (partTree v names) (v .parts)
     ∙ ap total
-    (column-cong (λ i. size (partTree v names i)) (λ i. length (partOf v i) * 18 + 4) (v .parts) (λ i h. part-size v l i h names))
-    ∙ scaled-total (λ i. length (partOf v i)) (v .parts) in
+    (column-cong (λ i. size (partTree v names i)) (λ i. length (chunk v i) * 18 + 4) (v .parts) (λ i h. part-size v l i h names))
+    ∙ scaled-total (λ i. length (chunk v i)) (v .parts) in
     let q = parts-total v l in
     let s = start-size v in
     omega arith
@@ -171,7 +156,7 @@ pub constraints-nodes : (v : Numbers) (l : Limits v) (names : List ℕ) (user : 
     → nodesIn (constraintTrees v names user lookups)
     ≡ nodesIn user + nodesIn (column (lookupTreeOf v lookups) (v .lookups))
     + permutationNodes v
-unfolding constraintTrees permutationNodes
+unfolding constraintTrees permutationTrees permutationNodes
 constraints-nodes v l names user lookups =
     let P : List Expr = cond (eqb (v .copied) 0) [] (startTree v ∷ column (partTree v names) (v .parts)) in
     let a = nodes-append user (column (lookupTreeOf v lookups) (v .lookups) ++ P) in
@@ -191,7 +176,5 @@ pub composed-nodes : (c : Circuit) → Limits (numbersOf c)
 unfolding composedNodes numbersOf
 composed-nodes c l =
     let p = compose-size (numbersOf c) (composedConstraints c) in
-    let q = ap size (compose-tree c) in
     let r = constraints-nodes (numbersOf c) l (copied c) (c .constraints) (c .lookups) in
-    let s = ap nodesIn (constraint-trees c) in
     omega arith

@@ -20,7 +20,8 @@ use Rattle.expression.specs.Expr.{Expr, minus, at, productOf}
 use Rattle.expression.specs.Flat.{body, size}
 use Rattle.expression.specs.Written.{Pushed, Written}
 use Rattle.expression.proofs.Written.{written-as, written-minus, written-poly, written-product, written-lagrange, written-constant}
-use Rattle.preprocessor.specs.Pieces.{Limits, partOf, identityTree, permutationTree, nextTree, partTree, startTree, zAt}
+use Rattle.preprocessor.specs.Compose.{chunk, identityTree, permutationTree, nextTree, partTree, startTree, numberOfZ}
+use Rattle.preprocessor.specs.Pieces.{Limits}
 use Rattle.preprocessor.specs.declared.Numbers.{Numbers}
 use Rattle.preprocessor.proofs.Lists.{product-size}
 
@@ -47,41 +48,41 @@ module _ (v : Numbers) (l : Limits v) (i : ℕ) (h : i < v .parts) where
   pub part-start : i * v .part < v .copied
   part-start = ceil-below (v .copied) (v .part) i (l .some-part) (subst (λ (n : ℕ). i < n) (l .parts-are) h)
 
-  part-run : partOf v i ≡ take (v .part) (drop (i * v .part) (below (v .copied)))
+  part-run : chunk v i ≡ take (v .part) (drop (i * v .part) (below (v .copied)))
   part-run = get-cut (v .part) (below (v .copied)) i (l .some-part)
 
-  pub part-length : length (partOf v i) ≡ min (v .part) (v .copied - i * v .part)
+  pub part-length : length (chunk v i) ≡ min (v .part) (v .copied - i * v .part)
   part-length =
       ap length part-run
       ∙ length-take (v .part) (drop (i * v .part) (below (v .copied)))
       ∙ ap (min (v .part)) (length-drop (i * v .part) (below (v .copied)) ∙ ap (λ (n : ℕ). n - i * v .part) (below-length (v .copied)))
 
-  pub part-pos : 0 < length (partOf v i)
+  pub part-pos : 0 < length (chunk v i)
   part-pos = let a = part-start in let b = l .some-part in omega (arith, part-length)
 
-  pub part-end : i * v .part + length (partOf v i) ≤ v .copied
+  pub part-end : i * v .part + length (chunk v i) ≤ v .copied
   part-end = let a = part-start in omega (arith, part-length)
 
-  part-is : partOf v i ≡ column (λ j. i * v .part + j) (length (partOf v i))
+  part-is : chunk v i ≡ column (λ j. i * v .part + j) (length (chunk v i))
   part-is =
       part-run
       ∙ ap (take (v .part)) (drop-column (λ j. j) (i * v .part) (v .copied) (let a = part-start in omega arith))
       ∙ take-min (λ j. i * v .part + j) (v .part) (v .copied - i * v .part)
       ∙ ap (column (λ j. i * v .part + j)) (sym part-length)
 
-  part-map : (f : ℕ → Expr) → map f (partOf v i) ≡ column (λ j. f (i * v .part + j)) (length (partOf v i))
+  part-map : (f : ℕ → Expr) → map f (chunk v i) ≡ column (λ j. f (i * v .part + j)) (length (chunk v i))
   part-map f =
-      ap (map f) part-is ∙ map-column f (λ j. i * v .part + j) (length (partOf v i))
+      ap (map f) part-is ∙ map-column f (λ j. i * v .part + j) (length (chunk v i))
 
   module _ (names : List ℕ) where
-    pub part-tree : (count : ℕ) → count ≡ length (partOf v i)
+    pub part-tree : (count : ℕ) → count ≡ length (chunk v i)
         → partTree v names i
-        ≡ minus (Expr.product (at (zAt v i)) (productOf (column (λ j. identityTree v names (i * v .part + j)) count)))
+        ≡ minus (Expr.product (at (numberOfZ v i)) (productOf (column (λ j. identityTree v names (i * v .part + j)) count)))
         (Expr.product (nextTree v i) (productOf (column (λ j. permutationTree v names (i * v .part + j)) count)))
     unfolding partTree
     part-tree count e =
         ap₂
-        (λ (a b : List Expr). minus (Expr.product (at (zAt v i)) (productOf a)) (Expr.product (nextTree v i) (productOf b)))
+        (λ (a b : List Expr). minus (Expr.product (at (numberOfZ v i)) (productOf a)) (Expr.product (nextTree v i) (productOf b)))
         (part-map (identityTree v names) ∙ ap (column (λ j. identityTree v names (i * v .part + j))) (sym e))
         (part-map (permutationTree v names) ∙ ap (column (λ j. permutationTree v names (i * v .part + j))) (sym e))
 
@@ -98,7 +99,7 @@ pub next-size : (v : Numbers) (i : ℕ) → size (nextTree v i) ≡ 1
 unfolding nextTree body
 next-size v i = go (ltb (suc i) (v .parts))
   where
-    go : (t : Bool) → size (cond t (at (zAt v (suc i))) (Expr.poly (zAt v 0) (pos 1))) ≡ 1
+    go : (t : Bool) → size (cond t (at (numberOfZ v (suc i))) (Expr.poly (numberOfZ v 0) (pos 1))) ≡ 1
     go true = refl
     go false = refl
 
@@ -122,13 +123,13 @@ column-product s f (suc n) h q =
     ∙ ap (λ (m : ℕ). suc m * (s + 1)) (column-length g n)
 
 pub part-size : (v : Numbers) (l : Limits v) (i : ℕ) (h : i < v .parts) (names : List ℕ)
-    → size (partTree v names i) ≡ length (partOf v i) * 18 + 4
+    → size (partTree v names i) ≡ length (chunk v i) * 18 + 4
 part-size v l i h names =
-    let m : ℕ = length (partOf v i) in
+    let m : ℕ = length (chunk v i) in
     let a = column-product 9 (λ j. identityTree v names (i * v .part + j)) m (part-pos v l i h) (λ j. identity-size v names (i * v .part + j)) in
     let b = column-product 7 (λ j. permutationTree v names (i * v .part + j)) m (part-pos v l i h) (λ j. permutation-size v names (i * v .part + j)) in
     ap size (part-tree v l i h names m refl)
-    ∙ sides-size (at (zAt v i)) (nextTree v i) (productOf (column (λ j. identityTree v names (i * v .part + j)) m)) (productOf (column (λ j. permutationTree v names (i * v .part + j)) m)) m (at-size (zAt v i)) (next-size v i) a b
+    ∙ sides-size (at (numberOfZ v i)) (nextTree v i) (productOf (column (λ j. identityTree v names (i * v .part + j)) m)) (productOf (column (λ j. permutationTree v names (i * v .part + j)) m)) m (at-size (numberOfZ v i)) (next-size v i) a b
 
 pub start-size : (v : Numbers) → size (startTree v) ≡ 6
 unfolding startTree body
@@ -136,24 +137,24 @@ start-size v = refl
 
 -- ---- what is written
 next-by : (v : Numbers) (i : ℕ) (t : Bool) → ltb (suc i) (v .parts) ≡ t
-    → nextTree v i ≡ cond t (at (zAt v (suc i))) (Expr.poly (zAt v 0) (pos 1))
+    → nextTree v i ≡ cond t (at (numberOfZ v (suc i))) (Expr.poly (numberOfZ v 0) (pos 1))
 unfolding nextTree
-next-by v i t e = ap (λ (s : Bool). cond s (at (zAt v (suc i))) (Expr.poly (zAt v 0) (pos 1))) e
+next-by v i t e = ap (λ (s : Bool). cond s (at (numberOfZ v (suc i))) (Expr.poly (numberOfZ v 0) (pos 1))) e
 
 module _ (v : Numbers) (i : ℕ) {from n next : ℕ} {d d1 : List ℕ} where
   -- the following part's z
-  pub next-written : (q : ℕ) → q ≡ zAt v (suc i) → suc i < v .parts → Written from (at q) n d d1 next → Written from (nextTree v i) n d d1 next
+  pub next-written : (q : ℕ) → q ≡ numberOfZ v (suc i) → suc i < v .parts → Written from (at q) n d d1 next → Written from (nextTree v i) n d d1 next
   next-written q e h w = written-as (next-by v i true (lt-ltb (suc i) (v .parts) h) ∙ ap at (sym e)) w
 
   -- the first z with rotation 1
-  pub around-written : (q : ℕ) → q ≡ zAt v 0 → v .parts ≤ suc i → Pushed from n 5 q 0 2147483649 d d1 next
+  pub around-written : (q : ℕ) → q ≡ numberOfZ v 0 → v .parts ≤ suc i → Pushed from n 5 q 0 2147483649 d d1 next
       → Written from (nextTree v i) n d d1 next
   around-written q e h p =
       written-as (next-by v i false (le-ltb (suc i) (v .parts) h) ∙ ap (λ (z : ℕ). Expr.poly z (pos 1)) (sym e))
       (written-poly {q = q} {r = pos 1} p)
 
 module _ (v : Numbers) {from n x y z u w next : ℕ} {d d1 d2 d3 d4 d5 d6 : List ℕ} where
-  pub start-written : (q : ℕ) → q ≡ zAt v 0 → Pushed from n 3 0 0 2147483649 d d1 x → Written from (at q) x d1 d2 y
+  pub start-written : (q : ℕ) → q ≡ numberOfZ v 0 → Pushed from n 3 0 0 2147483649 d d1 x → Written from (at q) x d1 d2 y
       → Pushed from y 1 0 0 1 d2 d3 z
       → Pushed from z 7 (z - 1) 0 0 d3 d4 u
       → Pushed from u 8 (y - 1) (u - 1) 0 d4 d5 w
@@ -166,8 +167,8 @@ module _ (v : Numbers) {from n x y z u w next : ℕ} {d d1 d2 d3 d4 d5 d6 : List
 
 module _ (v : Numbers) (l : Limits v) (i : ℕ) (h : i < v .parts) (names : List ℕ) (count : ℕ) {from n x y z next : ℕ}
     {d d1 d2 d3 d4 : List ℕ} where
-  pub part-written : count ≡ length (partOf v i)
-      → Written from (Expr.product (at (zAt v i)) (productOf (column (λ j. identityTree v names (i * v .part + j)) count))) n d d1 x
+  pub part-written : count ≡ length (chunk v i)
+      → Written from (Expr.product (at (numberOfZ v i)) (productOf (column (λ j. identityTree v names (i * v .part + j)) count))) n d d1 x
       → Written from (Expr.product (nextTree v i) (productOf (column (λ j. permutationTree v names (i * v .part + j)) count))) x d1 d2 y
       → Pushed from y 7 (y - 1) 0 0 d2 d3 z
       → Pushed from z 8 (x - 1) (z - 1) 0 d3 d4 next

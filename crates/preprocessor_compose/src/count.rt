@@ -12,8 +12,8 @@ ghost use Rattle.expression.specs.Expr.{Expr, distributePowers};
 ghost use Rattle.expression.specs.Nodes.{exprOf};
 ghost use Rattle.expression.specs.Flat.{size};
 ghost use Rattle.backend.specs.Circuit.{Circuit};
-ghost use Rattle.preprocessor.specs.Compose.{composedNodes};
-ghost use Rattle.preprocessor.specs.Pieces.{Limits, Words, IsNode, sideExprs, sideTree, lookupsOf, lookupTreeOf, PiecesOf, permutationNodes};
+ghost use Rattle.preprocessor.specs.Compose.{composedNodes, lookupTreeOf};
+ghost use Rattle.preprocessor.specs.Pieces.{Limits, Words, IsNode, sideExprs, sideTree, lookupsOf, PiecesOf, permutationNodes};
 ghost use Rattle.preprocessor.specs.Count.{nodesIn, listNodes, most};
 
 // The sum of two counts.

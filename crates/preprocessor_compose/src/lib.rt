@@ -17,7 +17,8 @@ ghost use Rattle.expression.specs.Expr.{Expr};
 ghost use Rattle.expression.specs.Flat.{size, sizes, extra};
 ghost use Rattle.expression.specs.Written.{mostWords, Written, WrittenList};
 ghost use Rattle.backend.specs.Circuit.{Circuit};
-ghost use Rattle.preprocessor.specs.Pieces.{handedTrees, zeroTree, outerTrees, composeTree, exprsFrom, Handed, PiecesOf, Composed};
+ghost use Rattle.preprocessor.specs.Compose.{zeroTree, outerTrees, composeTree};
+ghost use Rattle.preprocessor.specs.Pieces.{handedTrees, exprsFrom, Handed, PiecesOf, Composed};
 
 // The zero check: the constraints by powers of alpha, times EqXY(0).
 fn zero_check(

@@ -12,12 +12,13 @@ ghost use lib.ListN.{length};
 ghost use Rattle.lists.specs.Lists.{column};
 ghost use Rattle.expression.specs.Expr.{Expr, productOf};
 ghost use Rattle.expression.specs.Written.{mostWords, Written};
-ghost use Rattle.preprocessor.specs.Pieces.{labelTree, identityTree, permutationTree, Limits};
+ghost use Rattle.preprocessor.specs.Compose.{identityTree, permutationTree};
+ghost use Rattle.preprocessor.specs.Pieces.{Limits};
 
 // beta * (label + id)
 fn beta_label(out: &mut [u64], from: usize, at: usize, user: u64, label: u64) -> usize
     requires { ⌜ (at + 5) * 4 ≤ mostWords ⌝ }
-    ensures { λ r. ⌜ Written from (labelTree user label) at (now (out .entry)) (now (out .exit)) r ⌝ }
+    ensures { λ r. ⌜ Written from (Expr.product (Expr.challenge user) (Expr.sum (Expr.constant label) Expr.identity)) at (now (out .entry)) (now (out .exit)) r ⌝ }
 {
     let beta = challenge(out, from, at, user);
     let x = push(out, from, beta, 1, 0, 0, label);

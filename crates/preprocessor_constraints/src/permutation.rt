@@ -14,7 +14,8 @@ ghost use lib.ListN.{length};
 ghost use Rattle.lists.specs.Lists.{column};
 ghost use Rattle.expression.specs.Expr.{Expr, productOf};
 ghost use Rattle.expression.specs.Written.{mostWords, Written};
-ghost use Rattle.preprocessor.specs.Pieces.{zAt, identityTree, permutationTree, nextTree, partOf, partTree, startTree, Limits};
+ghost use Rattle.preprocessor.specs.Compose.{numberOfZ, identityTree, permutationTree, nextTree, chunk, partTree, startTree};
+ghost use Rattle.preprocessor.specs.Pieces.{Limits};
 
 // "Next is the following part's z at that row; after the last part it is the first z with rotation 1."
 fn next_z(out: &mut [u64], from: usize, v: Numbers, i: usize, at: usize) -> usize
@@ -31,7 +32,7 @@ fn next_z(out: &mut [u64], from: usize, v: Numbers, i: usize, at: usize) -> usiz
 // How many copied columns part i has.
 fn part_count(v: Numbers, i: usize) -> usize
     requires { ⌜ Limits v × (i < v .parts) ⌝ }
-    ensures { λ r. ⌜ (r ≡ length (partOf v i)) × ((0 < r) × (i * v .part + r ≤ v .copied)) ⌝ }
+    ensures { λ r. ⌜ (r ≡ length (chunk v i)) × ((0 < r) × (i * v .part + r ≤ v .copied)) ⌝ }
 {
     let left = v.copied - i * v.part;
     if left <= v.part {
@@ -52,7 +53,7 @@ fn z_identities(
     at: usize,
 ) -> usize
     requires { ⌜ Limits v × ((i < 72) × ((0 < count) × ((first + count ≤ v .copied) × ((v .copied ≤ length (now copied)) × ((at + count * 10 + 1) * 4 ≤ mostWords))))) ⌝ }
-    ensures { λ r. ⌜ (r ≡ at + count * 10 + 1) × Written from (Expr.product (Expr.poly (zAt v i) (pos 0)) (productOf (column (λ j. identityTree v (now (copied .entry)) (first + j)) count))) at (now (out .entry)) (now (out .exit)) r ⌝ }
+    ensures { λ r. ⌜ (r ≡ at + count * 10 + 1) × Written from (Expr.product (Expr.poly (numberOfZ v i) (pos 0)) (productOf (column (λ j. identityTree v (now (copied .entry)) (first + j)) count))) at (now (out .entry)) (now (out .exit)) r ⌝ }
 {
     let z = query(
         out,
@@ -92,7 +93,7 @@ pub fn part_constraint(
     i: usize,
     at: usize,
 ) -> usize
-    requires { ⌜ Limits v × ((i < v .parts) × ((v .copied ≤ length (now copied)) × ((at + length (partOf v i) * 18 + 4) * 4 ≤ mostWords))) ⌝ }
+    requires { ⌜ Limits v × ((i < v .parts) × ((v .copied ≤ length (now copied)) × ((at + length (chunk v i) * 18 + 4) * 4 ≤ mostWords))) ⌝ }
     ensures { λ r. ⌜ Written from (partTree v (now (copied .entry)) i) at (now (out .entry)) (now (out .exit)) r ⌝ }
 {
     let count = part_count(v, i);

@@ -3,7 +3,7 @@ use mathlib.Core.Path.{ap, _∙_}
 use native.Mathlib.Omega.{arith}
 use borrow.Author.Needs.{needs}
 use borrow.Author.Tests.{not-true, not-false}
-use Rattle.preprocessor.specs.Pieces.{numbersOf}
+use Rattle.preprocessor.specs.Compose.{numbersOf}
 use Rattle.preprocessor.specs.declared.Numbers.{Numbers}
 use Rattle.hyperplonk_build.proofs.Built.{columns-room, nodes-room, is-fifteen, is-made}
 use Rattle.hyperplonk_build.proofs.build_checked.Statement.{statement}

@@ -3,7 +3,8 @@ use Rattle.expression.specs.Expr.{Expr}
 use Rattle.expression.specs.Flat.{body}
 use Rattle.preprocessor.proofs.Handed as handed
 use Rattle.preprocessor.proofs.Lists as lists
-use Rattle.preprocessor.specs.Pieces.{handedTrees, zeroTree, outerTrees, hAt}
+use Rattle.preprocessor.specs.Compose.{zeroTree, outerTrees, numberOfH}
+use Rattle.preprocessor.specs.Pieces.{handedTrees}
 use borrow.Author.Needs.{needs}
 use lib.IntN.{pos}
 use mathlib.Core.Path.{_≡_}
@@ -58,7 +59,7 @@ outer-items-outer-items-requires t c κs =
     let hs = handedTrees v (a .copied .now) (a .user .now) (a .roots .now) (a .widths .now) (a .pairs .now) in
     let es = outerTrees v hs in
     let long = handed.outer-length v hs in
-    let e = Expr.poly (hAt v (a .i)) (pos 0) in
+    let e = Expr.poly (numberOfH v (a .i)) (pos 0) in
     let same = handed.query-nth v hs (a .i) (c .before .before .before .before .before .before .before .if1 .taken) in
     let m : a .i + 1 < suc (v .lookups) = omega (arith, (c .before .before .before .before .before .before .before .if1 .taken)) in
     let q = lists.more-sizes es (suc (v .lookups)) long (a .i) e same m in
@@ -74,7 +75,7 @@ outer-items-item-requires t c κs =
     let hs = handedTrees v (a .copied .now) (a .user .now) (a .roots .now) (a .widths .now) (a .pairs .now) in
     let es = outerTrees v hs in
     let long = handed.outer-length v hs in
-    let e = Expr.poly (hAt v (a .i)) (pos 0) in
+    let e = Expr.poly (numberOfH v (a .i)) (pos 0) in
     let same = handed.query-nth v hs (a .i) (c .before .before .before .before .before .before .before .before .before .before .before .if1 .taken) in
     let m : a .i + 1 < suc (v .lookups) = omega (arith, (c .before .before .before .before .before .before .before .before .before .before .before .if1 .taken)) in
     let q = lists.more-sizes es (suc (v .lookups)) long (a .i) e same m in
@@ -92,7 +93,7 @@ outer-items-returns t c =
     let hs = handedTrees v (a .copied .now) (a .user .now) (a .roots .now) (a .widths .now) (a .pairs .now) in
     let es = outerTrees v hs in
     let long = handed.outer-length v hs in
-    let e = Expr.poly (hAt v (a .i)) (pos 0) in
+    let e = Expr.poly (numberOfH v (a .i)) (pos 0) in
     let same = handed.query-nth v hs (a .i) (c .before .before .before .before .before .before .before .before .before .before .before .before .before .before .if1 .taken) in
     let m : a .i + 1 < suc (v .lookups) = omega (arith, (c .before .before .before .before .before .before .before .before .before .before .before .before .before .before .if1 .taken)) in
     lists.more-from es (suc (v .lookups)) long (a .i) e same m (c .before .before .before .before .before .before .before .before .before .before .query .ensures) (c .before .before .before .before .before .before .outer-items .ensures) (c .before .before .item .ensures)

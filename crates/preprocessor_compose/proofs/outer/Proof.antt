@@ -4,7 +4,8 @@ use Rattle.expression.specs.Expr.{Expr}
 use Rattle.expression.specs.Flat.{body, size}
 use Rattle.preprocessor.proofs.Handed as handed
 use Rattle.preprocessor.proofs.Lists as lists
-use Rattle.preprocessor.specs.Pieces.{handedTrees, outerTrees, composeTree}
+use Rattle.preprocessor.specs.Compose.{outerTrees, composeTree}
+use Rattle.preprocessor.specs.Pieces.{handedTrees}
 use mathlib.Core.Path.{ap}
 use native.Mathlib.Omega.{arith}
 use borrow.Author.Needs.{needs}

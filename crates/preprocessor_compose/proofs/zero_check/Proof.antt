@@ -1,6 +1,7 @@
 use Rattle.expression.proofs.Written as written
 use Rattle.preprocessor.proofs.Handed as handed
-use Rattle.preprocessor.specs.Pieces.{handedTrees, zeroTree}
+use Rattle.preprocessor.specs.Compose.{zeroTree}
+use Rattle.preprocessor.specs.Pieces.{handedTrees}
 use native.Mathlib.Omega.{arith}
 use borrow.Author.Needs.{needs}
 use Rattle.preprocessor_compose.proofs.zero_check.Statement.{statement}

@@ -3,7 +3,8 @@ use Rattle.expression.proofs.Written as written
 use Rattle.expression.specs.Flat.{size}
 use Rattle.preprocessor.proofs.Handed as handed
 use Rattle.preprocessor.proofs.Parts as parts
-use Rattle.preprocessor.specs.Pieces.{mAt, hAt, sideTree}
+use Rattle.preprocessor.specs.Compose.{numberOfM, numberOfH}
+use Rattle.preprocessor.specs.Pieces.{sideTree}
 use lib.ListN.{length}
 use mathlib.Core.Path.{_≡_, ap}
 use native.Mathlib.Omega.{arith}
@@ -68,7 +69,7 @@ lookup-constraint-requires c κs =
     let j = a .i - length (a .roots .now) in
     let q = handed.words-end (a .user .now) (a .widths .now) (a .pairs .now) (entry .pre .0 .words .all-pairs) j (omega (arith, (entry .pre .0 .words .all-lookups), (c .before .before .before .before .if2 .taken))) in
     let t = ap size (handed.lookup-nth v (a .copied .now) (a .user .now) (a .roots .now) (a .widths .now) (a .pairs .now) (a .i) j s w (omega (arith, (c .before .before .before .before .before .before .if1 .left))) (c .before .before .before .before .if2 .taken) (entry .pre .0 .words .all-lookups) (entry .pre .0 .words .all-pairs) (c .before .pairs-before .ensures) (c .before .before .index2 .ensures)) in
-    let u = handed.lookup-size (mAt v j) (hAt v j) (sideTree (a .user .now) (a .pairs .now) (v .user) (s * 2) w) (sideTree (a .user .now) (a .pairs .now) (v .user) (s * 2 + 1) w) in
+    let u = handed.lookup-size (numberOfM v j) (numberOfH v j) (sideTree (a .user .now) (a .pairs .now) (v .user) (s * 2) w) (sideTree (a .user .now) (a .pairs .now) (v .user) (s * 2 + 1) w) in
     ((entry .pre .0 .words .pairs-named), ((entry .pre .0 .words .limits), ((c .before .before .before .before .if2 .taken), (omega (arith, (c .before .pairs-before .ensures), (c .before .before .index2 .ensures)), omega (arith, (entry .pre .1 .1))))))
 
 same-length-2 : tie.Need-same-length-2

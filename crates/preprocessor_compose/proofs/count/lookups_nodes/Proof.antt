@@ -4,7 +4,8 @@ use Rattle.expression.specs.Expr.{Expr}
 use Rattle.preprocessor.proofs.Counts as counts
 use Rattle.preprocessor.proofs.Handed as handed
 use Rattle.preprocessor.specs.Count.{nodesIn, most}
-use Rattle.preprocessor.specs.Pieces.{lookupsOf, lookupTreeOf}
+use Rattle.preprocessor.specs.Compose.{lookupTreeOf}
+use Rattle.preprocessor.specs.Pieces.{lookupsOf}
 use Rattle.lists.specs.Lists.{column, total}
 use borrow.Author.Needs.{needs}
 use lib.ListN.{length, take}

@@ -1,7 +1,7 @@
 use Rattle.expression.proofs.Written as written
 use Rattle.expression.specs.Flat.{body}
 use Rattle.preprocessor.proofs.Parts as parts
-use Rattle.preprocessor.specs.Pieces.{identityTree}
+use Rattle.preprocessor.specs.Compose.{identityTree}
 use native.Mathlib.Omega.{arith}
 use borrow.Author.Needs.{needs}
 use Rattle.preprocessor_constraints.proofs.factors.identity_factor.Statement.{statement}
