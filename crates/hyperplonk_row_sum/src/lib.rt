@@ -7,13 +7,13 @@ use expression::value::Point;
 use expression_evaluate::value;
 use field::goldilocks::Goldilocks;
 use hyperplonk_nodes::same_nodes;
+use hyperplonk_prepare::circuit_params;
 use hyperplonk_prepare::copied_of;
 use hyperplonk_prepare::needed::column_words;
 use hyperplonk_prepare::needed::composed_nodes;
-use hyperplonk_prepare::numbers;
 use hyperplonk_spec::RowSum;
 use multilinear::eq_at;
-use preprocessor::Numbers;
+use preprocessor::CircuitParams;
 use prover_compressed::row_after;
 use prover_instance::blank_column::rows_of;
 ghost use mathlib.Core.Path.{_≡_};
@@ -25,52 +25,52 @@ ghost use Rattle.bh.specs.Rows.{rowAt};
 ghost use Rattle.expression.specs.Nodes.{exprOf};
 ghost use Rattle.expression.specs.Value.{valueAt};
 ghost use Rattle.backend.specs.Circuit.{circuitOf, copied};
-ghost use Rattle.preprocessor.specs.Compose.{composedNodes, numbersOf};
+ghost use Rattle.preprocessor.specs.Compose.{composedNodes, paramsOf};
 ghost use Rattle.hyperplonk_spec.specs.RowSum.{q16, lentEnvironment, sumOf, rowSumOf};
 ghost use Rattle.hyperplonk_prepare.specs.Prepared.{Accepted, Prepared};
 ghost use Rattle.hyperplonk_row_sum.specs.Sum.{lengthsRight, valuesSmall, sumLayout, Summable};
 ghost use Rattle.hyperplonk_row_sum.specs.Told.{Told};
 
 // Where the polynomials stand that the row sum reads.
-pub fn sum_layout(circuit: &[u64], v: Numbers) -> Layout
-    requires { ⌜ Accepted (now circuit) × (v ≡ numbersOf (circuitOf (now circuit))) ⌝ }
+pub fn sum_layout(circuit: &[u64], params: CircuitParams) -> Layout
+    requires { ⌜ Accepted (now circuit) × (params ≡ paramsOf (circuitOf (now circuit))) ⌝ }
     ensures { λ r. ⌜ r ≡ sumLayout (now (circuit .entry)) ⌝ }
 {
     let instances = circuit[3] as usize;
     let start = circuit[4] as usize;
     let preprocess = circuit[5] as usize;
     Layout {
-        rows: v.rows,
+        rows: params.rows,
         instances: instances,
         preprocess: preprocess,
         start: start,
-        witness: v.polys - instances - preprocess,
-        permutations: v.copied,
-        skipped: v.lookups * 2,
-        rest: v.lookups * 2 + v.parts,
+        witness: params.num_poly - instances - preprocess,
+        permutations: params.num_permutation_polys,
+        skipped: params.num_lookups * 2,
+        rest: params.num_lookups * 2 + params.num_chunks,
     }
 }
 
 // Question 16, of the lengths of the words.
 fn lengths_right(
     circuit: &[u64],
-    v: Numbers,
+    params: CircuitParams,
     witness: usize,
     columns: usize,
     nodes: usize,
     challenges: usize,
     y: usize,
 ) -> bool
-    requires { ⌜ Accepted (now circuit) × ((v ≡ numbersOf (circuitOf (now circuit))) × (nodes < 2 ^ 62)) ⌝ }
+    requires { ⌜ Accepted (now circuit) × ((params ≡ paramsOf (circuitOf (now circuit))) × (nodes < 2 ^ 62)) ⌝ }
     ensures { λ r. ⌜ r ≡ lengthsRight (circuitOf (now (circuit .entry))) witness columns nodes challenges y ⌝ }
 {
-    let layout = sum_layout(circuit, v);
-    let words = column_words(circuit, v);
-    let composed = composed_nodes(circuit, v);
+    let layout = sum_layout(circuit, params);
+    let words = column_words(circuit, params);
+    let composed = composed_nodes(circuit, params);
     let k = k_of(circuit) as usize;
     (witness == layout.witness * layout.rows)
         & (columns == words)
-        & (challenges == v.user + 3)
+        & (challenges == params.num_challenges + 3)
         & (y == k)
         & (nodes as u64 == composed * 4)
 }
@@ -95,14 +95,14 @@ pub fn question_16(
     challenges: &[u64],
     y: &[u64],
     copied: &[u64],
-    v: Numbers,
+    params: CircuitParams,
 ) -> bool
-    requires { ⌜ Prepared (now circuit) (now copied) v ⌝ }
+    requires { ⌜ Prepared (now circuit) (now copied) params ⌝ }
     ensures { λ r. ⌜ r ≡ q16 (circuitOf (now (circuit .entry))) (now (witness .entry)) (now (columns .entry)) (now (nodes .entry)) (now (challenges .entry)) (now (y .entry)) ⌝ }
 {
     if !lengths_right(
         circuit,
-        v,
+        params,
         witness.len(),
         columns.len(),
         nodes.len(),
@@ -111,7 +111,7 @@ pub fn question_16(
     ) {
         return false;
     }
-    if !same_nodes(circuit, copied, v, nodes) {
+    if !same_nodes(circuit, copied, params, nodes) {
         return false;
     }
     values_small(witness, columns, challenges, y)
@@ -199,15 +199,24 @@ fn sum_prepared<'a>(
     challenges: &'a [u64],
     y: &[u64],
     copied: &[u64],
-    v: Numbers,
+    params: CircuitParams,
 ) -> RowSum
-    requires { ⌜ Prepared (now circuit) (now copied) v ⌝ }
+    requires { ⌜ Prepared (now circuit) (now copied) params ⌝ }
     ensures { λ r. ⌜ r ≡ rowSumOf (now (circuit .entry)) (now (witness .entry)) (now (columns .entry)) (now (nodes .entry)) (now (challenges .entry)) (now (y .entry)) ⌝ }
 {
-    if !question_16(circuit, witness, columns, nodes, challenges, y, copied, v) {
+    if !question_16(
+        circuit,
+        witness,
+        columns,
+        nodes,
+        challenges,
+        y,
+        copied,
+        params,
+    ) {
         return RowSum { number: 16, sum: 0 };
     }
-    let layout = sum_layout(circuit, v);
+    let layout = sum_layout(circuit, params);
     let k = k_of(circuit) as usize;
     let sum = sum_rows(circuit, witness, columns, nodes, challenges, y, layout, k);
     RowSum {
@@ -231,7 +240,7 @@ fn sum_named<'a>(
     ensures { λ r. ⌜ r ≡ rowSumOf (now (circuit .entry)) (now (witness .entry)) (now (columns .entry)) (now (nodes .entry)) (now (challenges .entry)) (now (y .entry)) ⌝ }
 {
     let all = &of[..];
-    let v = numbers(circuit, count);
+    let params = circuit_params(circuit, count);
     sum_prepared(
         circuit,
         witness,
@@ -240,7 +249,7 @@ fn sum_named<'a>(
         challenges,
         y,
         &all[0..count],
-        v,
+        params,
     )
 }
 
