@@ -8,10 +8,10 @@ use expression_evaluate::value;
 use hyperplonk_columns::stages::compressed_columns;
 use hyperplonk_columns::stages::instance_columns;
 use hyperplonk_columns::stages::layout_of;
+use hyperplonk_prepare::circuit_params;
 use hyperplonk_prepare::copied_of;
 use hyperplonk_prepare::inputs::question_12;
 use hyperplonk_prepare::needed::column_words;
-use hyperplonk_prepare::numbers;
 use lists::word_at;
 ghost use mathlib.Core.Path.{_≡_};
 ghost use mathlib.Core.Logic.{_≢_};
@@ -346,14 +346,14 @@ fn filled<'a>(
 ) -> Unlisted
     requires { ⌜ Accepted (now circuit) × (q12 (circuitOf (now circuit)) (now instance) (now witness) (now challenges) ≡ true) × (count ≤ 72) × (take count of ≡ copiedOf (circuitOf (now circuit))) ⌝ }
 {
-    let v = numbers(circuit, count);
-    if column_words(circuit, v) > columns.len() {
+    let params = circuit_params(circuit, count);
+    if column_words(circuit, params) > columns.len() {
         return none();
     }
     fill(circuit, instance, witness, challenges, columns, count);
     let named = after(word_at(circuit, 3) as usize, count);
     let compressed = times_rows(named, word_at(circuit, 0));
-    let seen = see_all(columns, v.lookups, compressed, v.rows);
+    let seen = see_all(columns, params.num_lookups, compressed, params.rows);
     first_of(circuit, witness, columns, challenges, seen)
 }
 

@@ -14,21 +14,9 @@ use Rattle.lists.proofs.All.{all-get, all-join, all-left, all-right, all-column
 use Rattle.lists.proofs.Totals.{get-cut}
 use Rattle.expression.specs.Expr.{Expr, evaluate, degreeOps, degree, distributePowers, productFrom, productOf}
 use Rattle.backend.specs.Circuit.{Circuit, numUser, numLookups, numCopied, hNumber, zNumber}
-use Rattle.backend.specs.Constraints.{lookupConstraints, maxDegree}
+use Rattle.backend.specs.Constraints.{lookupConstraint, lookupConstraints, maxDegree}
 use Rattle.backend.proofs.Degree.{powers-degree}
-use Rattle.preprocessor.specs.Compose.{
-  numZ,
-  constraintCut,
-  identityFactor,
-  permutationFactor,
-  nextZ,
-  startConstraint,
-  partConstraint,
-  permutationConstraints,
-  composedConstraints,
-  zeroCheck,
-  compose,
-}
+use Rattle.preprocessor.specs.Compose.{numZ, constraintCut, identityFactor, permutationFactor, nextZ, startConstraint, partConstraint, permutationConstraints, composedConstraints, zeroCheck, composeTree, constraintTrees, identityTree, lookupTreeOf, nextTree, paramsOf, outerTrees, partTree, permutationTree, permutationTrees, startTree, zeroTree}
 use Rattle.hyperplonk_spec.specs.Composed.{PartDegree, ComposedDegree, ComposeDegree}
 use Rattle.completeness.proofs.Cuts.{degree-two}
 
@@ -53,15 +41,15 @@ module _ (f : ℕ → Expr) (h : (t : ℕ) → degree (f t) ≡ 1) where
 
 module _ (c : Circuit) where
   identity-degree : (t : ℕ) → degree (identityFactor c t) ≡ 1
-  unfolding degree degreeOps evaluate identityFactor
+  unfolding degree degreeOps evaluate identityTree paramsOf
   identity-degree t = refl
 
   permutation-degree : (t : ℕ) → degree (permutationFactor c t) ≡ 1
-  unfolding degree degreeOps evaluate permutationFactor
+  unfolding degree degreeOps evaluate permutationTree paramsOf
   permutation-degree t = refl
 
   next-degree : (i : ℕ) → degree (nextZ c i) ≡ 1
-  unfolding nextZ degree degreeOps evaluate
+  unfolding nextTree paramsOf degree degreeOps evaluate
   next-degree i = go (ltb (suc i) (numZ c))
     where
       go : (t : Bool) → degree (cond t (Expr.poly (zNumber c (suc i)) (pos 0)) (Expr.poly (zNumber c 0) (pos 1))) ≡ 1
@@ -69,7 +57,7 @@ module _ (c : Circuit) where
       go false = refl
 
   part-is : (i : ℕ) → degree (partConstraint c i) ≡ 1 + length (getD (constraintCut c) i [])
-  unfolding degree degreeOps evaluate partConstraint
+  unfolding degree degreeOps evaluate partTree paramsOf
   part-is i =
       ap₂ max
       (ap (λ (n : ℕ). 1 + n) (product-degree (identityFactor c) identity-degree (getD (constraintCut c) i [])))
@@ -81,7 +69,7 @@ module _ (c : Circuit) where
 
   -- a part has at most D − 1 columns
   part-size : (i : ℕ) → length (getD (constraintCut c) i []) ≤ maxDegree c - 1
-  unfolding constraintCut
+  unfolding paramsOf
   part-size i =
       let e : length (getD (constraintCut c) i []) ≡ min (maxDegree c - 1) (length (drop (i * (maxDegree c - 1)) (below (numCopied c)))) =
       ap length (get-cut (maxDegree c - 1) (below (numCopied c)) i (let q = degree-two c in omega arith)) ∙ simp length-take in
@@ -95,7 +83,7 @@ module _ (c : Circuit) where
       }
 
   start-is : degree (startConstraint c) ≡ 2
-  unfolding degree degreeOps evaluate startConstraint
+  unfolding degree degreeOps evaluate startTree paramsOf
   start-is = refl
 
   -- each entry is at most the largest
@@ -109,7 +97,7 @@ module _ (c : Circuit) where
   given = below-largest (c .constraints ++ lookupConstraints c) (maxDegree c) (omega arith)
 
   permutation : All (λ e. degree e ≤ maxDegree c) (permutationConstraints c)
-  unfolding permutationConstraints
+  unfolding permutationTrees paramsOf
   permutation = go (eqb (numCopied c) 0)
     where
       go : (t : Bool) → All (λ e. degree e ≤ maxDegree c) (cond t [] (startConstraint c ∷ column (partConstraint c) (numZ c)))
@@ -120,7 +108,7 @@ module _ (c : Circuit) where
       )
 
   all-degrees : All (λ e. degree e ≤ maxDegree c) (composedConstraints c)
-  unfolding composedConstraints
+  unfolding constraintTrees lookupTreeOf lookupConstraint lookupConstraints paramsOf
   all-degrees =
       all-join (λ e. degree e ≤ maxDegree c) (c .constraints) (lookupConstraints c ++ permutationConstraints c)
       (all-left (λ e. degree e ≤ maxDegree c) (c .constraints) (lookupConstraints c) given)
@@ -142,7 +130,7 @@ powers-below es i D a = let p = powers-degree es i in let q = largest-below es D
 
 module _ (c : Circuit) where
   check-degree : degree (zeroCheck c) ≤ maxDegree c + 1
-  unfolding degree degreeOps evaluate zeroCheck
+  unfolding degree degreeOps evaluate zeroTree paramsOf
   check-degree = let p = powers-below (composedConstraints c) (numUser c + 2) (maxDegree c) (all-degrees c) in omega arith
 
   h-degree : (j : ℕ) → degree (Expr.poly (hNumber c j) (pos 0)) ≤ maxDegree c + 1
@@ -150,7 +138,7 @@ module _ (c : Circuit) where
   h-degree j = let q = degree-two c in omega arith
 
 pub compose-degree : ComposeDegree
-unfolding compose
+unfolding composeTree outerTrees paramsOf
 compose-degree c =
     powers-below (column (λ j. Expr.poly (hNumber c j) (pos 0)) (numLookups c) ++ (zeroCheck c ∷ [])) (numUser c + 2) (maxDegree c + 1)
     (all-join (λ e. degree e ≤ maxDegree c + 1) (column (λ j. Expr.poly (hNumber c j) (pos 0)) (numLookups c)) (zeroCheck c ∷ [])

@@ -13,10 +13,10 @@ use Rattle.lists.proofs.All.{all-get, all-join, all-column}
 use Rattle.expression.specs.Expr.{Expr}
 use Rattle.expression.specs.Value.{valueAt}
 use Rattle.backend.specs.Circuit.{Circuit, numCopied}
-use Rattle.backend.specs.Constraints.{lookupConstraints}
+use Rattle.backend.specs.Constraints.{lookupConstraint, lookupConstraints}
 use Rattle.backend.specs.Questions.{q11}
 use Rattle.backend.proofs.Passed.{Yes, yes-all}
-use Rattle.preprocessor.specs.Compose.{numZ, startConstraint, partConstraint, permutationConstraints, composedConstraints}
+use Rattle.preprocessor.specs.Compose.{numZ, startConstraint, partConstraint, permutationConstraints, composedConstraints, constraintTrees, lookupTreeOf, paramsOf, permutationTrees}
 use Rattle.prover.specs.Log.{Log}
 use Rattle.prover.specs.Columns.{allCovered, composedEnvironment}
 use Rattle.hyperplonk_spec.specs.Meaning.{Admitted, EachRow, Premises, Conclusions, Demand3Of, DemandThreeOf}
@@ -45,7 +45,7 @@ module _ (𝓕 : Field) (g : Log 𝓕) (ad : Admitted 𝓕 g) where
     Zero e = EachRow 𝓕 g (λ b. valueAt 𝓕 (composedEnvironment 𝓕 g α y) e b ≡ nil)
 
     permutation-zeros : All Zero (permutationConstraints (g .circuit))
-    unfolding permutationConstraints
+    unfolding permutationTrees paramsOf
     permutation-zeros = go (eqb (numCopied (g .circuit)) 0) refl
       where
         go : (t : Bool) → eqb (numCopied (g .circuit)) 0 ≡ t
@@ -64,7 +64,7 @@ module _ (𝓕 : Field) (g : Log 𝓕) (ad : Admitted 𝓕 g) where
                 go' (suc n) w = omega arith
 
     pub all-zeros : All Zero (composedConstraints (g .circuit))
-    unfolding composedConstraints
+    unfolding constraintTrees lookupTreeOf lookupConstraint lookupConstraints paramsOf
     all-zeros =
         all-join Zero (g .circuit .constraints) _ (user-zeros 𝓕 g ad α y p)
         (all-join Zero (lookupConstraints (g .circuit)) (permutationConstraints (g .circuit)) (lookup-zeros 𝓕 g ad α y p) permutation-zeros)

@@ -30,7 +30,7 @@ use Rattle.expression.specs.Expr.{Expr, evaluate}
 use Rattle.expression.specs.Value.{Environment, polyOf, valueOps, valueAt}
 use Rattle.backend.specs.Circuit.{Circuit, rowsOf, numUser, numPoly, numLookups, copied, numCopied, permNumber, zNumber}
 use Rattle.backend.specs.Constraints.{maxDegree}
-use Rattle.preprocessor.specs.Compose.{numZ, constraintCut, identityFactor, permutationFactor, startConstraint, partConstraint}
+use Rattle.preprocessor.specs.Compose.{numZ, constraintCut, identityFactor, permutationFactor, startConstraint, partConstraint, identityTree, paramsOf, permutationTree}
 use Rattle.prover.specs.Log.{Log}
 use Rattle.prover.specs.Columns.{givenPolys, permutationPolys, mPolys, hPolys, zPolys, allPolys, copiedAt, permutationAt, identityFactorAt, permutationFactorAt, zAt, composedEnvironment}
 use Rattle.prover.proofs.Lengths.{given-length, permutations-length, m-length, h-length}
@@ -48,7 +48,7 @@ use Rattle.completeness.proofs.PaperZ.{cut-in}
 
 -- the constraints' parts are N, and cover the copied columns
 constraint-parts : (c : Circuit) → concat (take (numZ c) (constraintCut c)) ≡ below (numCopied c)
-unfolding constraintCut numZ
+unfolding paramsOf numZ
 constraint-parts c =
     let d = degree-two c in
     let l = cut-length (maxDegree c - 1) (below (numCopied c)) in
@@ -148,7 +148,7 @@ module _ (𝓕 : Field) where
       permutation-is i b l = bz .same-columns (permNumber (g .circuit) i) b (omega arith) ∙ poly-permutation 𝓕 g i b l
 
       identity-is : (i b : ℕ) → i < numCopied (g .circuit) → valueAt 𝓕 s (identityFactor (g .circuit) i) b ≡ identityFactorAt 𝓕 g i b
-      unfolding identityFactor identityFactorAt valueAt valueOps evaluate rotated iter
+      unfolding identityTree paramsOf identityFactorAt valueAt valueOps evaluate rotated iter
       identity-is i b l =
           ap₂ add
           (ap₂ add (copied-is i b l)
@@ -157,7 +157,7 @@ module _ (𝓕 : Field) where
           gamma-is
 
       factor-is : (i b : ℕ) → i < numCopied (g .circuit) → valueAt 𝓕 s (permutationFactor (g .circuit) i) b ≡ permutationFactorAt 𝓕 g i b
-      unfolding permutationFactor permutationFactorAt valueAt valueOps evaluate rotated iter
+      unfolding permutationTree paramsOf permutationFactorAt valueAt valueOps evaluate rotated iter
       factor-is i b l = ap₂ add (ap₂ add (copied-is i b l) (ap₂ mul beta-is (permutation-is i b l))) gamma-is
 
       -- ---- the constraints, as the crate identities has them
@@ -165,7 +165,7 @@ module _ (𝓕 : Field) where
       part j = getD (constraintCut (g .circuit)) j []
 
       part-in : (j : ℕ) → All (λ t. t < numCopied (g .circuit)) (part j)
-      unfolding part constraintCut
+      unfolding part paramsOf
       part-in j =
           all-getD (All (λ t. t < numCopied (g .circuit))) (cut (maxDegree (g .circuit) - 1) (below (numCopied (g .circuit)))) j [] tt
           (cut-in (maxDegree (g .circuit) - 1) (numCopied (g .circuit)))

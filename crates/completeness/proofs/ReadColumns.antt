@@ -30,7 +30,7 @@ use Rattle.backend.specs.Circuit.{
 }
 use Rattle.backend.specs.Constraints.{betaOf, inputsOf, tablesOf}
 use Rattle.backend.proofs.Passed.{yes-all}
-use Rattle.preprocessor.specs.Compose.{numZ, identityFactor, permutationFactor}
+use Rattle.preprocessor.specs.Compose.{numZ, identityTree, paramsOf, permutationTree}
 use Rattle.prover.specs.Log.{Log}
 use Rattle.prover.specs.Columns.{powerSum, givenPolys, userEnvironment, compressedAt, inputAt, tableAt, mAt, lookupHAt, permutationAt, copiedAt, identityFactorAt, permutationFactorAt, zAt, permutationPolys, mPolys, hPolys, zPolys, allPolys, composedEnvironment}
 use Rattle.prover.proofs.Lengths.{given-length, permutations-length, m-length, h-length}
@@ -156,7 +156,7 @@ module _ (𝓕 : Field) where
         pairs-in j l = all-get (All (λ (p : Pair). InScope (p .input) × InScope (p .table))) (g .circuit .lookups) lookups-in j [] l
 
         pub reads : ReadAs 𝓕 g α y
-        unfolding composedEnvironment inputIn tableIn inputAt tableAt identityFactor permutationFactor identityFactorAt permutationFactorAt valueAt valueOps evaluate rotated iter
+        unfolding composedEnvironment inputIn tableIn inputAt tableAt identityTree paramsOf permutationTree identityFactorAt permutationFactorAt valueAt valueOps evaluate rotated iter
         reads =
             record {
               input = λ j l b m.

@@ -81,22 +81,7 @@ use Rattle.backend.specs.Questions.{
 }
 use Rattle.backend.specs.Layout.{names, laidOut, nodesInRange}
 use Rattle.multilinear.specs.EqXY.{eqAt}
-use Rattle.preprocessor.specs.Compose.{
-  numZ,
-  constraintCut,
-  zCut,
-  identityFactor,
-  permutationFactor,
-  nextZ,
-  partConstraint,
-  startConstraint,
-  permutationConstraints,
-  composedConstraints,
-  zeroCheck,
-  compose,
-  composedWords,
-  composedNodes,
-}
+use Rattle.preprocessor.specs.Compose.{numZ, zCut, composedWords, composedNodes, composeTree, constraintTrees, identityTree, lookupTreeOf, nextTree, paramsOf, outerTrees, partTree, permutationTree, permutationTrees, startTree, zeroTree}
 use Rattle.preprocessor.specs.Permutation.{lastCell, beforeFrom, before, source, firstLabel, label}
 use Rattle.prover.specs.Lookup.{lastEqual, multiplicity, covered, hAt, Turns}
 use Rattle.prover.specs.Columns.{
@@ -151,5 +136,5 @@ use Rattle.hyperplonk_spec.specs.Stages.{checkStage, mOf, hOf, eqOf}
 use Rattle.hyperplonk_spec.specs.RowSum.{q16, lentPolys, environmentFromWords, sumOf, sumQuestions, checkSum, rowSumOf}
 
 unfoldable pub everything : ℕ
-unfolding 𝔾 el val of decideB withBit powerWithin power product primitives xInvs primitive xInv stepWith backWith nextRow prevRow iter rowAt run order seek placeOf rotated modZ lagrangeRow upTo column allOf anyOf those total largest concat split cut indexOf lastWhere sameWords firstNo running evaluate degreeOps degree queryOps usedQuery challengeOps exprsOf distributePowers productFrom productOf valueOps valueAt kindOf nodeOf itemOf guard exprAt exprOf itemsOf body flat bodyOf statedOf circuitOf numWitness numUser numPoly copiedIn copied lookupConstraint lookupConstraints leastD maxDegree q1 q2 q3 follow q4 q3-bodies q4-bodies q5 q6 names q7 q8 q9 q10 cyclesGood q11 laidOut nodesInRange circuitQuestions expressions wellFormed eqAt numZ constraintCut zCut identityFactor permutationFactor nextZ partConstraint startConstraint permutationConstraints composedConstraints zeroCheck compose composedWords composedNodes lastCell beforeFrom before source firstLabel label lastEqual multiplicity covered hAt Turns pow powerSum instanceAt instancePolys preprocessPolys witnessPolys givenPolys userEnvironment compressedAt inputAt tableAt countAt mAt lookupHAt allCovered permutationAt copiedAt identityFactorAt permutationFactorAt ratioAt partAt stepAt runningAt zAtPlace zAt permutationPolys mPolys hPolys zPolys compressedPolys allPolys writtenPolys composedEnvironment logOf wordsOf columnWords q12 q13 q14 buildQuestions checkBuild zeroed made buildLog buildOf checkStage mOf hOf eqOf q16 lentPolys environmentFromWords sumOf sumQuestions checkSum rowSumOf decide ℕ-discrete
+unfolding 𝔾 el val of decideB withBit powerWithin power product primitives xInvs primitive xInv stepWith backWith nextRow prevRow iter rowAt run order seek placeOf rotated modZ lagrangeRow upTo column allOf anyOf those total largest concat split cut indexOf lastWhere sameWords firstNo running evaluate degreeOps degree queryOps usedQuery challengeOps exprsOf distributePowers productFrom productOf valueOps valueAt kindOf nodeOf itemOf guard exprAt exprOf itemsOf body flat bodyOf statedOf circuitOf numWitness numUser numPoly copiedIn copied lookupConstraint lookupConstraints leastD maxDegree q1 q2 q3 follow q4 q3-bodies q4-bodies q5 q6 names q7 q8 q9 q10 cyclesGood q11 laidOut nodesInRange circuitQuestions expressions wellFormed eqAt numZ paramsOf zCut identityTree permutationTree nextTree partTree startTree permutationTrees constraintTrees lookupTreeOf zeroTree composeTree outerTrees composedWords composedNodes lastCell beforeFrom before source firstLabel label lastEqual multiplicity covered hAt Turns pow powerSum instanceAt instancePolys preprocessPolys witnessPolys givenPolys userEnvironment compressedAt inputAt tableAt countAt mAt lookupHAt allCovered permutationAt copiedAt identityFactorAt permutationFactorAt ratioAt partAt stepAt runningAt zAtPlace zAt permutationPolys mPolys hPolys zPolys compressedPolys allPolys writtenPolys composedEnvironment logOf wordsOf columnWords q12 q13 q14 buildQuestions checkBuild zeroed made buildLog buildOf checkStage mOf hOf eqOf q16 lentPolys environmentFromWords sumOf sumQuestions checkSum rowSumOf decide ℕ-discrete
 everything = 0

@@ -13,8 +13,8 @@ use Rattle.lists.proofs.Tests.{and-left, and-right}
 use Rattle.lists.proofs.Over.{over-written}
 use Rattle.backend.specs.Circuit.{circuitOf, rowsOf, copied, numCopied}
 use Rattle.preprocessor.specs.Compose.{numZ, composedWords, composedNodes}
-use Rattle.preprocessor.specs.Pieces.{Composed}
-use Rattle.preprocessor.specs.declared.Numbers.{Numbers}
+use Rattle.preprocessor.specs.ComposeWords.{Composed}
+use Rattle.preprocessor.specs.declared.CircuitParams.{CircuitParams}
 use Rattle.preprocessor.proofs.Composed.{composed-over}
 use Rattle.prover.specs.Columns.{allCovered, writtenPolys}
 use Rattle.prover.specs.Words.{wordsOf}
@@ -117,5 +117,5 @@ pub count-is : (ws names : List ℕ) (n : ℕ) → n ≤ length names → take n
 count-is ws names n h e = sym (length-take n names ∙ omega arith) ∙ ap length e
 
 -- the part of the names from the first on
-pub first-names : (ws names : List ℕ) (n : ℕ) (v : Numbers) → Prepared ws (take n names) v → Prepared ws (take (n - 0) names) v
+pub first-names : (ws names : List ℕ) (n : ℕ) (v : CircuitParams) → Prepared ws (take n names) v → Prepared ws (take (n - 0) names) v
 first-names ws names n v p = subst (λ (m : ℕ). Prepared ws (take m names) v) {x = n} {y = n - 0} (omega arith) p

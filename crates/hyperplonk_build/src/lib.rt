@@ -2,14 +2,14 @@
 use backend_questions::first_no;
 use hyperplonk_columns::write_columns;
 use hyperplonk_nodes::compose_nodes;
+use hyperplonk_prepare::circuit_params;
 use hyperplonk_prepare::copied_of;
 use hyperplonk_prepare::inputs::question_12;
 use hyperplonk_prepare::inputs::question_13;
 use hyperplonk_prepare::needed::column_words;
 use hyperplonk_prepare::needed::question_14;
-use hyperplonk_prepare::numbers;
 use hyperplonk_spec::Built;
-use preprocessor::Numbers;
+use preprocessor::CircuitParams;
 ghost use mathlib.Core.Path.{_≡_};
 ghost use mathlib.Core.Bool.{true};
 ghost use Prim.Native.Nat.{_≤_};
@@ -40,22 +40,30 @@ fn build_checked<'a>(
     columns: &mut [u64],
     nodes: &mut [u64],
     copied: &[u64],
-    v: Numbers,
+    params: CircuitParams,
 ) -> Built
-    requires { ⌜ Prepared (now circuit) (now copied) v × (q12 (circuitOf (now circuit)) (now instance) (now witness) (now challenges) ≡ true) × (q14 (circuitOf (now circuit)) (now columns) (now nodes) ≡ true) ⌝ }
+    requires { ⌜ Prepared (now circuit) (now copied) params × (q12 (circuitOf (now circuit)) (now instance) (now witness) (now challenges) ≡ true) × (q14 (circuitOf (now circuit)) (now columns) (now nodes) ≡ true) ⌝ }
     ensures { λ r. ⌜ record { answer = r; columns = now (columns .exit); nodes = now (nodes .exit) } ≡ buildLog (logOf (now (circuit .entry)) (now (instance .entry)) (now (witness .entry)) (now (challenges .entry))) (now (columns .entry)) (now (nodes .entry)) ⌝ }
 {
-    let covered = write_columns(circuit, instance, witness, challenges, columns, copied, v);
+    let covered = write_columns(
+        circuit,
+        instance,
+        witness,
+        challenges,
+        columns,
+        copied,
+        params,
+    );
     if !covered {
         return refused(15);
     }
-    let words = column_words(circuit, v);
-    let count = compose_nodes(circuit, copied, v, 0, nodes);
+    let words = column_words(circuit, params);
+    let count = compose_nodes(circuit, copied, params, 0, nodes);
     Built {
         number: 0,
         column_words: words,
         nodes: count,
-        z_columns: v.parts,
+        z_columns: params.num_chunks,
     }
 }
 
@@ -74,8 +82,8 @@ fn build_named<'a>(
     ensures { λ r. ⌜ record { answer = r; columns = now (columns .exit); nodes = now (nodes .exit) } ≡ buildOf (now (circuit .entry)) (now (instance .entry)) (now (witness .entry)) (now (challenges .entry)) (now (columns .entry)) (now (nodes .entry)) ⌝ }
 {
     let all = &names[..];
-    let v = numbers(circuit, count);
-    if !question_14(circuit, v, columns.len(), nodes.len()) {
+    let params = circuit_params(circuit, count);
+    if !question_14(circuit, params, columns.len(), nodes.len()) {
         return refused(14);
     }
     build_checked(
@@ -86,7 +94,7 @@ fn build_named<'a>(
         columns,
         nodes,
         &all[0..count],
-        v,
+        params,
     )
 }
 

@@ -1,9 +1,9 @@
 // What circuit words ask for, once questions 1 to 11 have been put to them.
 use backend_questions::first_no;
+use hyperplonk_prepare::circuit_params;
 use hyperplonk_prepare::copied_of;
 use hyperplonk_prepare::needed::column_words;
 use hyperplonk_prepare::needed::composed_nodes;
-use hyperplonk_prepare::numbers;
 ghost use mathlib.Core.Path.{_≡_};
 ghost use mathlib.Core.List.{List};
 ghost use Prim.Native.Nat.{_≤_};
@@ -48,21 +48,21 @@ fn refused(no: u64) -> Shape {
 fn accepted(circuit: &[u64], count: usize, of: [u64; 72]) -> Shape
     requires { ⌜ Accepted (now circuit) × ((count ≤ 72) × (take count of ≡ copied (circuitOf (now circuit)))) ⌝ }
 {
-    let v = numbers(circuit, count);
-    let words = column_words(circuit, v);
-    let nodes = composed_nodes(circuit, v);
+    let params = circuit_params(circuit, count);
+    let words = column_words(circuit, params);
+    let nodes = composed_nodes(circuit, params);
     let instances = lists::word_at(circuit, 3);
     Shape {
         no: 0,
         instances: instances as usize,
         copied: count,
         of: of,
-        lookups: v.lookups,
-        polys: v.polys,
-        user: v.user,
-        rows: v.rows,
-        part: v.part,
-        parts: v.parts,
+        lookups: params.num_lookups,
+        polys: params.num_poly,
+        user: params.num_challenges,
+        rows: params.rows,
+        part: params.chunk_size,
+        parts: params.num_chunks,
         column_words: words,
         nodes: nodes,
     }

@@ -14,9 +14,8 @@ use Rattle.lists.specs.Lists.{over, total, written}
 use Rattle.lists.proofs.Tests.{and-left, and-right}
 use Rattle.lists.proofs.Over.{drop-more, drop-past}
 use Rattle.backend.specs.Circuit.{Circuit, Section, bodyOf, circuitOf, rowsOf, numInstance, numWitness, numUser, copied, numCopied, numLookups}
-use Rattle.preprocessor.specs.Compose.{numZ}
-use Rattle.preprocessor.specs.Pieces.{numbersOf}
-use Rattle.preprocessor.specs.declared.Numbers.{Numbers}
+use Rattle.preprocessor.specs.Compose.{numZ, paramsOf}
+use Rattle.preprocessor.specs.declared.CircuitParams.{CircuitParams}
 use Rattle.prover.specs.Log.{Log}
 use Rattle.prover.specs.Columns.{permutationAt, instancePolys, permutationPolys, compressedPolys, mPolys, hPolys, writtenPolys, allCovered}
 use Rattle.prover.specs.Words.{wordsOf, Small}
@@ -154,43 +153,43 @@ module _ (ws instances witness challenges : List ℕ) (a : Accepted ws) where
 product-fit : (n rows : ℕ) → n ≤ 184 → rows ≤ 1024 → n * rows ≤ 188416
 product-fit n rows h l = mul-le-mul h l
 
-module _ (ws : List ℕ) (a : Accepted ws) (v : Numbers) (e : v ≡ numbersOf (circuitOf ws)) where
-  lookups-are : v .lookups ≡ numLookups (circuitOf ws)
-  unfolding numbersOf
-  lookups-are = ap (λ (v : Numbers). v .lookups) e
+module _ (ws : List ℕ) (a : Accepted ws) (v : CircuitParams) (e : v ≡ paramsOf (circuitOf ws)) where
+  lookups-are : v .«num_lookups» ≡ numLookups (circuitOf ws)
+  unfolding paramsOf
+  lookups-are = ap (λ (v : CircuitParams). v .«num_lookups») e
 
   rows-are : v .rows ≡ rowsOf (circuitOf ws)
-  unfolding numbersOf
-  rows-are = ap (λ (v : Numbers). v .rows) e
+  unfolding paramsOf
+  rows-are = ap (λ (v : CircuitParams). v .rows) e
 
-  pub parts-are : v .parts ≡ numZ (circuitOf ws)
-  unfolding numbersOf
-  parts-are = ap (λ (v : Numbers). v .parts) e
+  pub parts-are : v .«num_chunks» ≡ numZ (circuitOf ws)
+  unfolding paramsOf
+  parts-are = ap (λ (v : CircuitParams). v .«num_chunks») e
 
-  pub user-is : v .user ≡ numUser (circuitOf ws)
-  unfolding numbersOf
-  user-is = ap (λ (v : Numbers). v .user) e
+  pub user-is : v .«num_challenges» ≡ numUser (circuitOf ws)
+  unfolding paramsOf
+  user-is = ap (λ (v : CircuitParams). v .«num_challenges») e
 
-  pub user-few : v .user ≤ 16
+  pub user-few : v .«num_challenges» ≤ 16
   user-few = let h = few-user ws a in let q = user-is in omega arith
 
   -- the words of n columns fit
-  pub words-fit : (n : ℕ) → n ≤ getD ws 3 0 + v .copied + v .lookups * 4 + v .parts → n * v .rows ≤ 188416
+  pub words-fit : (n : ℕ) → n ≤ getD ws 3 0 + v .«num_permutation_polys» + v .«num_lookups» * 4 + v .«num_chunks» → n * v .rows ≤ 188416
   words-fit n h =
       let q = columns-low ws a v e in
       product-fit n (v .rows) (let w = q .0 in omega arith) (q .1)
 
-  pub places-from : ((getD ws 3 0 + v .copied) * v .rows ≡ compressedOffset (circuitOf ws))
-      × ((getD ws 3 0 + v .copied + v .lookups * 2) * v .rows ≡ mOffset (circuitOf ws))
-      × ((getD ws 3 0 + v .copied + v .lookups * 3) * v .rows ≡ hOffset (circuitOf ws))
-  unfolding numbersOf
+  pub places-from : ((getD ws 3 0 + v .«num_permutation_polys») * v .rows ≡ compressedOffset (circuitOf ws))
+      × ((getD ws 3 0 + v .«num_permutation_polys» + v .«num_lookups» * 2) * v .rows ≡ mOffset (circuitOf ws))
+      × ((getD ws 3 0 + v .«num_permutation_polys» + v .«num_lookups» * 3) * v .rows ≡ hOffset (circuitOf ws))
+  unfolding paramsOf
   places-from =
       let c : Circuit = circuitOf ws in
       let i = instances-entries ws a in (
-        ap (λ (v : Numbers). (getD ws 3 0 + v .copied) * v .rows) e ∙ ap (λ (i : ℕ). (i + numCopied c) * rowsOf c) i,
-        ap (λ (v : Numbers). (getD ws 3 0 + v .copied + v .lookups * 2) * v .rows) e
+        ap (λ (v : CircuitParams). (getD ws 3 0 + v .«num_permutation_polys») * v .rows) e ∙ ap (λ (i : ℕ). (i + numCopied c) * rowsOf c) i,
+        ap (λ (v : CircuitParams). (getD ws 3 0 + v .«num_permutation_polys» + v .«num_lookups» * 2) * v .rows) e
             ∙ ap (λ (i : ℕ). (i + numCopied c + numLookups c * 2) * rowsOf c) i,
-        ap (λ (v : Numbers). (getD ws 3 0 + v .copied + v .lookups * 3) * v .rows) e
+        ap (λ (v : CircuitParams). (getD ws 3 0 + v .«num_permutation_polys» + v .«num_lookups» * 3) * v .rows) e
             ∙ ap (λ (i : ℕ). (i + numCopied c + numLookups c * 3) * rowsOf c) i,
       )
 
@@ -220,20 +219,20 @@ module _ (ws instances witness challenges : List ℕ) (a : Accepted ws)
   compressed-asked names e m l =
       let p = placed circuit in (a, exact-challenges circuit instances witness challenges q, ap length e, omega arith)
 
-module _ (ws : List ℕ) (a : Accepted ws) (v : Numbers) (e : v ≡ numbersOf (circuitOf ws)) (x y : ℕ) (x-is : x ≡ compressedOffset (circuitOf ws))
+module _ (ws : List ℕ) (a : Accepted ws) (v : CircuitParams) (e : v ≡ paramsOf (circuitOf ws)) (x y : ℕ) (x-is : x ≡ compressedOffset (circuitOf ws))
     (y-is : y ≡ mOffset (circuitOf ws)) (n : ℕ) (room : columnWords (circuitOf ws) ≤ n) where
-  lookup-words : v .lookups * 2 * v .rows ≡ numLookups (circuitOf ws) * 2 * rowsOf (circuitOf ws)
+  lookup-words : v .«num_lookups» * 2 * v .rows ≡ numLookups (circuitOf ws) * 2 * rowsOf (circuitOf ws)
   lookup-words = ap₂ (λ (l r : ℕ). l * 2 * r) (lookups-are ws a v e) (rows-are ws a v e)
 
-  count-words : v .lookups * v .rows ≡ numLookups (circuitOf ws) * rowsOf (circuitOf ws)
+  count-words : v .«num_lookups» * v .rows ≡ numLookups (circuitOf ws) * rowsOf (circuitOf ws)
   count-words = ap₂ (λ (l r : ℕ). l * r) (lookups-are ws a v e) (rows-are ws a v e)
 
   pub counts-asked : (instances witness challenges d₀ d : List ℕ)
       → d ≡ over d₀ 0 (wordsOf (rowsOf (circuitOf ws)) (polysBeforeM 𝔾 (logOf ws instances witness challenges)))
       → length d ≡ n
-      → (x + v .lookups * 2 * v .rows ≤ y)
-      × (y + v .lookups * v .rows ≤ length d)
-      × Small (v .lookups * 2 * v .rows) (λ b. getD d (x + b) 0)
+      → (x + v .«num_lookups» * 2 * v .rows ≤ y)
+      × (y + v .«num_lookups» * v .rows ≤ length d)
+      × Small (v .«num_lookups» * 2 * v .rows) (λ b. getD d (x + b) 0)
   unfolding logOf
   counts-asked instances witness challenges d₀ d before l =
       let p = placed (circuitOf ws) in
@@ -253,16 +252,16 @@ module _ (ws : List ℕ) (a : Accepted ws) (v : Numbers) (e : v ≡ numbersOf (c
       )
 
   module _ (z : ℕ) (z-is : z ≡ hOffset (circuitOf ws)) where
-    pub hs-asked : (m : ℕ) → m ≡ n → (x + v .lookups * 2 * v .rows ≤ z) × (y + v .lookups * v .rows ≤ z) × (z + v .lookups * v .rows ≤ m)
+    pub hs-asked : (m : ℕ) → m ≡ n → (x + v .«num_lookups» * 2 * v .rows ≤ z) × (y + v .«num_lookups» * v .rows ≤ z) × (z + v .«num_lookups» * v .rows ≤ m)
     hs-asked m l =
         let p = placed (circuitOf ws) in
         let w = lookup-words in
         let w' = count-words in
         (omega arith, omega arith, omega arith)
 
-    pub hs-written : (γ : 𝔾 .F) (instances witness challenges d d' : List ℕ) → γ ≡ el (getD challenges (v .user + 1) 0)
+    pub hs-written : (γ : 𝔾 .F) (instances witness challenges d d' : List ℕ) → γ ≡ el (getD challenges (v .«num_challenges» + 1) 0)
         → take (hOffset (circuitOf ws)) d ≡ wordsOf (rowsOf (circuitOf ws)) (polysThroughM 𝔾 (logOf ws instances witness challenges))
-        → d' ≡ over d z (hsFrom d x (v .rows) γ y (v .lookups))
+        → d' ≡ over d z (hsFrom d x (v .rows) γ y (v .«num_lookups»))
         → d' ≡ over d (hOffset (circuitOf ws)) (wordsOf (rowsOf (circuitOf ws)) (hPolys 𝔾 (logOf ws instances witness challenges)))
     unfolding logOf
     hs-written γ instances witness challenges d d' γ-is front eq =
@@ -280,7 +279,7 @@ module _ (ws : List ℕ) (a : Accepted ws) (v : Numbers) (e : v ≡ numbersOf (c
   -- ---- the counts, and question 15
   module _ (instances witness challenges d₀ d d' : List ℕ) (answer : Bool)
       (before : d ≡ over d₀ 0 (wordsOf (rowsOf (circuitOf ws)) (polysBeforeM 𝔾 (logOf ws instances witness challenges))))
-      (w : CountsWritten d (v .lookups) x y (v .rows) answer d') where
+      (w : CountsWritten d (v .«num_lookups») x y (v .rows) answer d') where
     abbrev here : Log 𝔾
     here = logOf ws instances witness challenges
 
@@ -311,16 +310,16 @@ module _ (ws : List ℕ) (a : Accepted ws) (v : Numbers) (e : v ≡ numbersOf (c
     pub counts-behind : drop (mOffset (circuitOf ws) + numLookups (circuitOf ws) * rowsOf (circuitOf ws)) d'
         ≡ drop (mOffset (circuitOf ws) + numLookups (circuitOf ws) * rowsOf (circuitOf ws)) d
     counts-behind =
-        let q : y + v .lookups * v .rows ≡ mOffset (circuitOf ws) + numLookups (circuitOf ws) * rowsOf (circuitOf ws) =
+        let q : y + v .«num_lookups» * v .rows ≡ mOffset (circuitOf ws) + numLookups (circuitOf ws) * rowsOf (circuitOf ws) =
         ap₂ _+_ y-is count-words in
         ap (λ (n : ℕ). drop n d') (sym q) ∙ w .back ∙ ap (λ (n : ℕ). drop n d) q
 
 -- z behind h
-pub z-asked : (ws : List ℕ) → Accepted ws → (v : Numbers) → v ≡ numbersOf (circuitOf ws) → (names : List ℕ) → names ≡ copied (circuitOf ws)
+pub z-asked : (ws : List ℕ) → Accepted ws → (v : CircuitParams) → v ≡ paramsOf (circuitOf ws) → (names : List ℕ) → names ≡ copied (circuitOf ws)
     → (n : ℕ) → columnWords (circuitOf ws) ≤ n
     → Accepted ws
     × (names ≡ copied (circuitOf ws))
-    × (v .parts ≡ numZ (circuitOf ws))
+    × (v .«num_chunks» ≡ numZ (circuitOf ws))
     × (zOffset (circuitOf ws) + numZ (circuitOf ws) * rowsOf (circuitOf ws) ≤ n)
 z-asked ws a v e names h n room = let p = placed (circuitOf ws) in (a, h, parts-are ws a v e, omega arith)
 

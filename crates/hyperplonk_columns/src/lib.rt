@@ -8,7 +8,7 @@ use crate::stages::z_columns;
 use backend_sections::contents::INSTANCE_COUNT;
 use field::goldilocks::Goldilocks;
 use hyperplonk_prepare::needed::column_words;
-use preprocessor::Numbers;
+use preprocessor::CircuitParams;
 use prover_instance::blank_column::clear;
 use prover_lookup::lookup_h_polys;
 use prover_lookup::lookup_m_polys;
@@ -20,7 +20,7 @@ ghost use lib.ListN.{length, take, replicate};
 ghost use Rattle.field.specs.Field.{𝔾};
 ghost use Rattle.lists.specs.Lists.{over, written};
 ghost use Rattle.backend.specs.Circuit.{circuitOf, rowsOf, numUser, copied as copiedOf};
-ghost use Rattle.preprocessor.specs.Pieces.{numbersOf};
+ghost use Rattle.preprocessor.specs.Compose.{paramsOf};
 ghost use Rattle.prover.specs.Columns.{allCovered, writtenPolys};
 ghost use Rattle.prover.specs.Words.{wordsOf};
 ghost use Rattle.hyperplonk_spec.specs.Build.{logOf, columnWords, q12};
@@ -34,16 +34,16 @@ struct Places {
     hs: usize,
 }
 
-fn places_of(circuit: &[u64], v: Numbers) -> Places
-    requires { ⌜ Accepted (now circuit) × (v ≡ numbersOf (circuitOf (now circuit))) ⌝ }
+fn places_of(circuit: &[u64], params: CircuitParams) -> Places
+    requires { ⌜ Accepted (now circuit) × (params ≡ paramsOf (circuitOf (now circuit))) ⌝ }
     ensures { λ r. ⌜ (r .compressed ≡ compressedOffset (circuitOf (now (circuit .entry)))) × (r .counts ≡ mOffset (circuitOf (now (circuit .entry)))) × (r .hs ≡ hOffset (circuitOf (now (circuit .entry)))) ⌝ }
 {
     let instances = circuit[INSTANCE_COUNT] as usize;
-    let named = instances + v.copied;
+    let named = instances + params.num_permutation_polys;
     Places {
-        compressed: named * v.rows,
-        counts: (named + v.lookups * 2) * v.rows,
-        hs: (named + v.lookups * 3) * v.rows,
+        compressed: named * params.rows,
+        counts: (named + params.num_lookups * 2) * params.rows,
+        hs: (named + params.num_lookups * 3) * params.rows,
     }
 }
 
@@ -71,24 +71,25 @@ fn columns_after_m(
     challenges: &[u64],
     columns: &mut [u64],
     copied: &[u64],
-    v: Numbers,
+    params: CircuitParams,
 )
-    requires { ⌜ Prepared (now circuit) (now copied) v × (length (now challenges) ≡ numUser (circuitOf (now circuit)) + 2) × (columnWords (circuitOf (now circuit)) ≤ length (now columns)) ⌝ }
-    ensures { λ _. ⌜ ((instances : List ℕ) → take (hOffset (circuitOf (now (circuit .entry)))) (now (columns .entry)) ≡ wordsOf (rowsOf (circuitOf (now (circuit .entry)))) (polysThroughM 𝔾 (logOf (now (circuit .entry)) instances (now (witness .entry)) (now (challenges .entry)))) → now (columns .exit) ≡ over (now (columns .entry)) (hOffset (circuitOf (now (circuit .entry)))) (wordsOf (rowsOf (circuitOf (now (circuit .entry)))) (polysAfterM 𝔾 (logOf (now (circuit .entry)) instances (now (witness .entry)) (now (challenges .entry)))))) ⌝ }
+    requires { ⌜ Prepared (now circuit) (now copied) params × (length (now challenges) ≡ numUser (circuitOf (now circuit)) + 2) × (columnWords (circuitOf (now circuit)) ≤ length (now columns)) ⌝ }
+    ensures { λ _. ⌜ ((instances : List ℕ) → take (hOffset (circuitOf (now (circuit .entry)))) (now (columns .entry)) ≡ wordsOf (rowsOf (circuitOf (now (circuit .entry)))) (polysThroughM 𝔾 (logOf (now (circuit .entry)) instances (now (witness .entry)) (now (challenges .entry)))) → now (columns .exit) ≡ over (now (columns .entry)) (hOffset (circuitOf (now (circuit .entry)))) (wordsOf (rowsOf (circuitOf (now (circuit .entry)))) (lastPolys 𝔾 (logOf (now (circuit .entry)) instances (now (witness .entry)) (now (challenges .entry)))))) ⌝ }
 {
-    let at = places_of(circuit, v);
-    let user = v.user;
+    let at = places_of(circuit, params);
+    let user = params.num_challenges;
+    let chunks = params.num_chunks;
     let gamma = Goldilocks::at(challenges, user + 1);
     lookup_h_polys(
         columns,
-        v.lookups,
+        params.num_lookups,
         at.compressed,
         at.counts,
         at.hs,
         gamma,
-        v.rows,
+        params.rows,
     );
-    z_columns(circuit, witness, columns, challenges, copied, v.parts);
+    z_columns(circuit, witness, columns, challenges, copied, chunks);
 }
 
 // All columns. Where an input of a lookup is in no table row, false, and the column words needed become 0.
@@ -99,19 +100,25 @@ pub fn write_columns<'a>(
     challenges: &'a [u64],
     columns: &mut [u64],
     copied: &[u64],
-    v: Numbers,
+    params: CircuitParams,
 ) -> bool
-    requires { ⌜ Prepared (now circuit) (now copied) v × (q12 (circuitOf (now circuit)) (now instance) (now witness) (now challenges) ≡ true) × (columnWords (circuitOf (now circuit)) ≤ length (now columns)) ⌝ }
+    requires { ⌜ Prepared (now circuit) (now copied) params × (q12 (circuitOf (now circuit)) (now instance) (now witness) (now challenges) ≡ true) × (columnWords (circuitOf (now circuit)) ≤ length (now columns)) ⌝ }
     ensures { λ r. ⌜ (r ≡ allCovered 𝔾 (logOf (now (circuit .entry)) (now (instance .entry)) (now (witness .entry)) (now (challenges .entry)))) × (now (columns .exit) ≡ cond (allCovered 𝔾 (logOf (now (circuit .entry)) (now (instance .entry)) (now (witness .entry)) (now (challenges .entry)))) (written (wordsOf (rowsOf (circuitOf (now (circuit .entry)))) (writtenPolys 𝔾 (logOf (now (circuit .entry)) (now (instance .entry)) (now (witness .entry)) (now (challenges .entry))))) (now (columns .entry))) (written (replicate (columnWords (circuitOf (now (circuit .entry)))) 0) (now (columns .entry)))) ⌝ }
 {
     columns_before_m(circuit, instance, witness, challenges, columns, copied);
-    let at = places_of(circuit, v);
-    let covered = lookup_m_polys(columns, v.lookups, at.compressed, at.counts, v.rows);
+    let at = places_of(circuit, params);
+    let covered = lookup_m_polys(
+        columns,
+        params.num_lookups,
+        at.compressed,
+        at.counts,
+        params.rows,
+    );
     if !covered {
-        let words = column_words(circuit, v);
+        let words = column_words(circuit, params);
         clear(columns, 0, words);
         return false;
     }
-    columns_after_m(circuit, witness, challenges, columns, copied, v);
+    columns_after_m(circuit, witness, challenges, columns, copied, params);
     true
 }

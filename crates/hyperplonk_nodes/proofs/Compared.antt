@@ -9,7 +9,7 @@ use Rattle.lists.specs.Lists.{sameWords}
 use Rattle.lists.proofs.Same.{run-same}
 use Rattle.backend.specs.Circuit.{Circuit}
 use Rattle.preprocessor.specs.Compose.{composedWords, composedNodes}
-use Rattle.preprocessor.specs.Pieces.{Composed}
+use Rattle.preprocessor.specs.ComposeWords.{Composed}
 use Rattle.preprocessor.proofs.Composed.{composed-part}
 
 pub compared : (r : Bool) (xs : List ℕ) (n : ℕ) {from : ℕ} {c : Circuit} {d d1 : List ℕ} {next : ℕ} → n ≤ length d

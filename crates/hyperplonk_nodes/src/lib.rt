@@ -3,7 +3,7 @@ use backend_sections::reader::constraints_of;
 use backend_sections::reader::nodes_of;
 use backend_sections::reader::pairs_of;
 use backend_sections::reader::widths_of;
-use preprocessor::Numbers;
+use preprocessor::CircuitParams;
 use preprocessor_compose::compose;
 ghost use mathlib.Core.Path.{_≡_};
 ghost use Prim.Native.Nat.{_+_, _-_, _*_, _≤_, _<_};
@@ -12,7 +12,7 @@ ghost use Rattle.lists.specs.Lists.{sameWords};
 ghost use Rattle.expression.specs.Written.{mostWords};
 ghost use Rattle.backend.specs.Circuit.{circuitOf};
 ghost use Rattle.preprocessor.specs.Compose.{composedWords, composedNodes};
-ghost use Rattle.preprocessor.specs.Pieces.{Composed};
+ghost use Rattle.preprocessor.specs.ComposeWords.{Composed};
 ghost use Rattle.hyperplonk_prepare.specs.Prepared.{Prepared};
 
 // The words that are composed at a time to be compared.
@@ -22,18 +22,18 @@ const WINDOW: usize = 2048;
 pub fn compose_nodes(
     circuit: &[u64],
     copied: &[u64],
-    v: Numbers,
+    params: CircuitParams,
     from: usize,
     nodes: &mut [u64],
 ) -> usize
-    requires { ⌜ Prepared (now circuit) (now copied) v × (composedNodes (circuitOf (now circuit)) * 4 ≤ mostWords) ⌝ }
+    requires { ⌜ Prepared (now circuit) (now copied) params × (composedNodes (circuitOf (now circuit)) * 4 ≤ mostWords) ⌝ }
     ensures { λ r. ⌜ Composed from (circuitOf (now (circuit .entry))) (now (nodes .entry)) (now (nodes .exit)) r ⌝ }
 {
     let user = nodes_of(circuit);
     let roots = constraints_of(circuit);
     let widths = widths_of(circuit);
     let pairs = pairs_of(circuit);
-    compose(copied, user, roots, widths, pairs, nodes, from, v)
+    compose(copied, user, roots, widths, pairs, nodes, from, params)
 }
 
 // Are the words the same?
@@ -66,29 +66,29 @@ fn window_end(at: usize, end: usize) -> usize
 fn same_window(
     circuit: &[u64],
     copied: &[u64],
-    v: Numbers,
+    params: CircuitParams,
     nodes: &[u64],
     at: usize,
     end: usize,
 ) -> bool
-    requires { ⌜ Prepared (now circuit) (now copied) v × ((length (now nodes) ≡ composedNodes (circuitOf (now circuit)) * 4) × ((at ≤ end) × ((end ≤ length (now nodes)) × (end ≤ at + 2048)))) ⌝ }
+    requires { ⌜ Prepared (now circuit) (now copied) params × ((length (now nodes) ≡ composedNodes (circuitOf (now circuit)) * 4) × ((at ≤ end) × ((end ≤ length (now nodes)) × (end ≤ at + 2048)))) ⌝ }
     ensures { λ r. ⌜ r ≡ sameWords (take (end - at) (drop at (now (nodes .entry)))) (take (end - at) (drop at (composedWords (circuitOf (now (circuit .entry)))))) ⌝ }
 {
     let mut window = [0; WINDOW];
     let count = end - at;
-    compose_nodes(circuit, copied, v, at, &mut window);
+    compose_nodes(circuit, copied, params, at, &mut window);
     same_words(&nodes[at..end], &window[0..count])
 }
 
 // Are these the node words that building writes? They are composed window by window, and compared.
-pub fn same_nodes(circuit: &[u64], copied: &[u64], v: Numbers, nodes: &[u64]) -> bool
-    requires { ⌜ Prepared (now circuit) (now copied) v × (length (now nodes) ≡ composedNodes (circuitOf (now circuit)) * 4) ⌝ }
+pub fn same_nodes(circuit: &[u64], copied: &[u64], params: CircuitParams, nodes: &[u64]) -> bool
+    requires { ⌜ Prepared (now circuit) (now copied) params × (length (now nodes) ≡ composedNodes (circuitOf (now circuit)) * 4) ⌝ }
     ensures { λ r. ⌜ r ≡ sameWords (now (nodes .entry)) (composedWords (circuitOf (now (circuit .entry)))) ⌝ }
 {
     let mut at = 0;
     while at < nodes.len() {
         let end = window_end(at, nodes.len());
-        if !same_window(circuit, copied, v, nodes, at, end) {
+        if !same_window(circuit, copied, params, nodes, at, end) {
             return false;
         }
         at = end;

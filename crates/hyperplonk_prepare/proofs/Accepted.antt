@@ -27,11 +27,11 @@ use Rattle.backend.proofs.Sections.{body-length}
 use Rattle.backend.proofs.Numbers.{polys}
 use Rattle.backend.proofs.Passed.{Yes, yes-all}
 use Rattle.backend.proofs.Degree.{all-most, root-in, left-roots, right-roots, least-high, least-low}
-use Rattle.preprocessor.specs.Compose.{numZ}
+use Rattle.preprocessor.specs.Compose.{numZ, paramsOf}
 use Rattle.preprocessor.specs.Permutation.{Walkable}
-use Rattle.preprocessor.specs.Pieces.{numbersOf, IsNode, Limits, Words, Handed, PiecesOf}
+use Rattle.preprocessor.specs.ComposeWords.{IsNode, Limits, Words, ComposeInput, DecodedFrom}
 use Rattle.preprocessor.proofs.Copied.{walkable, cells-of}
-use Rattle.preprocessor.proofs.Composed.{circuit-pieces}
+use Rattle.preprocessor.proofs.Composed.{circuit-decoded}
 use Rattle.prover.specs.Lent.{Given}
 use Rattle.hyperplonk_prepare.specs.Prepared.{Accepted, layoutOf}
 
@@ -201,9 +201,9 @@ module _ (ws : List ℕ) (a : Accepted ws) where
   unfolding numZ
   few-z = ceil-fewer (numCopied (circuitOf ws)) (maxDegree (circuitOf ws) - 1) (let h = two-degree in omega arith)
 
-  -- ---- the numbers, the words and the pieces
-  pub limits : Limits (numbersOf (circuitOf ws))
-  unfolding numbersOf numZ
+  -- ---- the numbers, the words, and what they are decoded from
+  pub limits : Limits (paramsOf (circuitOf ws))
+  unfolding paramsOf numZ
   limits =
       record {
         few-polys = few-polys;
@@ -219,9 +219,9 @@ module _ (ws : List ℕ) (a : Accepted ws) where
   unfolding q7 circuitOf
   roots-laid = answers ws a .seven
 
-  pub words : Words (numbersOf (circuitOf ws)) (bodyOf ws Section.nodes) (bodyOf ws Section.constraints) (bodyOf ws Section.widths)
+  pub words : Words (paramsOf (circuitOf ws)) (bodyOf ws Section.nodes) (bodyOf ws Section.constraints) (bodyOf ws Section.widths)
       (bodyOf ws Section.pairs)
-  unfolding numbersOf
+  unfolding paramsOf
   words =
       let nodes : List ℕ = bodyOf ws Section.nodes in
       let cs : List ℕ = bodyOf ws Section.constraints in
@@ -234,17 +234,17 @@ module _ (ws : List ℕ) (a : Accepted ws) where
         pairs-named = all-from (IsNode nodes) ps 0 (λ i l. root-in nodes ps (right-roots nodes cs ps roots-laid) i l);
       }
 
-  pub handed : Handed (numbersOf (circuitOf ws)) (copied (circuitOf ws)) (bodyOf ws Section.nodes) (bodyOf ws Section.constraints)
+  pub compose-input : ComposeInput (paramsOf (circuitOf ws)) (copied (circuitOf ws)) (bodyOf ws Section.nodes) (bodyOf ws Section.constraints)
       (bodyOf ws Section.widths)
       (bodyOf ws Section.pairs)
-  unfolding numbersOf
-  handed = record { words = words; all-copied = omega arith }
+  unfolding paramsOf
+  compose-input = record { words = words; all-copied = omega arith }
 
-  pub pieces : PiecesOf (circuitOf ws) (numbersOf (circuitOf ws)) (copied (circuitOf ws)) (bodyOf ws Section.nodes)
+  pub decoded : DecodedFrom (circuitOf ws) (paramsOf (circuitOf ws)) (copied (circuitOf ws)) (bodyOf ws Section.nodes)
       (bodyOf ws Section.constraints)
       (bodyOf ws Section.widths)
       (bodyOf ws Section.pairs)
-  pieces = circuit-pieces ws pairs-half
+  decoded = circuit-decoded ws pairs-half
 
   -- ---- the cycles
   pub cycles-are : split (bodyOf ws Section.lengths) (cellsOf (bodyOf ws Section.cells)) ≡ circuitOf ws .cycles

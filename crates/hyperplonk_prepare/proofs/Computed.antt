@@ -23,10 +23,10 @@ use Rattle.backend.specs.Layout.{laidOut}
 use Rattle.backend.specs.Questions.{q7}
 use Rattle.backend.proofs.Numbers.{each-one, not-past}
 use Rattle.backend.proofs.Degree.{ten-is, d-is}
-use Rattle.preprocessor.specs.Compose.{numZ, composedNodes}
+use Rattle.preprocessor.specs.Compose.{numZ, composedNodes, paramsOf}
 use Rattle.preprocessor.specs.Count.{most}
-use Rattle.preprocessor.specs.Pieces.{numbersOf, Words, PiecesOf}
-use Rattle.preprocessor.specs.declared.Numbers.{Numbers}
+use Rattle.preprocessor.specs.ComposeWords.{Words, DecodedFrom}
+use Rattle.preprocessor.specs.declared.CircuitParams.{CircuitParams}
 use Rattle.hyperplonk_spec.specs.Build.{columnWords, q12, q13, q14}
 use Rattle.hyperplonk_prepare.specs.Prepared.{Accepted}
 use Rattle.hyperplonk_prepare.proofs.Accepted as known
@@ -86,12 +86,12 @@ module _ (ws : List ℕ) (a : Accepted ws) where
     degree-from s t r e = e ∙ rw (x, y, z, q, t, known.pairs-half ws a) (sym (d-is (circuitOf ws)))
 
     -- ---- the words that are handed on
-    module _ (v : Numbers) (e : v ≡ numbersOf (circuitOf ws)) where
+    module _ (v : CircuitParams) (e : v ≡ paramsOf (circuitOf ws)) where
       pub words-from : Words v nodes roots widths pairs
       words-from = rw (e, x, y, z, q) (known.words ws a)
 
-      pub pieces-from : PiecesOf (circuitOf ws) v (copied (circuitOf ws)) nodes roots widths pairs
-      pieces-from = rw (e, x, y, z, q) (known.pieces ws a)
+      pub decoded-from : DecodedFrom (circuitOf ws) v (copied (circuitOf ws)) nodes roots widths pairs
+      decoded-from = rw (e, x, y, z, q) (known.decoded ws a)
 
   -- ---- the numbers
   pub lookups-are : getD ws 13 0 ≡ numLookups (circuitOf ws)
@@ -102,24 +102,24 @@ module _ (ws : List ℕ) (a : Accepted ws) where
       → user ≡ numUser (circuitOf ws)
       → rows ≡ 2 ^ wordK ws
       → degree ≡ maxDegree (circuitOf ws)
-      → _≡_ {A = Numbers}
+      → _≡_ {A = CircuitParams}
       (record {
-        polys = polys;
-        copied = copies;
-        lookups = lookups;
-        user = user;
+        «num_poly» = polys;
+        «num_permutation_polys» = copies;
+        «num_lookups» = lookups;
+        «num_challenges» = user;
         rows = rows;
-        part = degree - 1;
-        parts = (copies + (degree - 1) - 1) / (degree - 1);
+        «chunk_size» = degree - 1;
+        «num_chunks» = (copies + (degree - 1) - 1) / (degree - 1);
       })
-      (numbersOf (circuitOf ws))
-  unfolding numbersOf numZ
+      (paramsOf (circuitOf ws))
+  unfolding paramsOf numZ
   numbers-from polys copies lookups user rows degree p c l u r d = rw (p, c, l, u, r ∙ sym (known.rows-is ws a), d)
 
   -- the column words
-  module _ (v : Numbers) (e : v ≡ numbersOf (circuitOf ws)) where
-    pub columns-low : (getD ws 3 0 + v .copied + v .lookups * 4 + v .parts ≤ 184) × (v .rows ≤ 1024)
-    unfolding numbersOf
+  module _ (v : CircuitParams) (e : v ≡ paramsOf (circuitOf ws)) where
+    pub columns-low : (getD ws 3 0 + v .«num_permutation_polys» + v .«num_lookups» * 4 + v .«num_chunks» ≤ 184) × (v .rows ≤ 1024)
+    unfolding paramsOf
     columns-low =
         let i = known.instances-entries ws a in
         let s = known.few-instances ws a in
@@ -130,13 +130,13 @@ module _ (ws : List ℕ) (a : Accepted ws) where
         let r = known.rows-few ws a in
         rw e (omega arith, omega arith)
 
-    pub columns-fit : (getD ws 3 0 + v .copied + v .lookups * 4 + v .parts) * v .rows ≤ 188416
+    pub columns-fit : (getD ws 3 0 + v .«num_permutation_polys» + v .«num_lookups» * 4 + v .«num_chunks») * v .rows ≤ 188416
     columns-fit = mul-le-mul (columns-low .0) (columns-low .1)
 
-    pub columns-from : (getD ws 3 0 + v .copied + v .lookups * 4 + v .parts) * v .rows ≡ columnWords (circuitOf ws)
-    unfolding numbersOf columnWords
+    pub columns-from : (getD ws 3 0 + v .«num_permutation_polys» + v .«num_lookups» * 4 + v .«num_chunks») * v .rows ≡ columnWords (circuitOf ws)
+    unfolding paramsOf columnWords
     columns-from =
-        ap (λ (v : Numbers). (getD ws 3 0 + v .copied + v .lookups * 4 + v .parts) * v .rows) e
+        ap (λ (v : CircuitParams). (getD ws 3 0 + v .«num_permutation_polys» + v .«num_lookups» * 4 + v .«num_chunks») * v .rows) e
         ∙ ap (λ (i : ℕ). (i + numCopied (circuitOf ws) + numLookups (circuitOf ws) * 4 + numZ (circuitOf ws)) * rowsOf (circuitOf ws))
         (known.instances-entries ws a)
 

@@ -6,18 +6,18 @@ use Rattle.lists.specs.Lists.{firstNo}
 use Rattle.expression.specs.declared.poly.Layout.{Layout}
 use Rattle.backend.specs.Circuit.{Circuit, Section, circuitOf, wordK, entries, startOf, rowsOf, numInstance, numWitness, copied, numCopied, numLookups}
 use Rattle.backend.specs.Questions.{circuitQuestions}
-use Rattle.preprocessor.specs.Pieces.{numbersOf}
-use Rattle.preprocessor.specs.declared.Numbers.{Numbers}
+use Rattle.preprocessor.specs.Compose.{paramsOf}
+use Rattle.preprocessor.specs.declared.CircuitParams.{CircuitParams}
 
 -- questions 1 to 11 are yes
 abbrev pub Accepted : List ℕ → Type 0
 Accepted ws = firstNo circuitQuestions ws ≡ 0
 
 -- the copied columns and the numbers of accepted circuit words
-pub record Prepared (ws names : List ℕ) (v : Numbers) : Type 0 where
+pub record Prepared (ws names : List ℕ) (params : CircuitParams) : Type 0 where
   pub accepted : Accepted ws
   pub copied-are : names ≡ copied (circuitOf ws)
-  pub numbers-are : v ≡ numbersOf (circuitOf ws)
+  pub params-are : params ≡ paramsOf (circuitOf ws)
 
 -- where the polynomials that are given stand
 unfoldable pub layoutOf : List ℕ → Layout

@@ -16,7 +16,7 @@ use backend_sections::reader::nodes_of;
 use backend_sections::reader::pairs_of;
 use backend_sections::reader::stated_of;
 use backend_sections::reader::widths_of;
-use preprocessor::Numbers;
+use preprocessor::CircuitParams;
 ghost use mathlib.Core.Path.{_≡_};
 ghost use mathlib.Core.List.{_++_};
 ghost use Prim.Native.Nat.{_-_, _≤_};
@@ -24,7 +24,7 @@ ghost use lib.ListN.{take, replicate};
 ghost use Rattle.backend.specs.Circuit.{circuitOf, numCopied};
 ghost use Rattle.backend.specs.Circuit as def;
 ghost use Rattle.backend.specs.Constraints.{maxDegree};
-ghost use Rattle.preprocessor.specs.Pieces.{numbersOf};
+ghost use Rattle.preprocessor.specs.Compose.{paramsOf};
 ghost use Rattle.hyperplonk_prepare.specs.Prepared.{Accepted};
 
 // The copied columns of the circuit, and zeros after them.
@@ -52,9 +52,9 @@ pub fn degree_of(circuit: &[u64]) -> usize
 }
 
 // The numbers that the composed expression names, given how many columns are copied.
-pub fn numbers(circuit: &[u64], copied: usize) -> Numbers
+pub fn circuit_params(circuit: &[u64], copied: usize) -> CircuitParams
     requires { ⌜ Accepted (now circuit) × (copied ≡ numCopied (circuitOf (now circuit))) ⌝ }
-    ensures { λ r. ⌜ r ≡ numbersOf (circuitOf (now (circuit .entry))) ⌝ }
+    ensures { λ r. ⌜ r ≡ paramsOf (circuitOf (now (circuit .entry))) ⌝ }
 {
     let polys = num_poly(circuit);
     let user = num_user(circuit);
@@ -62,13 +62,13 @@ pub fn numbers(circuit: &[u64], copied: usize) -> Numbers
     let lookups = circuit[WIDTH_COUNT];
     let part = degree_of(circuit) - 1;
     let parts = (copied + part - 1) / part;
-    Numbers {
-        polys: polys as usize,
-        copied: copied,
-        lookups: lookups as usize,
-        user: user as usize,
+    CircuitParams {
+        num_poly: polys as usize,
+        num_permutation_polys: copied,
+        num_lookups: lookups as usize,
+        num_challenges: user as usize,
         rows: rows as usize,
-        part: part,
-        parts: parts,
+        chunk_size: part,
+        num_chunks: parts,
     }
 }

@@ -4,45 +4,45 @@ use backend_sections::reader::constraints_of;
 use backend_sections::reader::nodes_of;
 use backend_sections::reader::pairs_of;
 use backend_sections::reader::widths_of;
-use preprocessor::Numbers;
+use preprocessor::CircuitParams;
 ghost use mathlib.Core.Path.{_≡_};
 ghost use mathlib.Core.List.{List};
 ghost use Prim.Native.Nat.{ℕ, _<_, _^_, min};
 ghost use lib.ListN.{length};
 ghost use Rattle.backend.specs.Circuit.{circuitOf};
-ghost use Rattle.preprocessor.specs.Compose.{composedNodes};
+ghost use Rattle.preprocessor.specs.Compose.{composedNodes, paramsOf};
 ghost use Rattle.preprocessor.specs.Count.{most};
-ghost use Rattle.preprocessor.specs.Pieces.{numbersOf};
 ghost use Rattle.hyperplonk_spec.specs.Build.{columnWords, q14};
 ghost use Rattle.hyperplonk_prepare.specs.Prepared.{Accepted};
 
 // The column words needed.
-pub fn column_words(circuit: &[u64], v: Numbers) -> usize
-    requires { ⌜ Accepted (now circuit) × (v ≡ numbersOf (circuitOf (now circuit))) ⌝ }
+pub fn column_words(circuit: &[u64], params: CircuitParams) -> usize
+    requires { ⌜ Accepted (now circuit) × (params ≡ paramsOf (circuitOf (now circuit))) ⌝ }
     ensures { λ r. ⌜ r ≡ columnWords (circuitOf (now (circuit .entry))) ⌝ }
 {
     let instances = circuit[INSTANCE_COUNT] as usize;
-    (instances + v.copied + v.lookups * 4 + v.parts) * v.rows
+    (instances + params.num_permutation_polys + params.num_lookups * 4 + params.num_chunks)
+        * params.rows
 }
 
 // The nodes that the composed expression takes, 2^60 where they are more.
-pub fn composed_nodes(circuit: &[u64], v: Numbers) -> u64
-    requires { ⌜ Accepted (now circuit) × (v ≡ numbersOf (circuitOf (now circuit))) ⌝ }
+pub fn composed_nodes(circuit: &[u64], params: CircuitParams) -> u64
+    requires { ⌜ Accepted (now circuit) × (params ≡ paramsOf (circuitOf (now circuit))) ⌝ }
     ensures { λ r. ⌜ r ≡ min most (composedNodes (circuitOf (now (circuit .entry)))) ⌝ }
 {
     let user = nodes_of(circuit);
     let roots = constraints_of(circuit);
     let widths = widths_of(circuit);
     let pairs = pairs_of(circuit);
-    preprocessor_compose::count::composed_nodes(user, roots, widths, pairs, v)
+    preprocessor_compose::count::composed_nodes(user, roots, widths, pairs, params)
 }
 
 // Question 14, of buffers of so many words.
-pub fn question_14(circuit: &[u64], v: Numbers, columns: usize, nodes: usize) -> bool
-    requires { ⌜ Accepted (now circuit) × ((v ≡ numbersOf (circuitOf (now circuit))) × (nodes < 2 ^ 62)) ⌝ }
+pub fn question_14(circuit: &[u64], params: CircuitParams, columns: usize, nodes: usize) -> bool
+    requires { ⌜ Accepted (now circuit) × ((params ≡ paramsOf (circuitOf (now circuit))) × (nodes < 2 ^ 62)) ⌝ }
     ensures { λ r. ⌜ ((cs ns : List ℕ) → length cs ≡ columns → length ns ≡ nodes → r ≡ q14 (circuitOf (now (circuit .entry))) cs ns) ⌝ }
 {
-    let words = column_words(circuit, v);
-    let composed = composed_nodes(circuit, v);
+    let words = column_words(circuit, params);
+    let composed = composed_nodes(circuit, params);
     (words <= columns) & (composed * 4 <= nodes as u64)
 }

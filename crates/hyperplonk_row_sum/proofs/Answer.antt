@@ -15,8 +15,8 @@ use Rattle.expression.specs.declared.poly.Layout.{Layout}
 use Rattle.backend.specs.Circuit.{wordK, circuitOf, copied}
 use Rattle.backend.specs.Questions.{circuitQuestions}
 use Rattle.backend.proofs.Answers.{says-no, says-yes}
-use Rattle.preprocessor.specs.Pieces.{numbersOf}
-use Rattle.preprocessor.specs.declared.Numbers.{Numbers}
+use Rattle.preprocessor.specs.Compose.{paramsOf}
+use Rattle.preprocessor.specs.declared.CircuitParams.{CircuitParams}
 use Rattle.hyperplonk_spec.specs.RowSum.{q16, LentSum, sumQuestions, checkSum, sumOf, rowSumOf}
 use Rattle.hyperplonk_spec.specs.declared.RowSum.{RowSum}
 use Rattle.backend.proofs.Passed.{numbered}
@@ -105,7 +105,7 @@ module _ (ws witness columns nodes challenges y : List ℕ) where
 pub count-is : (of : List ℕ) (count : ℕ) (names : List ℕ) → count ≤ length of → take count of ≡ names → count ≡ length names
 count-is of count names h e = sym (length-take-le count of h) ∙ ap (λ (xs : List ℕ). length xs) e
 
-pub prepared : (ws of : List ℕ) (count : ℕ) (v : Numbers) → Accepted ws → take count of ≡ copied (circuitOf ws) → v ≡ numbersOf (circuitOf ws)
+pub prepared : (ws of : List ℕ) (count : ℕ) (v : CircuitParams) → Accepted ws → take count of ≡ copied (circuitOf ws) → v ≡ paramsOf (circuitOf ws)
     → Prepared ws (take (count - 0) of) v
 prepared ws of count v a e n =
-    record { accepted = a; copied-are = ap (λ (m : ℕ). take m of) (let q : count - 0 ≡ count = omega arith in q) ∙ e; numbers-are = n }
+    record { accepted = a; copied-are = ap (λ (m : ℕ). take m of) (let q : count - 0 ≡ count = omega arith in q) ∙ e; params-are = n }

@@ -18,10 +18,9 @@ use Rattle.backend.specs.Circuit.{Circuit, wordK, circuitOf, rowsOf, numWitness
 use Rattle.backend.specs.Questions.{small}
 use Rattle.backend.proofs.Answers.{says-no, says-yes}
 use Rattle.backend.proofs.Numbers.{polys}
-use Rattle.preprocessor.specs.Compose.{compose, composedWords, composedNodes}
+use Rattle.preprocessor.specs.Compose.{compose, composedWords, composedNodes, paramsOf}
 use Rattle.preprocessor.specs.Count.{most}
-use Rattle.preprocessor.specs.Pieces.{numbersOf}
-use Rattle.preprocessor.specs.declared.Numbers.{Numbers}
+use Rattle.preprocessor.specs.declared.CircuitParams.{CircuitParams}
 use Rattle.hyperplonk_spec.specs.Build.{columnWords}
 use Rattle.hyperplonk_spec.specs.RowSum.{q16}
 use Rattle.hyperplonk_prepare.specs.Prepared.{Accepted}
@@ -133,14 +132,14 @@ pub small-all : (ws xs ys zs : List ℕ) (p q r s : Bool) → p ≡ allOf (λ w.
 unfolding valuesSmall
 small-all ws xs ys zs p q r s a b c d = ap₂ _&&_ (ap₂ _&&_ (ap₂ _&&_ a b) c) d
 
-module _ (ws : List ℕ) (a : Accepted ws) (v : Numbers) (e : v ≡ numbersOf (circuitOf ws)) where
+module _ (ws : List ℕ) (a : Accepted ws) (v : CircuitParams) (e : v ≡ paramsOf (circuitOf ws)) where
   -- the layout
-  pub polys-are : getD ws 3 0 + getD ws 5 0 + numWitness (circuitOf ws) ≡ v .polys
-  unfolding numbersOf
-  polys-are = polys ws (numWitness (circuitOf ws)) (known.laid-of ws a) refl ∙ sym (ap (λ (v : Numbers). v .polys) e)
+  pub polys-are : getD ws 3 0 + getD ws 5 0 + numWitness (circuitOf ws) ≡ v .«num_poly»
+  unfolding paramsOf
+  polys-are = polys ws (numWitness (circuitOf ws)) (known.laid-of ws a) refl ∙ sym (ap (λ (v : CircuitParams). v .«num_poly») e)
 
-  pub numbers-few : (v .copied ≤ 72) × (v .lookups ≤ 8) × (v .parts ≤ 72) × (v .user ≤ 16)
-  unfolding numbersOf
+  pub numbers-few : (v .«num_permutation_polys» ≤ 72) × (v .«num_lookups» ≤ 8) × (v .«num_chunks» ≤ 72) × (v .«num_challenges» ≤ 16)
+  unfolding paramsOf
   numbers-few =
       let n = known.few-copied ws a in
       let j = known.few-lookups ws a in
@@ -154,15 +153,15 @@ module _ (ws : List ℕ) (a : Accepted ws) (v : Numbers) (e : v ≡ numbersOf (c
         instances = getD ws 3 0;
         preprocess = getD ws 5 0;
         start = getD ws 4 0;
-        witness = v .polys - getD ws 3 0 - getD ws 5 0;
-        permutations = v .copied;
-        skipped = v .lookups * 2;
-        rest = v .lookups * 2 + v .parts;
+        witness = v .«num_poly» - getD ws 3 0 - getD ws 5 0;
+        permutations = v .«num_permutation_polys»;
+        skipped = v .«num_lookups» * 2;
+        rest = v .«num_lookups» * 2 + v .«num_chunks»;
       })
       (sumLayout ws)
-  unfolding sumLayout numbersOf
+  unfolding sumLayout paramsOf
   layout-made =
-      let w : v .polys - getD ws 3 0 - getD ws 5 0 ≡ numWitness (circuitOf ws) = let p = polys-are in omega arith in
+      let w : v .«num_poly» - getD ws 3 0 - getD ws 5 0 ≡ numWitness (circuitOf ws) = let p = polys-are in omega arith in
       rw (w, e, known.rows-is ws a) refl
 
   -- the witness words
@@ -176,9 +175,9 @@ module _ (ws : List ℕ) (a : Accepted ws) (v : Numbers) (e : v ≡ numbersOf (c
       → composed ≡ min most (composedNodes (circuitOf ws))
       → k ≡ wordK ws
       → nodes < 2 ^ 62
-      → (eqb witness (l .witness * l .rows) && eqb columns words && eqb challenges (v .user + 3) && eqb y k && eqb nodes (composed * 4))
+      → (eqb witness (l .witness * l .rows) && eqb columns words && eqb challenges (v .«num_challenges» + 3) && eqb y k && eqb nodes (composed * 4))
       ≡ lengthsRight (circuitOf ws) witness columns nodes challenges y
-  unfolding lengthsRight numbersOf sumLayout
+  unfolding lengthsRight paramsOf sumLayout
   lengths-are witness columns nodes challenges y l words composed k q w n m h =
       ap₂ _&&_
       (ap₂ _&&_
@@ -187,6 +186,6 @@ module _ (ws : List ℕ) (a : Accepted ws) (v : Numbers) (e : v ≡ numbersOf (c
       (ap (λ (l : Layout). eqb witness (l .witness * l .rows)) q
       ∙ ap (λ (n : ℕ). eqb witness (numWitness (circuitOf ws) * n)) (sym (known.rows-is ws a)))
       (ap (eqb columns) w))
-      (ap (λ (v : Numbers). eqb challenges (v .user + 3)) e))
+      (ap (λ (v : CircuitParams). eqb challenges (v .«num_challenges» + 3)) e))
       (ap (eqb y) (m ∙ sym (known.k-is ws a))))
       (counted-nodes (composedNodes (circuitOf ws)) composed nodes n h)

@@ -12,64 +12,64 @@ use expression::value::Point;
 use expression_evaluate::value;
 use field::goldilocks::Goldilocks;
 use hyperplonk_nodes::same_nodes;
+use hyperplonk_prepare::circuit_params;
 use hyperplonk_prepare::copied_of;
 use hyperplonk_prepare::needed::column_words;
 use hyperplonk_prepare::needed::composed_nodes;
-use hyperplonk_prepare::numbers;
 use hyperplonk_spec::RowSum;
 use multilinear::eq_at;
-use preprocessor::Numbers;
+use preprocessor::CircuitParams;
 ghost use mathlib.Core.Path.{_≡_};
 ghost use Prim.Native.Nat.{_-_, _^_, _≤_, _<_};
 ghost use lib.ListN.{take};
 ghost use Rattle.field.specs.Element.{elem};
 ghost use Rattle.backend.specs.Circuit.{circuitOf, copied};
-ghost use Rattle.preprocessor.specs.Pieces.{numbersOf};
+ghost use Rattle.preprocessor.specs.Compose.{paramsOf};
 ghost use Rattle.hyperplonk_spec.specs.RowSum.{q16, sumOf, rowSumOf};
 ghost use Rattle.hyperplonk_prepare.specs.Prepared.{Accepted, Prepared};
 ghost use Rattle.hyperplonk_row_sum.specs.Sum.{lengthsRight, valuesSmall, sumLayout, Summable};
 ghost use Rattle.hyperplonk_spec.specs.RowSumClaim.{RowSumClaim};
 
 // Where the polynomials stand that the row sum reads.
-pub fn sum_layout(circuit: &[u64], v: Numbers) -> Layout
-    requires { ⌜ Accepted (now circuit) × (v ≡ numbersOf (circuitOf (now circuit))) ⌝ }
+pub fn sum_layout(circuit: &[u64], params: CircuitParams) -> Layout
+    requires { ⌜ Accepted (now circuit) × (params ≡ paramsOf (circuitOf (now circuit))) ⌝ }
     ensures { λ r. ⌜ r ≡ sumLayout (now (circuit .entry)) ⌝ }
 {
     let instances = circuit[INSTANCE_COUNT] as usize;
     let start = circuit[PREPROCESS_START] as usize;
     let preprocess = circuit[PREPROCESS_COUNT] as usize;
     Layout {
-        rows: v.rows,
+        rows: params.rows,
         instances: instances,
         preprocess: preprocess,
         start: start,
-        witness: v.polys - instances - preprocess,
-        permutations: v.copied,
-        skipped: v.lookups * 2,
-        rest: v.lookups * 2 + v.parts,
+        witness: params.num_poly - instances - preprocess,
+        permutations: params.num_permutation_polys,
+        skipped: params.num_lookups * 2,
+        rest: params.num_lookups * 2 + params.num_chunks,
     }
 }
 
 // Question 16, of the lengths of the words.
 fn lengths_right(
     circuit: &[u64],
-    v: Numbers,
+    params: CircuitParams,
     witness: usize,
     columns: usize,
     nodes: usize,
     challenges: usize,
     y: usize,
 ) -> bool
-    requires { ⌜ Accepted (now circuit) × ((v ≡ numbersOf (circuitOf (now circuit))) × (nodes < 2 ^ 62)) ⌝ }
+    requires { ⌜ Accepted (now circuit) × ((params ≡ paramsOf (circuitOf (now circuit))) × (nodes < 2 ^ 62)) ⌝ }
     ensures { λ r. ⌜ r ≡ lengthsRight (circuitOf (now (circuit .entry))) witness columns nodes challenges y ⌝ }
 {
-    let layout = sum_layout(circuit, v);
-    let words = column_words(circuit, v);
-    let composed = composed_nodes(circuit, v);
+    let layout = sum_layout(circuit, params);
+    let words = column_words(circuit, params);
+    let composed = composed_nodes(circuit, params);
     let k = k_of(circuit) as usize;
     (witness == layout.witness * layout.rows)
         & (columns == words)
-        & (challenges == v.user + 3)
+        & (challenges == params.num_challenges + 3)
         & (y == k)
         & (nodes as u64 == composed * 4)
 }
@@ -94,14 +94,14 @@ pub fn question_16(
     challenges: &[u64],
     y: &[u64],
     copied: &[u64],
-    v: Numbers,
+    params: CircuitParams,
 ) -> bool
-    requires { ⌜ Prepared (now circuit) (now copied) v ⌝ }
+    requires { ⌜ Prepared (now circuit) (now copied) params ⌝ }
     ensures { λ r. ⌜ r ≡ q16 (circuitOf (now (circuit .entry))) (now (witness .entry)) (now (columns .entry)) (now (nodes .entry)) (now (challenges .entry)) (now (y .entry)) ⌝ }
 {
     if !lengths_right(
         circuit,
-        v,
+        params,
         witness.len(),
         columns.len(),
         nodes.len(),
@@ -110,7 +110,7 @@ pub fn question_16(
     ) {
         return false;
     }
-    if !same_nodes(circuit, copied, v, nodes) {
+    if !same_nodes(circuit, copied, params, nodes) {
         return false;
     }
     values_small(witness, columns, challenges, y)
@@ -168,15 +168,24 @@ fn sum_prepared<'a>(
     challenges: &'a [u64],
     y: &[u64],
     copied: &[u64],
-    v: Numbers,
+    params: CircuitParams,
 ) -> RowSum
-    requires { ⌜ Prepared (now circuit) (now copied) v ⌝ }
+    requires { ⌜ Prepared (now circuit) (now copied) params ⌝ }
     ensures { λ r. ⌜ r ≡ rowSumOf (now (circuit .entry)) (now (witness .entry)) (now (columns .entry)) (now (nodes .entry)) (now (challenges .entry)) (now (y .entry)) ⌝ }
 {
-    if !question_16(circuit, witness, columns, nodes, challenges, y, copied, v) {
+    if !question_16(
+        circuit,
+        witness,
+        columns,
+        nodes,
+        challenges,
+        y,
+        copied,
+        params,
+    ) {
         return RowSum { number: 16, sum: 0 };
     }
-    let layout = sum_layout(circuit, v);
+    let layout = sum_layout(circuit, params);
     let k = k_of(circuit) as usize;
     let sum = sum_rows(circuit, witness, columns, nodes, challenges, y, layout, k);
     RowSum {
@@ -200,7 +209,7 @@ fn sum_named<'a>(
     ensures { λ r. ⌜ r ≡ rowSumOf (now (circuit .entry)) (now (witness .entry)) (now (columns .entry)) (now (nodes .entry)) (now (challenges .entry)) (now (y .entry)) ⌝ }
 {
     let all = &of[..];
-    let v = numbers(circuit, count);
+    let params = circuit_params(circuit, count);
     sum_prepared(
         circuit,
         witness,
@@ -209,7 +218,7 @@ fn sum_named<'a>(
         challenges,
         y,
         &all[0..count],
-        v,
+        params,
     )
 }
 

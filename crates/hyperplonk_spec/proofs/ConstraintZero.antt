@@ -19,15 +19,7 @@ use Rattle.expression.specs.Expr.{Expr, evaluate, productFrom, productOf}
 use Rattle.expression.specs.Value.{Environment, polyOf, valueOps, valueAt}
 use Rattle.backend.specs.Circuit.{Circuit, numUser, zNumber}
 use Rattle.backend.specs.Constraints.{lookupConstraint}
-use Rattle.preprocessor.specs.Compose.{
-  numZ,
-  constraintCut,
-  nextZ,
-  identityFactor,
-  permutationFactor,
-  partConstraint,
-  startConstraint,
-}
+use Rattle.preprocessor.specs.Compose.{numZ, constraintCut, nextZ, identityFactor, permutationFactor, startConstraint, nextTree, paramsOf, partTree, startTree}
 use Rattle.hyperplonk_spec.specs.Meaning.{Embeds}
 use Rattle.hyperplonk_spec.proofs.Embeds.{embeds-one}
 use Rattle.hyperplonk_spec.specs.Composed.{inputIn, tableIn, nextIn, LookupZero, StartZero, PartZero}
@@ -81,7 +73,7 @@ module _ (𝓕 : Field) where
     product-value h f (t ∷ ts) b = product-from (f t) f ts b
 
     next-value : (i b : ℕ) → valueAt 𝓕 s (nextZ c i) b ≡ nextIn 𝓕 s c i b
-    unfolding nextZ nextIn valueAt valueOps evaluate rotated iter
+    unfolding nextTree paramsOf nextIn valueAt valueOps evaluate rotated iter
     next-value i b = go (ltb (suc i) (numZ c))
       where
         go : (t : Bool)
@@ -91,7 +83,7 @@ module _ (𝓕 : Field) where
         go false = refl
 
     pub part-zero : PartZero 𝓕 s c
-    unfolding valueAt valueOps evaluate partConstraint rotated iter
+    unfolding valueAt valueOps evaluate partTree paramsOf rotated iter
     part-zero h i b l =
         rw (← next-value i b, ← product-value h (identityFactor c) (getD (constraintCut c) i []) b, ← product-value h (permutationFactor c) (getD (constraintCut c) i []) b)
         (sub-zero 𝓕 _ _)
@@ -99,7 +91,7 @@ module _ (𝓕 : Field) where
     value-start : Embeds 𝓕 (s .el) → 0 < s .k → (b : ℕ)
         → valueAt 𝓕 s (startConstraint c) b
         ≡ mul (cond (eqb b 1) one zero) (add (polyOf 𝓕 (s .polys) (zNumber c 0) b) (neg one))
-    unfolding valueAt valueOps evaluate startConstraint rotated iter
+    unfolding valueAt valueOps evaluate startTree paramsOf rotated iter
     value-start h l b =
         rw (lagrange-1 (s .k) l, h .el-suc 0, h .el-zero, zero-add 𝓕 one)
 

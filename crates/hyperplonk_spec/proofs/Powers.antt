@@ -16,7 +16,7 @@ use Rattle.expression.specs.Expr.{Expr, running, evaluate, values, exprsOf, dis
 use Rattle.expression.specs.Value.{Environment, valueOps, valueAt}
 use Rattle.backend.specs.Circuit.{Circuit, numLookups, hNumber}
 use Rattle.backend.specs.Constraints.{alphaOf}
-use Rattle.preprocessor.specs.Compose.{composedConstraints, zeroCheck, compose}
+use Rattle.preprocessor.specs.Compose.{composedConstraints, zeroCheck, composeTree, paramsOf, outerTrees, zeroTree}
 use Rattle.prover.specs.Columns.{powerSum}
 use Rattle.hyperplonk_spec.specs.Meaning.{Embeds}
 use Rattle.hyperplonk_spec.specs.Composed.{PowersValue, ComposeValue, zeroCheckIn}
@@ -107,12 +107,12 @@ module _ (𝓕 : Field) where
       powers-value h (e ∷ (f ∷ es)) base b = powers-from es base b e f
 
       zero-check-value : Embeds 𝓕 (s .el) → (b : ℕ) → valueAt 𝓕 s (zeroCheck c) b ≡ zeroCheckIn 𝓕 s c b
-      unfolding zeroCheck evaluate valueAt valueOps
+      unfolding zeroTree paramsOf evaluate valueAt valueOps
       zero-check-value h b =
           ap (λ (v : F). mul v (s .eq b)) (powers-value h (composedConstraints c) (alphaOf c) b)
 
       pub compose-value : ComposeValue 𝓕 s c
-      unfolding compose evaluate valueAt valueOps rotated iter
+      unfolding composeTree outerTrees paramsOf evaluate valueAt valueOps rotated iter
       compose-value h b =
           let hs : ℕ → Expr = λ j. at (hNumber c j) in
           powers-value h (column hs (numLookups c) ++ (zeroCheck c ∷ [])) (alphaOf c) b

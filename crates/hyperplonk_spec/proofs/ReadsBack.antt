@@ -26,21 +26,7 @@ use Rattle.backend.specs.Circuit.{
   zNumber,
 }
 use Rattle.backend.specs.Constraints.{betaOf, alphaOf, inputsOf, tablesOf, lookupConstraint, lookupConstraints}
-use Rattle.preprocessor.specs.Compose.{
-  numZ,
-  constraintCut,
-  identityFactor,
-  permutationFactor,
-  nextZ,
-  partConstraint,
-  startConstraint,
-  permutationConstraints,
-  composedConstraints,
-  zeroCheck,
-  compose,
-  composedWords,
-  composedNodes,
-}
+use Rattle.preprocessor.specs.Compose.{numZ, constraintCut, identityFactor, permutationFactor, nextZ, partConstraint, startConstraint, permutationConstraints, composedConstraints, zeroCheck, compose, composedWords, composedNodes, composeTree, constraintTrees, identityTree, lookupTreeOf, nextTree, paramsOf, outerTrees, partTree, permutationTree, permutationTrees, startTree, zeroTree}
 use Rattle.hyperplonk_spec.specs.Composed.{ReadsBack}
 
 abbrev PairKept : Pair → Type 0
@@ -77,15 +63,15 @@ module _ (c : Circuit) (k : CircuitKept c) where
       ((((refl, (i, tt)), (t, tt)), (t, tt)), (refl, (i, tt)))
 
   identity-kept : (i : ℕ) → Kept (identityFactor c i)
-  unfolding identityFactor
+  unfolding identityTree paramsOf
   identity-kept i = ((refl, (tt, (tt, tt))), tt)
 
   permutation-kept : (i : ℕ) → Kept (permutationFactor c i)
-  unfolding permutationFactor
+  unfolding permutationTree paramsOf
   permutation-kept i = ((refl, (tt, refl)), tt)
 
   next-kept : (i : ℕ) → Kept (nextZ c i)
-  unfolding nextZ
+  unfolding nextTree paramsOf
   next-kept i = go (ltb (suc i) (numZ c))
     where
       go : (t : Bool) → Kept (cond t (at (zNumber c (suc i))) (Expr.poly (zNumber c 0) (pos 1)))
@@ -93,7 +79,7 @@ module _ (c : Circuit) (k : CircuitKept c) where
       go false = refl
 
   part-kept : (i : ℕ) → Kept (partConstraint c i)
-  unfolding partConstraint
+  unfolding partTree paramsOf
   part-kept i =
       let part : List ℕ = getD (constraintCut c) i [] in (
         (refl, product-within kept-signs (map (identityFactor c) part) (all-map Kept (identityFactor c) identity-kept part)),
@@ -101,11 +87,11 @@ module _ (c : Circuit) (k : CircuitKept c) where
       )
 
   start-kept : Kept (startConstraint c)
-  unfolding startConstraint
+  unfolding startTree paramsOf
   start-kept = (refl, (refl, tt))
 
   permutations-kept : All Kept (permutationConstraints c)
-  unfolding permutationConstraints
+  unfolding permutationTrees paramsOf
   permutations-kept = go (eqb (numCopied c) 0)
     where
       go : (t : Bool) → All Kept (cond t [] (startConstraint c ∷ column (partConstraint c) (numZ c)))
@@ -113,7 +99,7 @@ module _ (c : Circuit) (k : CircuitKept c) where
       go false = (start-kept, all-column Kept (partConstraint c) (numZ c) (λ i l. part-kept i))
 
   composed-kept : All Kept (composedConstraints c)
-  unfolding composedConstraints lookupConstraints
+  unfolding constraintTrees lookupTreeOf lookupConstraint paramsOf lookupConstraints
   composed-kept =
       all-join Kept (c .constraints) _ (k .constraints)
       (all-join Kept (lookupConstraints c) (permutationConstraints c)
@@ -121,7 +107,7 @@ module _ (c : Circuit) (k : CircuitKept c) where
       permutations-kept)
 
   compose-kept : Kept (compose c)
-  unfolding compose zeroCheck
+  unfolding composeTree outerTrees paramsOf zeroTree
   compose-kept =
       powers-within kept-signs _ (alphaOf c)
       (all-join Kept (column (λ j. at (hNumber c j)) (numLookups c)) (zeroCheck c ∷ [])

@@ -1,4 +1,4 @@
--- The trees over the pieces are those of the circuit that the pieces are of. Proved.
+-- The trees over words are those of the circuit that the words are decoded to. Proved.
 use mathlib.Core.Path.{_≡_, refl, sym, ap, _∙_, subst}
 use mathlib.Core.List.{List, map}
 use Prim.Native.Nat.{ℕ, suc, _+_, _-_, _*_, _/_, _≤_}
@@ -14,72 +14,42 @@ use Rattle.expression.specs.Flat.{size, flat}
 use Rattle.expression.specs.Written.{Written}
 use Rattle.expression.proofs.FlatLength.{flat-length}
 use Rattle.backend.specs.Circuit.{Circuit, Pair, Section, circuitOf, bodyOf, entries, pairAt, copied, numCopied}
-use Rattle.backend.specs.Constraints.{lookupConstraint, lookupConstraints, maxDegree}
+use Rattle.backend.specs.Constraints.{maxDegree}
 use Rattle.preprocessor.specs.Compose.{
   numZ,
   constraintCut,
-  identityFactor,
-  permutationFactor,
-  nextZ,
-  partConstraint,
-  startConstraint,
-  permutationConstraints,
   composedConstraints,
-  zeroCheck,
   compose,
   composedWords,
   composedNodes,
-}
-use Rattle.preprocessor.specs.Pieces.{
-  numbersOf,
-  identityTree,
-  permutationTree,
-  nextTree,
-  partTree,
-  startTree,
-  lookupsOf,
-  lookupTreeOf,
+  paramsOf,
   constraintTrees,
-  handedTrees,
-  zeroTree,
-  outerTrees,
   composeTree,
-  PiecesOf,
-  Composed,
 }
-use Rattle.preprocessor.specs.declared.Numbers.{Numbers}
+use Rattle.preprocessor.specs.ComposeWords.{lookupsOf, constraintsFromWords, DecodedFrom, Composed}
+use Rattle.preprocessor.specs.declared.CircuitParams.{CircuitParams}
 
 -- "the constraints cut by D − 1" have N parts
 pub constraint-parts : (c : Circuit) → length (constraintCut c) ≡ numZ c
-unfolding constraintCut numZ
+unfolding paramsOf numZ
 constraint-parts c =
     cut-length (maxDegree c - 1) (below (numCopied c))
     ∙ ap (λ (n : ℕ). ceilDiv n (maxDegree c - 1)) (below-length (numCopied c))
 
-pub constraint-trees : (c : Circuit)
-    → constraintTrees (numbersOf c) (copied c) (c .constraints) (c .lookups) ≡ composedConstraints c
-unfolding constraintTrees lookupTreeOf startTree partTree identityTree permutationTree nextTree numbersOf composedConstraints lookupConstraints lookupConstraint permutationConstraints startConstraint partConstraint identityFactor permutationFactor nextZ constraintCut
-constraint-trees c = refl
+module _ {c : Circuit} {v : CircuitParams} {names nodes roots widths pairs : List ℕ} where
+  pub decoded-constraints : DecodedFrom c v names nodes roots widths pairs → constraintsFromWords v names nodes roots widths pairs ≡ composedConstraints c
+  decoded-constraints p =
+      ap (λ (u : CircuitParams). constraintTrees u names (map (exprOf nodes) roots) (lookupsOf nodes widths pairs)) (p .params-are)
+      ∙ ap (λ (ns : List ℕ). constraintTrees (paramsOf c) ns (map (exprOf nodes) roots) (lookupsOf nodes widths pairs)) (p .copied-are)
+      ∙ ap (λ (es : List Expr). constraintTrees (paramsOf c) (copied c) es (lookupsOf nodes widths pairs)) (p .constraints-are)
+      ∙ ap (λ (ls : List (List Pair)). constraintTrees (paramsOf c) (copied c) (c .constraints) ls) (p .lookups-are)
 
-pub compose-tree : (c : Circuit) → composeTree (numbersOf c) (composedConstraints c) ≡ compose c
-unfolding composeTree outerTrees zeroTree numbersOf compose zeroCheck
-compose-tree c = refl
-
-module _ {c : Circuit} {v : Numbers} {names nodes roots widths pairs : List ℕ} where
-  pub handed-are : PiecesOf c v names nodes roots widths pairs → handedTrees v names nodes roots widths pairs ≡ composedConstraints c
-  handed-are p =
-      ap (λ (u : Numbers). constraintTrees u names (map (exprOf nodes) roots) (lookupsOf nodes widths pairs)) (p .numbers-are)
-      ∙ ap (λ (ns : List ℕ). constraintTrees (numbersOf c) ns (map (exprOf nodes) roots) (lookupsOf nodes widths pairs)) (p .copied-are)
-      ∙ ap (λ (es : List Expr). constraintTrees (numbersOf c) (copied c) es (lookupsOf nodes widths pairs)) (p .constraints-are)
-      ∙ ap (λ (ls : List (List Pair)). constraintTrees (numbersOf c) (copied c) (c .constraints) ls) (p .lookups-are)
-      ∙ constraint-trees c
-
-  pub composed-is : PiecesOf c v names nodes roots widths pairs → composeTree v (handedTrees v names nodes roots widths pairs) ≡ compose c
+  pub composed-is : DecodedFrom c v names nodes roots widths pairs → composeTree v (constraintsFromWords v names nodes roots widths pairs) ≡ compose c
   composed-is p =
-      ap (composeTree v) (handed-are p) ∙ ap (λ (u : Numbers). composeTree u (composedConstraints c)) (p .numbers-are) ∙ compose-tree c
+      ap (composeTree v) (decoded-constraints p) ∙ ap (λ (u : CircuitParams). composeTree u (composedConstraints c)) (p .params-are)
 
-  pub composed-written : {from : ℕ} {d d1 : List ℕ} {next : ℕ} → PiecesOf c v names nodes roots widths pairs
-      → Written from (composeTree v (handedTrees v names nodes roots widths pairs)) 0 d d1 next
+  pub composed-written : {from : ℕ} {d d1 : List ℕ} {next : ℕ} → DecodedFrom c v names nodes roots widths pairs
+      → Written from (composeTree v (constraintsFromWords v names nodes roots widths pairs)) 0 d d1 next
       → Composed from c d d1 next
   unfolding composedNodes composedWords
   composed-written {from} {d} {d1} {next} p w =
@@ -103,16 +73,16 @@ pub composed-part : {from : ℕ} {c : Circuit} {d d1 : List ℕ} {next : ℕ} (n
 composed-part {from} {c} {d} n h l w =
     ap (take n) (w .buffer) ∙ laid-part from d (composedWords c) n h (omega (arith, composed-length c))
 
--- the pieces of circuit words, whose pairs are all there
-pub circuit-pieces : (ws : List ℕ) → length (bodyOf ws Section.pairs) / 2 ≡ entries ws Section.pairs
-    → PiecesOf (circuitOf ws) (numbersOf (circuitOf ws)) (copied (circuitOf ws)) (bodyOf ws Section.nodes)
+-- circuit words, whose pairs are all there, are decoded to their circuit
+pub circuit-decoded : (ws : List ℕ) → length (bodyOf ws Section.pairs) / 2 ≡ entries ws Section.pairs
+    → DecodedFrom (circuitOf ws) (paramsOf (circuitOf ws)) (copied (circuitOf ws)) (bodyOf ws Section.nodes)
     (bodyOf ws Section.constraints)
     (bodyOf ws Section.widths)
     (bodyOf ws Section.pairs)
 unfolding circuitOf lookupsOf
-circuit-pieces ws h =
+circuit-decoded ws h =
     record {
-      numbers-are = refl;
+      params-are = refl;
       copied-are = refl;
       constraints-are = refl;
       lookups-are =

@@ -14,25 +14,11 @@ use Rattle.expression.specs.Expr.{Expr, distributePowers}
 use Rattle.expression.specs.Nodes.{exprOf}
 use Rattle.expression.specs.Flat.{size}
 use Rattle.backend.specs.Circuit.{Circuit}
-use Rattle.preprocessor.specs.Compose.{compose, composedNodes}
-use Rattle.preprocessor.specs.Pieces.{
-  Limits,
-  Words,
-  mAt,
-  hAt,
-  sideExprs,
-  sideTree,
-  lookupsOf,
-  lookupTreeOf,
-  handedTrees,
-  composeTree,
-  numConstraints,
-  permutationNodes,
-  PiecesOf,
-}
+use Rattle.preprocessor.specs.Compose.{compose, composedNodes, numberOfM, numberOfH, lookupTreeOf, composeTree}
+use Rattle.preprocessor.specs.ComposeWords.{Limits, Words, sideExprs, sideTree, lookupsOf, constraintsFromWords, numConstraints, permutationNodes, DecodedFrom}
 use Rattle.preprocessor.specs.Count.{nodesIn, listNodes, most}
-use Rattle.preprocessor.specs.declared.Numbers.{Numbers}
-use Rattle.preprocessor.proofs.Handed.{handed-length, lookup-tree, lookup-size, side-length, side-size}
+use Rattle.preprocessor.specs.declared.CircuitParams.{CircuitParams}
+use Rattle.preprocessor.proofs.ComposeWords.{constraints-length, lookup-tree, lookup-size, side-length, side-size}
 use Rattle.preprocessor.proofs.Composed.{composed-is}
 use Rattle.preprocessor.proofs.Nodes.{nodes-append, nodes-one, list-size, challenge-size, compose-size, constraints-nodes}
 
@@ -113,32 +99,32 @@ lookup-counted nodes pairs beta s w r a b x y h p q ea eb =
     plain r y A B S T h f u t = omega arith
 
 -- the constraint of lookup j, whose pairs begin at s
-pub lookup-is : (v : Numbers) (nodes widths pairs : List ℕ) (j s w r : ℕ) → total widths * 2 ≤ length pairs → j < length widths
+pub lookup-is : (v : CircuitParams) (nodes widths pairs : List ℕ) (j s w r : ℕ) → total widths * 2 ≤ length pairs → j < length widths
     → s ≡ total (take j widths)
     → w ≡ getD widths j 0
-    → r ≡ min most (size (sideTree nodes pairs (v .user) (s * 2) w) * 2 + size (sideTree nodes pairs (v .user) (s * 2 + 1) w) * 2 + 8)
+    → r ≡ min most (size (sideTree nodes pairs (v .«num_challenges») (s * 2) w) * 2 + size (sideTree nodes pairs (v .«num_challenges») (s * 2 + 1) w) * 2 + 8)
     → r ≡ min most (size (lookupTreeOf v (lookupsOf nodes widths pairs) j))
 lookup-is v nodes widths pairs j s w r enough h es ew e =
     e
     ∙ ap₂
     (λ (s w : ℕ).
-    min most (size (sideTree nodes pairs (v .user) (s * 2) w) * 2 + size (sideTree nodes pairs (v .user) (s * 2 + 1) w) * 2 + 8))
+    min most (size (sideTree nodes pairs (v .«num_challenges») (s * 2) w) * 2 + size (sideTree nodes pairs (v .«num_challenges») (s * 2 + 1) w) * 2 + 8))
     es
     ew
     ∙ ap (min most)
     (sym
     (ap size (lookup-tree nodes widths pairs enough j h v)
-    ∙ lookup-size (mAt v j) (hAt v j) (sideTree nodes pairs (v .user) (total (take j widths) * 2) (getD widths j 0))
-    (sideTree nodes pairs (v .user) (total (take j widths) * 2 + 1) (getD widths j 0))))
+    ∙ lookup-size (numberOfM v j) (numberOfH v j) (sideTree nodes pairs (v .«num_challenges») (total (take j widths) * 2) (getD widths j 0))
+    (sideTree nodes pairs (v .«num_challenges») (total (take j widths) * 2 + 1) (getD widths j 0))))
 
 -- the permutation's
-pub permutation-none : (v : Numbers) → v .copied ≡ 0 → permutationNodes v ≡ 0
+pub permutation-none : (v : CircuitParams) → v .«num_permutation_polys» ≡ 0 → permutationNodes v ≡ 0
 unfolding permutationNodes
-permutation-none v h = ap (λ (t : Bool). cond t 0 (6 + v .copied * 18 + v .parts * 4)) (eq-eqb (v .copied) 0 h)
+permutation-none v h = ap (λ (t : Bool). cond t 0 (6 + v .«num_permutation_polys» * 18 + v .«num_chunks» * 4)) (eq-eqb (v .«num_permutation_polys») 0 h)
 
-pub permutation-some : (v : Numbers) → (v .copied ≡ 0 → ⊥) → permutationNodes v ≡ 6 + v .copied * 18 + v .parts * 4
+pub permutation-some : (v : CircuitParams) → (v .«num_permutation_polys» ≡ 0 → ⊥) → permutationNodes v ≡ 6 + v .«num_permutation_polys» * 18 + v .«num_chunks» * 4
 unfolding permutationNodes
-permutation-some v h = ap (λ (t : Bool). cond t 0 (6 + v .copied * 18 + v .parts * 4)) (ne-eqb (v .copied) 0 h)
+permutation-some v h = ap (λ (t : Bool). cond t 0 (6 + v .«num_permutation_polys» * 18 + v .«num_chunks» * 4)) (ne-eqb (v .«num_permutation_polys») 0 h)
 
 -- the user's own constraints
 pub own-nodes : (nodes roots : List ℕ)
@@ -151,51 +137,51 @@ own-nodes nodes roots =
     ∙ ap (map (exprOf nodes)) (column-of roots 0))
 
 -- all of it
-module _ {c : Circuit} {v : Numbers} {names nodes roots widths pairs : List ℕ} where
-  counted : Limits v → PiecesOf c v names nodes roots widths pairs
+module _ {c : Circuit} {v : CircuitParams} {names nodes roots widths pairs : List ℕ} where
+  counted : Limits v → DecodedFrom c v names nodes roots widths pairs
       → composedNodes c
-      ≡ nodesIn (map (exprOf nodes) roots) + nodesIn (column (lookupTreeOf v (lookupsOf nodes widths pairs)) (v .lookups))
+      ≡ nodesIn (map (exprOf nodes) roots) + nodesIn (column (lookupTreeOf v (lookupsOf nodes widths pairs)) (v .«num_lookups»))
       + permutationNodes v
       + listNodes (numConstraints (length roots) v)
       + 2
-      + v .lookups
-      + listNodes (suc (v .lookups))
+      + v .«num_lookups»
+      + listNodes (suc (v .«num_lookups»))
   unfolding composedNodes
   counted l p =
-      let es : List Expr = handedTrees v names nodes roots widths pairs in
+      let es : List Expr = constraintsFromWords v names nodes roots widths pairs in
       let a = ap size (composed-is p) in
       let b = compose-size v es in
       let d = constraints-nodes v l names (map (exprOf nodes) roots) (lookupsOf nodes widths pairs) in
-      let e = ap listNodes (handed-length v names nodes roots widths pairs) in
+      let e = ap listNodes (constraints-length v names nodes roots widths pairs) in
       omega arith
 
-  pub composed-counted : (r own looks perm x y z u m k : ℕ) → Limits v → PiecesOf c v names nodes roots widths pairs
+  pub composed-counted : (r own looks perm x y z u m k : ℕ) → Limits v → DecodedFrom c v names nodes roots widths pairs
       → own ≡ min most (nodesIn (column (λ i. exprOf nodes (getD roots (0 + i * 1) 0)) (length roots)))
-      → looks ≡ min most (nodesIn (column (lookupTreeOf v (lookupsOf nodes widths pairs)) (v .lookups)))
+      → looks ≡ min most (nodesIn (column (lookupTreeOf v (lookupsOf nodes widths pairs)) (v .«num_lookups»)))
       → perm ≡ permutationNodes v
       → m ≡ min most (listNodes (numConstraints (length roots) v))
-      → k ≡ min most (listNodes (v .lookups + 1))
+      → k ≡ min most (listNodes (v .«num_lookups» + 1))
       → x ≡ min most (own + looks)
       → y ≡ min most (x + perm)
       → z ≡ min most (y + m)
-      → u ≡ min most (z + (v .lookups + 2))
+      → u ≡ min most (z + (v .«num_lookups» + 2))
       → r ≡ min most (u + k)
       → r ≡ min most (composedNodes c)
   composed-counted r own looks perm x y z u m k l p ho hl hp hm hk hx hy hz hu hr =
       let A : ℕ = nodesIn (map (exprOf nodes) roots) in
-      let B : ℕ = nodesIn (column (lookupTreeOf v (lookupsOf nodes widths pairs)) (v .lookups)) in
+      let B : ℕ = nodesIn (column (lookupTreeOf v (lookupsOf nodes widths pairs)) (v .«num_lookups»)) in
       let M : ℕ = listNodes (numConstraints (length roots) v) in
-      let K : ℕ = listNodes (v .lookups + 1) in
+      let K : ℕ = listNodes (v .«num_lookups» + 1) in
       let ex : x ≡ min most (A + B) = capped x own looks A B hx (ho ∙ ap (min most) (own-nodes nodes roots)) hl in
       let ey : y ≡ min most (A + B + permutationNodes v) = plain y x perm (A + B) (permutationNodes v) hy ex hp in
       let ez : z ≡ min most (A + B + permutationNodes v + M) = capped z y m (A + B + permutationNodes v) M hz ey hm in
-      let eu : u ≡ min most (A + B + permutationNodes v + M + (v .lookups + 2)) =
-      plain u z (v .lookups + 2) (A + B + permutationNodes v + M) (v .lookups + 2) hu ez refl in
-      let er : r ≡ min most (A + B + permutationNodes v + M + (v .lookups + 2) + K) =
-      capped r u k (A + B + permutationNodes v + M + (v .lookups + 2)) K hr eu hk in
+      let eu : u ≡ min most (A + B + permutationNodes v + M + (v .«num_lookups» + 2)) =
+      plain u z (v .«num_lookups» + 2) (A + B + permutationNodes v + M) (v .«num_lookups» + 2) hu ez refl in
+      let er : r ≡ min most (A + B + permutationNodes v + M + (v .«num_lookups» + 2) + K) =
+      capped r u k (A + B + permutationNodes v + M + (v .«num_lookups» + 2)) K hr eu hk in
       er
       ∙ ap (min most)
-      (sum A B (permutationNodes v) M (v .lookups) K ∙ ap (λ (n : ℕ). A + B + permutationNodes v + M + 2 + v .lookups + listNodes n) (add-one (v .lookups)) ∙ sym (counted l p))
+      (sum A B (permutationNodes v) M (v .«num_lookups») K ∙ ap (λ (n : ℕ). A + B + permutationNodes v + M + 2 + v .«num_lookups» + listNodes n) (add-one (v .«num_lookups»)) ∙ sym (counted l p))
     where
       plain : (r a b A B : ℕ) → r ≡ min most (a + b) → a ≡ min most A → b ≡ B → r ≡ min most (A + B)
       plain r a b A B h p q = omega arith

@@ -4,7 +4,7 @@ pub mod Walks
 pub mod Copied
 pub mod Lists
 pub mod Parts
-pub mod Handed
+pub mod ComposeWords
 pub mod Composed
 pub mod Nodes
 pub mod Counts

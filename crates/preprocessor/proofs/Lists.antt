@@ -22,7 +22,7 @@ use Rattle.expression.proofs.Written.{
   list-last,
   list-more,
 }
-use Rattle.preprocessor.specs.Pieces.{exprsFrom}
+use Rattle.preprocessor.specs.ComposeWords.{exprsFrom}
 
 -- expression i of a list
 abbrev pub nth : List Expr → ℕ → Expr

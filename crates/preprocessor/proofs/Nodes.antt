@@ -15,27 +15,12 @@ use Rattle.expression.specs.Nodes.{exprOf}
 use Rattle.expression.specs.Flat.{body, sizes, extra, size}
 use Rattle.backend.specs.Circuit.{Circuit, Pair, numUser, numLookups, numCopied, copied}
 use Rattle.backend.specs.Constraints.{inputsOf, tablesOf, lookupTree}
-use Rattle.preprocessor.specs.Compose.{numZ, compose, composedConstraints, composedNodes}
-use Rattle.preprocessor.specs.Pieces.{
-  Limits,
-  hAt,
-  partOf,
-  startTree,
-  partTree,
-  lookupTreeOf,
-  constraintTrees,
-  zeroTree,
-  outerTrees,
-  composeTree,
-  numConstraints,
-  permutationNodes,
-  numbersOf,
-}
+use Rattle.preprocessor.specs.Compose.{numZ, compose, composedConstraints, composedNodes, numberOfH, chunk, startTree, partTree, lookupTreeOf, permutationTrees, constraintTrees, zeroTree, outerTrees, composeTree, paramsOf}
+use Rattle.preprocessor.specs.ComposeWords.{Limits, numConstraints, permutationNodes}
 use Rattle.preprocessor.specs.Count.{nodesIn, listNodes}
-use Rattle.preprocessor.specs.declared.Numbers.{Numbers}
+use Rattle.preprocessor.specs.declared.CircuitParams.{CircuitParams}
 use Rattle.preprocessor.proofs.Parts.{part-size, start-size}
-use Rattle.preprocessor.proofs.Handed.{outer-length, zero-size}
-use Rattle.preprocessor.proofs.Composed.{constraint-trees, compose-tree}
+use Rattle.preprocessor.proofs.ComposeWords.{outer-length, zero-size}
 
 pub nodes-append : (es fs : List Expr) → nodesIn (es ++ fs) ≡ nodesIn es + nodesIn fs
 unfolding nodesIn
@@ -91,35 +76,35 @@ queries-nodes f (suc n) =
     ∙ ap₂ _+_ (queries-nodes f n) (nodes-one (at (f n)) ∙ query-size (f n))
     ∙ omega arith
 
-outer-nodes : (v : Numbers) (es : List Expr) → nodesIn (outerTrees v es) ≡ v .lookups + size (zeroTree v es)
+outer-nodes : (v : CircuitParams) (es : List Expr) → nodesIn (outerTrees v es) ≡ v .«num_lookups» + size (zeroTree v es)
 unfolding outerTrees
 outer-nodes v es =
-    nodes-append (column (λ j. at (hAt v j)) (v .lookups)) (zeroTree v es ∷ [])
-    ∙ ap₂ _+_ (queries-nodes (hAt v) (v .lookups)) (nodes-one (zeroTree v es))
+    nodes-append (column (λ j. at (numberOfH v j)) (v .«num_lookups»)) (zeroTree v es ∷ [])
+    ∙ ap₂ _+_ (queries-nodes (numberOfH v) (v .«num_lookups»)) (nodes-one (zeroTree v es))
 
-pub compose-size : (v : Numbers) (es : List Expr)
-    → size (composeTree v es) ≡ nodesIn es + listNodes (length es) + 2 + v .lookups + listNodes (suc (v .lookups))
+pub compose-size : (v : CircuitParams) (es : List Expr)
+    → size (composeTree v es) ≡ nodesIn es + listNodes (length es) + 2 + v .«num_lookups» + listNodes (suc (v .«num_lookups»))
 unfolding composeTree
 compose-size v es =
-    let b : Expr = Expr.challenge (v .user + 2) in
-    let p = list-size b (challenge-size (v .user + 2)) (outerTrees v es) in
+    let b : Expr = Expr.challenge (v .«num_challenges» + 2) in
+    let p = list-size b (challenge-size (v .«num_challenges» + 2)) (outerTrees v es) in
     let q = outer-nodes v es in
     let r = zero-size v es in
-    let s = list-size b (challenge-size (v .user + 2)) es in
-    let t : listNodes (length (outerTrees v es)) ≡ listNodes (suc (v .lookups)) = ap listNodes (outer-length v es) in
+    let s = list-size b (challenge-size (v .«num_challenges» + 2)) es in
+    let t : listNodes (length (outerTrees v es)) ≡ listNodes (suc (v .«num_lookups»)) = ap listNodes (outer-length v es) in
     omega arith
 
 -- ---- a lookup
-pub lookup-nodes : (v : Numbers) (lookups : List (List Pair)) (j : ℕ)
+pub lookup-nodes : (v : CircuitParams) (lookups : List (List Pair)) (j : ℕ)
     → size (lookupTreeOf v lookups j)
     ≡ (nodesIn (inputsOf (getD lookups j [])) + listNodes (length (inputsOf (getD lookups j [])))) * 2
     + (nodesIn (tablesOf (getD lookups j [])) + listNodes (length (tablesOf (getD lookups j [])))) * 2
     + 16
 unfolding lookupTreeOf body
 lookup-nodes v lookups j =
-    let b : Expr = Expr.challenge (v .user) in
-    let p = list-size b (challenge-size (v .user)) (inputsOf (getD lookups j [])) in
-    let q = list-size b (challenge-size (v .user)) (tablesOf (getD lookups j [])) in
+    let b : Expr = Expr.challenge (v .«num_challenges») in
+    let p = list-size b (challenge-size (v .«num_challenges»)) (inputsOf (getD lookups j [])) in
+    let q = list-size b (challenge-size (v .«num_challenges»)) (tablesOf (getD lookups j [])) in
     omega arith
 
 -- ---- the permutation
@@ -133,65 +118,63 @@ scaled-total a (suc n) =
     omega arith
 
 -- the parts hold each copied column once
-parts-total : (v : Numbers) → Limits v → total (column (λ i. length (partOf v i)) (v .parts)) ≡ v .copied
+parts-total : (v : CircuitParams) → Limits v → total (column (λ i. length (chunk v i)) (v .«num_chunks»)) ≡ v .«num_permutation_polys»
 parts-total v l =
-    let C : List (List ℕ) = cut (v .part) (below (v .copied)) in
-    let n : v .parts ≡ length C =
+    let C : List (List ℕ) = cut (v .«chunk_size») (below (v .«num_permutation_polys»)) in
+    let n : v .«num_chunks» ≡ length C =
     l .parts-are
-    ∙ ap (λ (n : ℕ). ceilDiv n (v .part)) (sym (below-length (v .copied)))
-    ∙ sym (cut-length (v .part) (below (v .copied))) in
+    ∙ ap (λ (n : ℕ). ceilDiv n (v .«chunk_size»)) (sym (below-length (v .«num_permutation_polys»)))
+    ∙ sym (cut-length (v .«chunk_size») (below (v .«num_permutation_polys»))) in
     ap (λ (m : ℕ). total (column (λ i. length (getD C i [])) m)) n
     ∙ ap total
     (sym (map-column (λ (xs : List ℕ). length xs) (λ i. getD C i []) (length C)) ∙ ap (map (λ (xs : List ℕ). length xs)) (column-of C []))
     ∙ sym (concat-length C)
-    ∙ ap length (concat-cut (v .part) (below (v .copied)) (l .some-part))
-    ∙ below-length (v .copied)
+    ∙ ap length (concat-cut (v .«chunk_size») (below (v .«num_permutation_polys»)) (l .some-part))
+    ∙ below-length (v .«num_permutation_polys»)
 
-pub permutation-nodes : (v : Numbers) (l : Limits v) (names : List ℕ)
-    → nodesIn (startTree v ∷ column (partTree v names) (v .parts)) ≡ 6 + v .copied * 18 + v .parts * 4
+pub permutation-nodes : (v : CircuitParams) (l : Limits v) (names : List ℕ)
+    → nodesIn (startTree v ∷ column (partTree v names) (v .«num_chunks»)) ≡ 6 + v .«num_permutation_polys» * 18 + v .«num_chunks» * 4
 unfolding nodesIn
 permutation-nodes v l names =
     let p =
-    nodes-column (partTree v names) (v .parts)
+    nodes-column (partTree v names) (v .«num_chunks»)
     ∙ ap total
-    (column-cong (λ i. size (partTree v names i)) (λ i. length (partOf v i) * 18 + 4) (v .parts) (λ i h. part-size v l i h names))
-    ∙ scaled-total (λ i. length (partOf v i)) (v .parts) in
+    (column-cong (λ i. size (partTree v names i)) (λ i. length (chunk v i) * 18 + 4) (v .«num_chunks») (λ i h. part-size v l i h names))
+    ∙ scaled-total (λ i. length (chunk v i)) (v .«num_chunks») in
     let q = parts-total v l in
     let s = start-size v in
     omega arith
 
 -- ---- all constraints
-some-nodes : (v : Numbers) (l : Limits v) (names : List ℕ) (t : Bool)
-    → nodesIn (cond t [] (startTree v ∷ column (partTree v names) (v .parts))) ≡ cond t 0 (6 + v .copied * 18 + v .parts * 4)
+some-nodes : (v : CircuitParams) (l : Limits v) (names : List ℕ) (t : Bool)
+    → nodesIn (cond t [] (startTree v ∷ column (partTree v names) (v .«num_chunks»))) ≡ cond t 0 (6 + v .«num_permutation_polys» * 18 + v .«num_chunks» * 4)
 unfolding nodesIn
 some-nodes v l names true = refl
 some-nodes v l names false = permutation-nodes v l names
 
-pub constraints-nodes : (v : Numbers) (l : Limits v) (names : List ℕ) (user : List Expr) (lookups : List (List Pair))
+pub constraints-nodes : (v : CircuitParams) (l : Limits v) (names : List ℕ) (user : List Expr) (lookups : List (List Pair))
     → nodesIn (constraintTrees v names user lookups)
-    ≡ nodesIn user + nodesIn (column (lookupTreeOf v lookups) (v .lookups))
+    ≡ nodesIn user + nodesIn (column (lookupTreeOf v lookups) (v .«num_lookups»))
     + permutationNodes v
-unfolding constraintTrees permutationNodes
+unfolding constraintTrees permutationTrees permutationNodes
 constraints-nodes v l names user lookups =
-    let P : List Expr = cond (eqb (v .copied) 0) [] (startTree v ∷ column (partTree v names) (v .parts)) in
-    let a = nodes-append user (column (lookupTreeOf v lookups) (v .lookups) ++ P) in
-    let b = nodes-append (column (lookupTreeOf v lookups) (v .lookups)) P in
-    let c = some-nodes v l names (eqb (v .copied) 0) in
+    let P : List Expr = cond (eqb (v .«num_permutation_polys») 0) [] (startTree v ∷ column (partTree v names) (v .«num_chunks»)) in
+    let a = nodes-append user (column (lookupTreeOf v lookups) (v .«num_lookups») ++ P) in
+    let b = nodes-append (column (lookupTreeOf v lookups) (v .«num_lookups»)) P in
+    let c = some-nodes v l names (eqb (v .«num_permutation_polys») 0) in
     omega arith
 
 -- user nodes, lookups, permutation, what the lists add, the product with EqXY(0), the h queries
-pub composed-nodes : (c : Circuit) → Limits (numbersOf c)
+pub composed-nodes : (c : Circuit) → Limits (paramsOf c)
     → composedNodes c
-    ≡ nodesIn (c .constraints) + nodesIn (column (lookupTreeOf (numbersOf c) (c .lookups)) (numLookups c))
-    + permutationNodes (numbersOf c)
+    ≡ nodesIn (c .constraints) + nodesIn (column (lookupTreeOf (paramsOf c) (c .lookups)) (numLookups c))
+    + permutationNodes (paramsOf c)
     + listNodes (length (composedConstraints c))
     + 2
     + numLookups c
     + listNodes (suc (numLookups c))
-unfolding composedNodes numbersOf
+unfolding composedNodes paramsOf
 composed-nodes c l =
-    let p = compose-size (numbersOf c) (composedConstraints c) in
-    let q = ap size (compose-tree c) in
-    let r = constraints-nodes (numbersOf c) l (copied c) (c .constraints) (c .lookups) in
-    let s = ap nodesIn (constraint-trees c) in
+    let p = compose-size (paramsOf c) (composedConstraints c) in
+    let r = constraints-nodes (paramsOf c) l (copied c) (c .constraints) (c .lookups) in
     omega arith

@@ -20,85 +20,86 @@ use Rattle.expression.specs.Expr.{Expr, minus, at, productOf}
 use Rattle.expression.specs.Flat.{body, size}
 use Rattle.expression.specs.Written.{Pushed, Written}
 use Rattle.expression.proofs.Written.{written-as, written-minus, written-poly, written-product, written-lagrange, written-constant}
-use Rattle.preprocessor.specs.Pieces.{Limits, partOf, identityTree, permutationTree, nextTree, partTree, startTree, zAt}
-use Rattle.preprocessor.specs.declared.Numbers.{Numbers}
+use Rattle.preprocessor.specs.Compose.{chunk, identityTree, permutationTree, nextTree, partTree, startTree, numberOfZ}
+use Rattle.preprocessor.specs.ComposeWords.{Limits}
+use Rattle.preprocessor.specs.declared.CircuitParams.{CircuitParams}
 use Rattle.preprocessor.proofs.Lists.{product-size}
 
 -- a label is a word
-label-small : (v : Numbers) → Limits v → (i : ℕ) → i < v .copied → i * v .rows ≤ 75497472
+label-small : (v : CircuitParams) → Limits v → (i : ℕ) → i < v .«num_permutation_polys» → i * v .rows ≤ 75497472
 label-small v l i h =
     let m : i * v .rows ≤ 72 * 1048576 = mul-le-mul {n₂ = 72} {m₂ = 1048576} (omega arith) (l .few-rows) in
     omega arith
 
-pub label-fits : (v : Numbers) → Limits v → (i : ℕ) → i < v .copied → Fits w64 (i * v .rows)
+pub label-fits : (v : CircuitParams) → Limits v → (i : ℕ) → i < v .«num_permutation_polys» → Fits w64 (i * v .rows)
 label-fits v l i h = omega (arith, label-small v l i h)
 
 -- N is at most n
-pub parts-few : (v : Numbers) → Limits v → v .parts ≤ v .copied
+pub parts-few : (v : CircuitParams) → Limits v → v .«num_chunks» ≤ v .«num_permutation_polys»
 parts-few v l =
-    subst (λ (x : ℕ). x ≤ v .copied) (sym (l .parts-are))
-    (ceil-le (v .copied) (v .part) (v .copied) (l .some-part) (many (v .part) (l .some-part)))
+    subst (λ (x : ℕ). x ≤ v .«num_permutation_polys») (sym (l .parts-are))
+    (ceil-le (v .«num_permutation_polys») (v .«chunk_size») (v .«num_permutation_polys») (l .some-part) (many (v .«chunk_size») (l .some-part)))
   where
-    many : (d : ℕ) → 0 < d → v .copied ≤ v .copied * d
-    many d h = let m : v .copied * 1 ≤ v .copied * d = mul-le-mul-left (v .copied) h in omega arith
+    many : (d : ℕ) → 0 < d → v .«num_permutation_polys» ≤ v .«num_permutation_polys» * d
+    many d h = let m : v .«num_permutation_polys» * 1 ≤ v .«num_permutation_polys» * d = mul-le-mul-left (v .«num_permutation_polys») h in omega arith
 
-module _ (v : Numbers) (l : Limits v) (i : ℕ) (h : i < v .parts) where
+module _ (v : CircuitParams) (l : Limits v) (i : ℕ) (h : i < v .«num_chunks») where
   -- part i is not empty
-  pub part-start : i * v .part < v .copied
-  part-start = ceil-below (v .copied) (v .part) i (l .some-part) (subst (λ (n : ℕ). i < n) (l .parts-are) h)
+  pub part-start : i * v .«chunk_size» < v .«num_permutation_polys»
+  part-start = ceil-below (v .«num_permutation_polys») (v .«chunk_size») i (l .some-part) (subst (λ (n : ℕ). i < n) (l .parts-are) h)
 
-  part-run : partOf v i ≡ take (v .part) (drop (i * v .part) (below (v .copied)))
-  part-run = get-cut (v .part) (below (v .copied)) i (l .some-part)
+  part-run : chunk v i ≡ take (v .«chunk_size») (drop (i * v .«chunk_size») (below (v .«num_permutation_polys»)))
+  part-run = get-cut (v .«chunk_size») (below (v .«num_permutation_polys»)) i (l .some-part)
 
-  pub part-length : length (partOf v i) ≡ min (v .part) (v .copied - i * v .part)
+  pub part-length : length (chunk v i) ≡ min (v .«chunk_size») (v .«num_permutation_polys» - i * v .«chunk_size»)
   part-length =
       ap length part-run
-      ∙ length-take (v .part) (drop (i * v .part) (below (v .copied)))
-      ∙ ap (min (v .part)) (length-drop (i * v .part) (below (v .copied)) ∙ ap (λ (n : ℕ). n - i * v .part) (below-length (v .copied)))
+      ∙ length-take (v .«chunk_size») (drop (i * v .«chunk_size») (below (v .«num_permutation_polys»)))
+      ∙ ap (min (v .«chunk_size»)) (length-drop (i * v .«chunk_size») (below (v .«num_permutation_polys»)) ∙ ap (λ (n : ℕ). n - i * v .«chunk_size») (below-length (v .«num_permutation_polys»)))
 
-  pub part-pos : 0 < length (partOf v i)
+  pub part-pos : 0 < length (chunk v i)
   part-pos = let a = part-start in let b = l .some-part in omega (arith, part-length)
 
-  pub part-end : i * v .part + length (partOf v i) ≤ v .copied
+  pub part-end : i * v .«chunk_size» + length (chunk v i) ≤ v .«num_permutation_polys»
   part-end = let a = part-start in omega (arith, part-length)
 
-  part-is : partOf v i ≡ column (λ j. i * v .part + j) (length (partOf v i))
+  part-is : chunk v i ≡ column (λ j. i * v .«chunk_size» + j) (length (chunk v i))
   part-is =
       part-run
-      ∙ ap (take (v .part)) (drop-column (λ j. j) (i * v .part) (v .copied) (let a = part-start in omega arith))
-      ∙ take-min (λ j. i * v .part + j) (v .part) (v .copied - i * v .part)
-      ∙ ap (column (λ j. i * v .part + j)) (sym part-length)
+      ∙ ap (take (v .«chunk_size»)) (drop-column (λ j. j) (i * v .«chunk_size») (v .«num_permutation_polys») (let a = part-start in omega arith))
+      ∙ take-min (λ j. i * v .«chunk_size» + j) (v .«chunk_size») (v .«num_permutation_polys» - i * v .«chunk_size»)
+      ∙ ap (column (λ j. i * v .«chunk_size» + j)) (sym part-length)
 
-  part-map : (f : ℕ → Expr) → map f (partOf v i) ≡ column (λ j. f (i * v .part + j)) (length (partOf v i))
+  part-map : (f : ℕ → Expr) → map f (chunk v i) ≡ column (λ j. f (i * v .«chunk_size» + j)) (length (chunk v i))
   part-map f =
-      ap (map f) part-is ∙ map-column f (λ j. i * v .part + j) (length (partOf v i))
+      ap (map f) part-is ∙ map-column f (λ j. i * v .«chunk_size» + j) (length (chunk v i))
 
   module _ (names : List ℕ) where
-    pub part-tree : (count : ℕ) → count ≡ length (partOf v i)
+    pub part-tree : (count : ℕ) → count ≡ length (chunk v i)
         → partTree v names i
-        ≡ minus (Expr.product (at (zAt v i)) (productOf (column (λ j. identityTree v names (i * v .part + j)) count)))
-        (Expr.product (nextTree v i) (productOf (column (λ j. permutationTree v names (i * v .part + j)) count)))
+        ≡ minus (Expr.product (at (numberOfZ v i)) (productOf (column (λ j. identityTree v names (i * v .«chunk_size» + j)) count)))
+        (Expr.product (nextTree v i) (productOf (column (λ j. permutationTree v names (i * v .«chunk_size» + j)) count)))
     unfolding partTree
     part-tree count e =
         ap₂
-        (λ (a b : List Expr). minus (Expr.product (at (zAt v i)) (productOf a)) (Expr.product (nextTree v i) (productOf b)))
-        (part-map (identityTree v names) ∙ ap (column (λ j. identityTree v names (i * v .part + j))) (sym e))
-        (part-map (permutationTree v names) ∙ ap (column (λ j. permutationTree v names (i * v .part + j))) (sym e))
+        (λ (a b : List Expr). minus (Expr.product (at (numberOfZ v i)) (productOf a)) (Expr.product (nextTree v i) (productOf b)))
+        (part-map (identityTree v names) ∙ ap (column (λ j. identityTree v names (i * v .«chunk_size» + j))) (sym e))
+        (part-map (permutationTree v names) ∙ ap (column (λ j. permutationTree v names (i * v .«chunk_size» + j))) (sym e))
 
 -- ---- the nodes
-pub identity-size : (v : Numbers) (names : List ℕ) (i : ℕ) → size (identityTree v names i) ≡ 9
+pub identity-size : (v : CircuitParams) (names : List ℕ) (i : ℕ) → size (identityTree v names i) ≡ 9
 unfolding identityTree body
 identity-size v names i = refl
 
-pub permutation-size : (v : Numbers) (names : List ℕ) (i : ℕ) → size (permutationTree v names i) ≡ 7
+pub permutation-size : (v : CircuitParams) (names : List ℕ) (i : ℕ) → size (permutationTree v names i) ≡ 7
 unfolding permutationTree body
 permutation-size v names i = refl
 
-pub next-size : (v : Numbers) (i : ℕ) → size (nextTree v i) ≡ 1
+pub next-size : (v : CircuitParams) (i : ℕ) → size (nextTree v i) ≡ 1
 unfolding nextTree body
-next-size v i = go (ltb (suc i) (v .parts))
+next-size v i = go (ltb (suc i) (v .«num_chunks»))
   where
-    go : (t : Bool) → size (cond t (at (zAt v (suc i))) (Expr.poly (zAt v 0) (pos 1))) ≡ 1
+    go : (t : Bool) → size (cond t (at (numberOfZ v (suc i))) (Expr.poly (numberOfZ v 0) (pos 1))) ≡ 1
     go true = refl
     go false = refl
 
@@ -121,39 +122,39 @@ column-product s f (suc n) h q =
     ∙ product-size s (f 0) (column g n) (q 0, all-column (λ (e : Expr). size e ≡ s) g n (λ i l. q (suc i)))
     ∙ ap (λ (m : ℕ). suc m * (s + 1)) (column-length g n)
 
-pub part-size : (v : Numbers) (l : Limits v) (i : ℕ) (h : i < v .parts) (names : List ℕ)
-    → size (partTree v names i) ≡ length (partOf v i) * 18 + 4
+pub part-size : (v : CircuitParams) (l : Limits v) (i : ℕ) (h : i < v .«num_chunks») (names : List ℕ)
+    → size (partTree v names i) ≡ length (chunk v i) * 18 + 4
 part-size v l i h names =
-    let m : ℕ = length (partOf v i) in
-    let a = column-product 9 (λ j. identityTree v names (i * v .part + j)) m (part-pos v l i h) (λ j. identity-size v names (i * v .part + j)) in
-    let b = column-product 7 (λ j. permutationTree v names (i * v .part + j)) m (part-pos v l i h) (λ j. permutation-size v names (i * v .part + j)) in
+    let m : ℕ = length (chunk v i) in
+    let a = column-product 9 (λ j. identityTree v names (i * v .«chunk_size» + j)) m (part-pos v l i h) (λ j. identity-size v names (i * v .«chunk_size» + j)) in
+    let b = column-product 7 (λ j. permutationTree v names (i * v .«chunk_size» + j)) m (part-pos v l i h) (λ j. permutation-size v names (i * v .«chunk_size» + j)) in
     ap size (part-tree v l i h names m refl)
-    ∙ sides-size (at (zAt v i)) (nextTree v i) (productOf (column (λ j. identityTree v names (i * v .part + j)) m)) (productOf (column (λ j. permutationTree v names (i * v .part + j)) m)) m (at-size (zAt v i)) (next-size v i) a b
+    ∙ sides-size (at (numberOfZ v i)) (nextTree v i) (productOf (column (λ j. identityTree v names (i * v .«chunk_size» + j)) m)) (productOf (column (λ j. permutationTree v names (i * v .«chunk_size» + j)) m)) m (at-size (numberOfZ v i)) (next-size v i) a b
 
-pub start-size : (v : Numbers) → size (startTree v) ≡ 6
+pub start-size : (v : CircuitParams) → size (startTree v) ≡ 6
 unfolding startTree body
 start-size v = refl
 
 -- ---- what is written
-next-by : (v : Numbers) (i : ℕ) (t : Bool) → ltb (suc i) (v .parts) ≡ t
-    → nextTree v i ≡ cond t (at (zAt v (suc i))) (Expr.poly (zAt v 0) (pos 1))
+next-by : (v : CircuitParams) (i : ℕ) (t : Bool) → ltb (suc i) (v .«num_chunks») ≡ t
+    → nextTree v i ≡ cond t (at (numberOfZ v (suc i))) (Expr.poly (numberOfZ v 0) (pos 1))
 unfolding nextTree
-next-by v i t e = ap (λ (s : Bool). cond s (at (zAt v (suc i))) (Expr.poly (zAt v 0) (pos 1))) e
+next-by v i t e = ap (λ (s : Bool). cond s (at (numberOfZ v (suc i))) (Expr.poly (numberOfZ v 0) (pos 1))) e
 
-module _ (v : Numbers) (i : ℕ) {from n next : ℕ} {d d1 : List ℕ} where
+module _ (v : CircuitParams) (i : ℕ) {from n next : ℕ} {d d1 : List ℕ} where
   -- the following part's z
-  pub next-written : (q : ℕ) → q ≡ zAt v (suc i) → suc i < v .parts → Written from (at q) n d d1 next → Written from (nextTree v i) n d d1 next
-  next-written q e h w = written-as (next-by v i true (lt-ltb (suc i) (v .parts) h) ∙ ap at (sym e)) w
+  pub next-written : (q : ℕ) → q ≡ numberOfZ v (suc i) → suc i < v .«num_chunks» → Written from (at q) n d d1 next → Written from (nextTree v i) n d d1 next
+  next-written q e h w = written-as (next-by v i true (lt-ltb (suc i) (v .«num_chunks») h) ∙ ap at (sym e)) w
 
   -- the first z with rotation 1
-  pub around-written : (q : ℕ) → q ≡ zAt v 0 → v .parts ≤ suc i → Pushed from n 5 q 0 2147483649 d d1 next
+  pub around-written : (q : ℕ) → q ≡ numberOfZ v 0 → v .«num_chunks» ≤ suc i → Pushed from n 5 q 0 2147483649 d d1 next
       → Written from (nextTree v i) n d d1 next
   around-written q e h p =
-      written-as (next-by v i false (le-ltb (suc i) (v .parts) h) ∙ ap (λ (z : ℕ). Expr.poly z (pos 1)) (sym e))
+      written-as (next-by v i false (le-ltb (suc i) (v .«num_chunks») h) ∙ ap (λ (z : ℕ). Expr.poly z (pos 1)) (sym e))
       (written-poly {q = q} {r = pos 1} p)
 
-module _ (v : Numbers) {from n x y z u w next : ℕ} {d d1 d2 d3 d4 d5 d6 : List ℕ} where
-  pub start-written : (q : ℕ) → q ≡ zAt v 0 → Pushed from n 3 0 0 2147483649 d d1 x → Written from (at q) x d1 d2 y
+module _ (v : CircuitParams) {from n x y z u w next : ℕ} {d d1 d2 d3 d4 d5 d6 : List ℕ} where
+  pub start-written : (q : ℕ) → q ≡ numberOfZ v 0 → Pushed from n 3 0 0 2147483649 d d1 x → Written from (at q) x d1 d2 y
       → Pushed from y 1 0 0 1 d2 d3 z
       → Pushed from z 7 (z - 1) 0 0 d3 d4 u
       → Pushed from u 8 (y - 1) (u - 1) 0 d4 d5 w
@@ -164,11 +165,11 @@ module _ (v : Numbers) {from n x y z u w next : ℕ} {d d1 d2 d3 d4 d5 d6 : List
       written-as (ap (λ (z : ℕ). Expr.product (Expr.lagrange (pos 1)) (minus (at z) (Expr.constant 1))) (sym e))
       (written-product (written-lagrange {i = pos 1} a) (written-minus b (written-constant p) r s) t)
 
-module _ (v : Numbers) (l : Limits v) (i : ℕ) (h : i < v .parts) (names : List ℕ) (count : ℕ) {from n x y z next : ℕ}
+module _ (v : CircuitParams) (l : Limits v) (i : ℕ) (h : i < v .«num_chunks») (names : List ℕ) (count : ℕ) {from n x y z next : ℕ}
     {d d1 d2 d3 d4 : List ℕ} where
-  pub part-written : count ≡ length (partOf v i)
-      → Written from (Expr.product (at (zAt v i)) (productOf (column (λ j. identityTree v names (i * v .part + j)) count))) n d d1 x
-      → Written from (Expr.product (nextTree v i) (productOf (column (λ j. permutationTree v names (i * v .part + j)) count))) x d1 d2 y
+  pub part-written : count ≡ length (chunk v i)
+      → Written from (Expr.product (at (numberOfZ v i)) (productOf (column (λ j. identityTree v names (i * v .«chunk_size» + j)) count))) n d d1 x
+      → Written from (Expr.product (nextTree v i) (productOf (column (λ j. permutationTree v names (i * v .«chunk_size» + j)) count))) x d1 d2 y
       → Pushed from y 7 (y - 1) 0 0 d2 d3 z
       → Pushed from z 8 (x - 1) (z - 1) 0 d3 d4 next
       → Written from (partTree v names i) n d d4 next

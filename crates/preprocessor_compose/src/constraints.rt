@@ -6,7 +6,7 @@ use expression_write::operations::item;
 use expression_write::operations::list_end;
 use expression_write::operations::list_head;
 use expression_write::push;
-use preprocessor::Numbers;
+use preprocessor::CircuitParams;
 use preprocessor_constraints::lookup::lookup_constraint;
 use preprocessor_constraints::permutation::part_constraint;
 use preprocessor_constraints::permutation::start_constraint;
@@ -17,7 +17,7 @@ ghost use Rattle.lists.specs.Lists.{total};
 ghost use Rattle.expression.specs.Expr.{Expr, distributePowers};
 ghost use Rattle.expression.specs.Flat.{size, sizes, extra};
 ghost use Rattle.expression.specs.Written.{mostWords, Written, WrittenList};
-ghost use Rattle.preprocessor.specs.Pieces.{handedTrees, exprsFrom, Limits, Handed, numConstraints};
+ghost use Rattle.preprocessor.specs.ComposeWords.{constraintsFromWords, exprsFrom, Limits, ComposeInput, numConstraints};
 
 // The pairs of the lookups before lookup j.
 fn pairs_before(widths: &[u64], j: usize) -> usize
@@ -34,14 +34,14 @@ fn pairs_before(widths: &[u64], j: usize) -> usize
 }
 
 // How many constraints there are.
-pub fn num_constraints(own: usize, v: Numbers) -> usize
-    requires { ⌜ Limits v × (own < 2 ^ 63) ⌝ }
-    ensures { λ r. ⌜ r ≡ numConstraints own v ⌝ }
+pub fn num_constraints(own: usize, params: CircuitParams) -> usize
+    requires { ⌜ Limits params × (own < 2 ^ 63) ⌝ }
+    ensures { λ r. ⌜ r ≡ numConstraints own params ⌝ }
 {
-    if v.copied == 0 {
-        return own + v.lookups;
+    if params.num_permutation_polys == 0 {
+        return own + params.num_lookups;
     }
-    own + v.lookups + (1 + v.parts)
+    own + params.num_lookups + (1 + params.num_chunks)
 }
 
 // Constraint i: "user, lookup, permutation constraints".
@@ -53,12 +53,12 @@ fn constraint(
     pairs: &[u64],
     out: &mut [u64],
     from: usize,
-    v: Numbers,
+    params: CircuitParams,
     i: usize,
     at: usize,
 ) -> usize
-    requires { ⌜ Handed v (now copied) (now user) (now roots) (now widths) (now pairs) × ((i < numConstraints (length (now roots)) v) × ((at + size (getD (handedTrees v (now copied) (now user) (now roots) (now widths) (now pairs)) i (Expr.constant 0))) * 4 ≤ mostWords)) ⌝ }
-    ensures { λ r. ⌜ Written from (getD (handedTrees v (now (copied .entry)) (now (user .entry)) (now (roots .entry)) (now (widths .entry)) (now (pairs .entry))) i (Expr.constant 0)) at (now (out .entry)) (now (out .exit)) r ⌝ }
+    requires { ⌜ ComposeInput params (now copied) (now user) (now roots) (now widths) (now pairs) × ((i < numConstraints (length (now roots)) params) × ((at + size (getD (constraintsFromWords params (now copied) (now user) (now roots) (now widths) (now pairs)) i (Expr.constant 0))) * 4 ≤ mostWords)) ⌝ }
+    ensures { λ r. ⌜ Written from (getD (constraintsFromWords params (now (copied .entry)) (now (user .entry)) (now (roots .entry)) (now (widths .entry)) (now (pairs .entry))) i (Expr.constant 0)) at (now (out .entry)) (now (out .exit)) r ⌝ }
 {
     let own = roots.len();
     if i < own {
@@ -66,16 +66,16 @@ fn constraint(
         return copy_expr(user, out, from, n, at);
     }
     let j = i - own;
-    if j < v.lookups {
+    if j < params.num_lookups {
         let w = index(widths[j]);
         let s = pairs_before(widths, j);
-        return lookup_constraint(user, pairs, out, from, v, j, s * 2, w, at);
+        return lookup_constraint(user, pairs, out, from, params, j, s * 2, w, at);
     }
-    let p = j - v.lookups;
+    let p = j - params.num_lookups;
     if p == 0 {
-        return start_constraint(out, from, v, at);
+        return start_constraint(out, from, params, at);
     }
-    part_constraint(copied, out, from, v, p - 1, at)
+    part_constraint(copied, out, from, params, p - 1, at)
 }
 
 // The constraints from number i on, the base, the Items.
@@ -87,21 +87,32 @@ fn constraint_items(
     pairs: &[u64],
     out: &mut [u64],
     from: usize,
-    v: Numbers,
+    params: CircuitParams,
     i: usize,
     at: usize,
 ) -> Listed
-    requires { ⌜ Handed v (now copied) (now user) (now roots) (now widths) (now pairs) × ((i < numConstraints (length (now roots)) v) × ((at + sizes (exprsFrom (handedTrees v (now copied) (now user) (now roots) (now widths) (now pairs)) i) + extra (exprsFrom (handedTrees v (now copied) (now user) (now roots) (now widths) (now pairs)) i) + 2) * 4 ≤ mostWords)) ⌝ }
-    ensures { λ r. ⌜ WrittenList from (exprsFrom (handedTrees v (now (copied .entry)) (now (user .entry)) (now (roots .entry)) (now (widths .entry)) (now (pairs .entry))) i) (Expr.challenge (v .user + 2)) at (now (out .entry)) (now (out .exit)) (r .next) (r .base) ⌝ }
+    requires { ⌜ ComposeInput params (now copied) (now user) (now roots) (now widths) (now pairs) × ((i < numConstraints (length (now roots)) params) × ((at + sizes (exprsFrom (constraintsFromWords params (now copied) (now user) (now roots) (now widths) (now pairs)) i) + extra (exprsFrom (constraintsFromWords params (now copied) (now user) (now roots) (now widths) (now pairs)) i) + 2) * 4 ≤ mostWords)) ⌝ }
+    ensures { λ r. ⌜ WrittenList from (exprsFrom (constraintsFromWords params (now (copied .entry)) (now (user .entry)) (now (roots .entry)) (now (widths .entry)) (now (pairs .entry))) i) (Expr.challenge (params .«num_challenges» + 2)) at (now (out .entry)) (now (out .exit)) (r .next) (r .base) ⌝ }
 {
-    let n = num_constraints(roots.len(), v);
-    let x = constraint(copied, user, roots, widths, pairs, out, from, v, i, at);
+    let n = num_constraints(roots.len(), params);
+    let x = constraint(copied, user, roots, widths, pairs, out, from, params, i, at);
     if i + 1 < n {
-        let l = constraint_items(copied, user, roots, widths, pairs, out, from, v, i + 1, x);
+        let l = constraint_items(
+            copied,
+            user,
+            roots,
+            widths,
+            pairs,
+            out,
+            from,
+            params,
+            i + 1,
+            x,
+        );
         let next = item(out, from, x, l.next);
         return Listed { next, base: l.base };
     }
-    list_end(out, from, x, v.user + 2)
+    list_end(out, from, x, params.num_challenges + 2)
 }
 
 // The constraints by powers of alpha.
@@ -113,19 +124,19 @@ pub fn constraint_powers(
     pairs: &[u64],
     out: &mut [u64],
     from: usize,
-    v: Numbers,
+    params: CircuitParams,
     at: usize,
 ) -> usize
-    requires { ⌜ Handed v (now copied) (now user) (now roots) (now widths) (now pairs) × ((at + size (distributePowers (handedTrees v (now copied) (now user) (now roots) (now widths) (now pairs)) (Expr.challenge (v .user + 2)))) * 4 ≤ mostWords) ⌝ }
-    ensures { λ r. ⌜ Written from (distributePowers (handedTrees v (now (copied .entry)) (now (user .entry)) (now (roots .entry)) (now (widths .entry)) (now (pairs .entry))) (Expr.challenge (v .user + 2))) at (now (out .entry)) (now (out .exit)) r ⌝ }
+    requires { ⌜ ComposeInput params (now copied) (now user) (now roots) (now widths) (now pairs) × ((at + size (distributePowers (constraintsFromWords params (now copied) (now user) (now roots) (now widths) (now pairs)) (Expr.challenge (params .«num_challenges» + 2)))) * 4 ≤ mostWords) ⌝ }
+    ensures { λ r. ⌜ Written from (distributePowers (constraintsFromWords params (now (copied .entry)) (now (user .entry)) (now (roots .entry)) (now (widths .entry)) (now (pairs .entry))) (Expr.challenge (params .«num_challenges» + 2))) at (now (out .entry)) (now (out .exit)) r ⌝ }
 {
-    let n = num_constraints(roots.len(), v);
+    let n = num_constraints(roots.len(), params);
     if n == 0 {
         return push(out, from, at, 1, 0, 0, 0);
     }
     if n == 1 {
-        return constraint(copied, user, roots, widths, pairs, out, from, v, 0, at);
+        return constraint(copied, user, roots, widths, pairs, out, from, params, 0, at);
     }
-    let l = constraint_items(copied, user, roots, widths, pairs, out, from, v, 0, at);
+    let l = constraint_items(copied, user, roots, widths, pairs, out, from, params, 0, at);
     list_head(out, from, l)
 }

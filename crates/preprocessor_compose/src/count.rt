@@ -2,7 +2,7 @@
 use crate::constraints::num_constraints;
 use expression_degree::size_of;
 use expression_nodes::index;
-use preprocessor::Numbers;
+use preprocessor::CircuitParams;
 ghost use mathlib.Core.Path.{_≡_};
 ghost use mathlib.Core.List.{List};
 ghost use Prim.Native.Nat.{ℕ, suc, _+_, _*_, _≤_, _<_, _^_, min};
@@ -12,8 +12,8 @@ ghost use Rattle.expression.specs.Expr.{Expr, distributePowers};
 ghost use Rattle.expression.specs.Nodes.{exprOf};
 ghost use Rattle.expression.specs.Flat.{size};
 ghost use Rattle.backend.specs.Circuit.{Circuit};
-ghost use Rattle.preprocessor.specs.Compose.{composedNodes};
-ghost use Rattle.preprocessor.specs.Pieces.{Limits, Words, IsNode, sideExprs, sideTree, lookupsOf, lookupTreeOf, PiecesOf, permutationNodes};
+ghost use Rattle.preprocessor.specs.Compose.{composedNodes, lookupTreeOf};
+ghost use Rattle.preprocessor.specs.ComposeWords.{Limits, Words, IsNode, sideExprs, sideTree, lookupsOf, DecodedFrom, permutationNodes};
 ghost use Rattle.preprocessor.specs.Count.{nodesIn, listNodes, most};
 
 // The sum of two counts.
@@ -83,16 +83,22 @@ fn lookup_nodes(user: &[u64], pairs: &[u64], beta: usize, s: usize, w: usize) ->
 }
 
 // The nodes of the lookups' constraints.
-fn lookups_nodes(user: &[u64], roots: &[u64], widths: &[u64], pairs: &[u64], v: Numbers) -> u64
-    requires { ⌜ Words v (now user) (now roots) (now widths) (now pairs) ⌝ }
-    ensures { λ r. ⌜ r ≡ min most (nodesIn (column (lookupTreeOf v (lookupsOf (now (user .entry)) (now (widths .entry)) (now (pairs .entry)))) (v .lookups))) ⌝ }
+fn lookups_nodes(
+    user: &[u64],
+    roots: &[u64],
+    widths: &[u64],
+    pairs: &[u64],
+    params: CircuitParams,
+) -> u64
+    requires { ⌜ Words params (now user) (now roots) (now widths) (now pairs) ⌝ }
+    ensures { λ r. ⌜ r ≡ min most (nodesIn (column (lookupTreeOf params (lookupsOf (now (user .entry)) (now (widths .entry)) (now (pairs .entry)))) (params .«num_lookups»))) ⌝ }
 {
     let mut sum: u64 = 0;
     let mut s = 0;
     let mut j = 0;
-    while j < v.lookups {
+    while j < params.num_lookups {
         let w = index(widths[j]);
-        let x = lookup_nodes(user, pairs, v.user, s * 2, w);
+        let x = lookup_nodes(user, pairs, params.num_challenges, s * 2, w);
         sum = plus(sum, x);
         s += w;
         j += 1;
@@ -101,28 +107,34 @@ fn lookups_nodes(user: &[u64], roots: &[u64], widths: &[u64], pairs: &[u64], v: 
 }
 
 // The nodes of the permutation's constraints.
-fn permutation_nodes(v: Numbers) -> u64
-    requires { ⌜ Limits v ⌝ }
-    ensures { λ r. ⌜ r ≡ permutationNodes v ⌝ }
+fn permutation_nodes(params: CircuitParams) -> u64
+    requires { ⌜ Limits params ⌝ }
+    ensures { λ r. ⌜ r ≡ permutationNodes params ⌝ }
 {
-    if v.copied == 0 {
+    if params.num_permutation_polys == 0 {
         return 0;
     }
-    (6 + v.copied * 18 + v.parts * 4) as u64
+    (6 + params.num_permutation_polys * 18 + params.num_chunks * 4) as u64
 }
 
 // How many nodes `compose` writes.
-pub fn composed_nodes(user: &[u64], roots: &[u64], widths: &[u64], pairs: &[u64], v: Numbers) -> u64
-    requires { ⌜ Words v (now user) (now roots) (now widths) (now pairs) ⌝ }
-    ensures { λ r. ⌜ ((c : Circuit) (names : List ℕ) → PiecesOf c v names (now (user .entry)) (now (roots .entry)) (now (widths .entry)) (now (pairs .entry)) → r ≡ min most (composedNodes c)) ⌝ }
+pub fn composed_nodes(
+    user: &[u64],
+    roots: &[u64],
+    widths: &[u64],
+    pairs: &[u64],
+    params: CircuitParams,
+) -> u64
+    requires { ⌜ Words params (now user) (now roots) (now widths) (now pairs) ⌝ }
+    ensures { λ r. ⌜ ((c : Circuit) (names : List ℕ) → DecodedFrom c params names (now (user .entry)) (now (roots .entry)) (now (widths .entry)) (now (pairs .entry)) → r ≡ min most (composedNodes c)) ⌝ }
 {
     let own = roots_nodes(user, roots, 0, 1, roots.len());
-    let lookups = lookups_nodes(user, roots, widths, pairs, v);
-    let permutation = permutation_nodes(v);
-    let n = num_constraints(roots.len(), v);
+    let lookups = lookups_nodes(user, roots, widths, pairs, params);
+    let permutation = permutation_nodes(params);
+    let n = num_constraints(roots.len(), params);
     let x = plus(own, lookups);
     let y = plus(x, permutation);
     let z = plus(y, list_nodes(n));
-    let u = plus(z, (v.lookups + 2) as u64);
-    plus(u, list_nodes(v.lookups + 1))
+    let u = plus(z, (params.num_lookups + 2) as u64);
+    plus(u, list_nodes(params.num_lookups + 1))
 }

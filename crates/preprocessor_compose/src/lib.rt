@@ -10,14 +10,15 @@ use expression_write::operations::list_head;
 use expression_write::operations::product;
 use expression_write::operations::query;
 use expression_write::push;
-use preprocessor::Numbers;
+use preprocessor::CircuitParams;
 ghost use mathlib.Core.Path.{_≡_};
 ghost use Prim.Native.Nat.{_+_, _-_, _*_, _≤_, _<_, _^_};
 ghost use Rattle.expression.specs.Expr.{Expr};
 ghost use Rattle.expression.specs.Flat.{size, sizes, extra};
 ghost use Rattle.expression.specs.Written.{mostWords, Written, WrittenList};
 ghost use Rattle.backend.specs.Circuit.{Circuit};
-ghost use Rattle.preprocessor.specs.Pieces.{handedTrees, zeroTree, outerTrees, composeTree, exprsFrom, Handed, PiecesOf, Composed};
+ghost use Rattle.preprocessor.specs.Compose.{zeroTree, outerTrees, composeTree};
+ghost use Rattle.preprocessor.specs.ComposeWords.{constraintsFromWords, exprsFrom, ComposeInput, DecodedFrom, Composed};
 
 // The zero check: the constraints by powers of alpha, times EqXY(0).
 fn zero_check(
@@ -28,13 +29,13 @@ fn zero_check(
     pairs: &[u64],
     out: &mut [u64],
     from: usize,
-    v: Numbers,
+    params: CircuitParams,
     at: usize,
 ) -> usize
-    requires { ⌜ Handed v (now copied) (now user) (now roots) (now widths) (now pairs) × ((at + size (zeroTree v (handedTrees v (now copied) (now user) (now roots) (now widths) (now pairs)))) * 4 ≤ mostWords) ⌝ }
-    ensures { λ r. ⌜ Written from (zeroTree v (handedTrees v (now (copied .entry)) (now (user .entry)) (now (roots .entry)) (now (widths .entry)) (now (pairs .entry)))) at (now (out .entry)) (now (out .exit)) r ⌝ }
+    requires { ⌜ ComposeInput params (now copied) (now user) (now roots) (now widths) (now pairs) × ((at + size (zeroTree params (constraintsFromWords params (now copied) (now user) (now roots) (now widths) (now pairs)))) * 4 ≤ mostWords) ⌝ }
+    ensures { λ r. ⌜ Written from (zeroTree params (constraintsFromWords params (now (copied .entry)) (now (user .entry)) (now (roots .entry)) (now (widths .entry)) (now (pairs .entry)))) at (now (out .entry)) (now (out .exit)) r ⌝ }
 {
-    let x = constraint_powers(copied, user, roots, widths, pairs, out, from, v, at);
+    let x = constraint_powers(copied, user, roots, widths, pairs, out, from, params, at);
     let y = push(out, from, x, 4, 0, 0, 0);
     product(out, from, x, y)
 }
@@ -48,21 +49,37 @@ fn outer_items(
     pairs: &[u64],
     out: &mut [u64],
     from: usize,
-    v: Numbers,
+    params: CircuitParams,
     i: usize,
     at: usize,
 ) -> Listed
-    requires { ⌜ Handed v (now copied) (now user) (now roots) (now widths) (now pairs) × ((i ≤ v .lookups) × ((at + sizes (exprsFrom (outerTrees v (handedTrees v (now copied) (now user) (now roots) (now widths) (now pairs))) i) + extra (exprsFrom (outerTrees v (handedTrees v (now copied) (now user) (now roots) (now widths) (now pairs))) i) + 2) * 4 ≤ mostWords)) ⌝ }
-    ensures { λ r. ⌜ WrittenList from (exprsFrom (outerTrees v (handedTrees v (now (copied .entry)) (now (user .entry)) (now (roots .entry)) (now (widths .entry)) (now (pairs .entry)))) i) (Expr.challenge (v .user + 2)) at (now (out .entry)) (now (out .exit)) (r .next) (r .base) ⌝ }
+    requires { ⌜ ComposeInput params (now copied) (now user) (now roots) (now widths) (now pairs) × ((i ≤ params .«num_lookups») × ((at + sizes (exprsFrom (outerTrees params (constraintsFromWords params (now copied) (now user) (now roots) (now widths) (now pairs))) i) + extra (exprsFrom (outerTrees params (constraintsFromWords params (now copied) (now user) (now roots) (now widths) (now pairs))) i) + 2) * 4 ≤ mostWords)) ⌝ }
+    ensures { λ r. ⌜ WrittenList from (exprsFrom (outerTrees params (constraintsFromWords params (now (copied .entry)) (now (user .entry)) (now (roots .entry)) (now (widths .entry)) (now (pairs .entry)))) i) (Expr.challenge (params .«num_challenges» + 2)) at (now (out .entry)) (now (out .exit)) (r .next) (r .base) ⌝ }
 {
-    if i < v.lookups {
-        let x = query(out, from, at, (v.polys + v.copied + v.lookups + i) as u64);
-        let l = outer_items(copied, user, roots, widths, pairs, out, from, v, i + 1, x);
+    if i < params.num_lookups {
+        let x = query(
+            out,
+            from,
+            at,
+            (params.num_poly + params.num_permutation_polys + params.num_lookups + i) as u64,
+        );
+        let l = outer_items(
+            copied,
+            user,
+            roots,
+            widths,
+            pairs,
+            out,
+            from,
+            params,
+            i + 1,
+            x,
+        );
         let next = item(out, from, x, l.next);
         return Listed { next, base: l.base };
     }
-    let x = zero_check(copied, user, roots, widths, pairs, out, from, v, at);
-    list_end(out, from, x, v.user + 2)
+    let x = zero_check(copied, user, roots, widths, pairs, out, from, params, at);
+    list_end(out, from, x, params.num_challenges + 2)
 }
 
 // The composed expression from node 0 on.
@@ -74,15 +91,15 @@ fn outer(
     pairs: &[u64],
     out: &mut [u64],
     from: usize,
-    v: Numbers,
+    params: CircuitParams,
 ) -> usize
-    requires { ⌜ Handed v (now copied) (now user) (now roots) (now widths) (now pairs) × (size (composeTree v (handedTrees v (now copied) (now user) (now roots) (now widths) (now pairs))) * 4 ≤ mostWords) ⌝ }
-    ensures { λ r. ⌜ Written from (composeTree v (handedTrees v (now (copied .entry)) (now (user .entry)) (now (roots .entry)) (now (widths .entry)) (now (pairs .entry)))) 0 (now (out .entry)) (now (out .exit)) r ⌝ }
+    requires { ⌜ ComposeInput params (now copied) (now user) (now roots) (now widths) (now pairs) × (size (composeTree params (constraintsFromWords params (now copied) (now user) (now roots) (now widths) (now pairs))) * 4 ≤ mostWords) ⌝ }
+    ensures { λ r. ⌜ Written from (composeTree params (constraintsFromWords params (now (copied .entry)) (now (user .entry)) (now (roots .entry)) (now (widths .entry)) (now (pairs .entry)))) 0 (now (out .entry)) (now (out .exit)) r ⌝ }
 {
-    if v.lookups == 0 {
-        return zero_check(copied, user, roots, widths, pairs, out, from, v, 0);
+    if params.num_lookups == 0 {
+        return zero_check(copied, user, roots, widths, pairs, out, from, params, 0);
     }
-    let l = outer_items(copied, user, roots, widths, pairs, out, from, v, 0, 0);
+    let l = outer_items(copied, user, roots, widths, pairs, out, from, params, 0, 0);
     list_head(out, from, l)
 }
 
@@ -95,10 +112,10 @@ pub fn compose(
     pairs: &[u64],
     out: &mut [u64],
     from: usize,
-    v: Numbers,
+    params: CircuitParams,
 ) -> usize
-    requires { ⌜ Handed v (now copied) (now user) (now roots) (now widths) (now pairs) × (size (composeTree v (handedTrees v (now copied) (now user) (now roots) (now widths) (now pairs))) * 4 ≤ mostWords) ⌝ }
-    ensures { λ r. ⌜ ((c : Circuit) → PiecesOf c v (now (copied .entry)) (now (user .entry)) (now (roots .entry)) (now (widths .entry)) (now (pairs .entry)) → Composed from c (now (out .entry)) (now (out .exit)) r) ⌝ }
+    requires { ⌜ ComposeInput params (now copied) (now user) (now roots) (now widths) (now pairs) × (size (composeTree params (constraintsFromWords params (now copied) (now user) (now roots) (now widths) (now pairs))) * 4 ≤ mostWords) ⌝ }
+    ensures { λ r. ⌜ ((c : Circuit) → DecodedFrom c params (now (copied .entry)) (now (user .entry)) (now (roots .entry)) (now (widths .entry)) (now (pairs .entry)) → Composed from c (now (out .entry)) (now (out .exit)) r) ⌝ }
 {
-    outer(copied, user, roots, widths, pairs, out, from, v)
+    outer(copied, user, roots, widths, pairs, out, from, params)
 }

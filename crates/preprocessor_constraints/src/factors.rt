@@ -4,7 +4,7 @@ use expression_write::operations::product;
 use expression_write::operations::query;
 use expression_write::operations::sum;
 use expression_write::push;
-use preprocessor::Numbers;
+use preprocessor::CircuitParams;
 ghost use mathlib.Core.Path.{_≡_};
 ghost use Prim.Native.Nat.{_+_, _*_, _≤_, _<_};
 ghost use lib.IntN.{pos};
@@ -12,12 +12,13 @@ ghost use lib.ListN.{length};
 ghost use Rattle.lists.specs.Lists.{column};
 ghost use Rattle.expression.specs.Expr.{Expr, productOf};
 ghost use Rattle.expression.specs.Written.{mostWords, Written};
-ghost use Rattle.preprocessor.specs.Pieces.{labelTree, identityTree, permutationTree, Limits};
+ghost use Rattle.preprocessor.specs.Compose.{identityTree, permutationTree};
+ghost use Rattle.preprocessor.specs.ComposeWords.{Limits};
 
 // beta * (label + id)
 fn beta_label(out: &mut [u64], from: usize, at: usize, user: u64, label: u64) -> usize
     requires { ⌜ (at + 5) * 4 ≤ mostWords ⌝ }
-    ensures { λ r. ⌜ Written from (labelTree user label) at (now (out .entry)) (now (out .exit)) r ⌝ }
+    ensures { λ r. ⌜ Written from (Expr.product (Expr.challenge user) (Expr.sum (Expr.constant label) Expr.identity)) at (now (out .entry)) (now (out .exit)) r ⌝ }
 {
     let beta = challenge(out, from, at, user);
     let x = push(out, from, beta, 1, 0, 0, label);
@@ -41,17 +42,23 @@ fn identity_factor(
     copied: &[u64],
     out: &mut [u64],
     from: usize,
-    v: Numbers,
+    params: CircuitParams,
     i: usize,
     at: usize,
 ) -> usize
-    requires { ⌜ Limits v × ((i < v .copied) × ((i < length (now copied)) × ((at + 9) * 4 ≤ mostWords))) ⌝ }
-    ensures { λ r. ⌜ Written from (identityTree v (now (copied .entry)) i) at (now (out .entry)) (now (out .exit)) r ⌝ }
+    requires { ⌜ Limits params × ((i < params .«num_permutation_polys») × ((i < length (now copied)) × ((at + 9) * 4 ≤ mostWords))) ⌝ }
+    ensures { λ r. ⌜ Written from (identityTree params (now (copied .entry)) i) at (now (out .entry)) (now (out .exit)) r ⌝ }
 {
     let poly = query(out, from, at, copied[i]);
-    let label = beta_label(out, from, poly, v.user as u64, (i * v.rows) as u64);
+    let label = beta_label(
+        out,
+        from,
+        poly,
+        params.num_challenges as u64,
+        (i * params.rows) as u64,
+    );
     let s = sum(out, from, poly, label);
-    let gamma = challenge(out, from, s, (v.user + 1) as u64);
+    let gamma = challenge(out, from, s, (params.num_challenges + 1) as u64);
     sum(out, from, s, gamma)
 }
 
@@ -60,17 +67,23 @@ fn permutation_factor(
     copied: &[u64],
     out: &mut [u64],
     from: usize,
-    v: Numbers,
+    params: CircuitParams,
     i: usize,
     at: usize,
 ) -> usize
-    requires { ⌜ Limits v × ((i < v .copied) × ((i < length (now copied)) × ((at + 7) * 4 ≤ mostWords))) ⌝ }
-    ensures { λ r. ⌜ Written from (permutationTree v (now (copied .entry)) i) at (now (out .entry)) (now (out .exit)) r ⌝ }
+    requires { ⌜ Limits params × ((i < params .«num_permutation_polys») × ((i < length (now copied)) × ((at + 7) * 4 ≤ mostWords))) ⌝ }
+    ensures { λ r. ⌜ Written from (permutationTree params (now (copied .entry)) i) at (now (out .entry)) (now (out .exit)) r ⌝ }
 {
     let poly = query(out, from, at, copied[i]);
-    let label = beta_query(out, from, poly, v.user as u64, (v.polys + i) as u64);
+    let label = beta_query(
+        out,
+        from,
+        poly,
+        params.num_challenges as u64,
+        (params.num_poly + i) as u64,
+    );
     let s = sum(out, from, poly, label);
-    let gamma = challenge(out, from, s, (v.user + 1) as u64);
+    let gamma = challenge(out, from, s, (params.num_challenges + 1) as u64);
     sum(out, from, s, gamma)
 }
 
@@ -79,18 +92,18 @@ pub fn identity_product(
     copied: &[u64],
     out: &mut [u64],
     from: usize,
-    v: Numbers,
+    params: CircuitParams,
     first: usize,
     count: usize,
     at: usize,
 ) -> usize
-    requires { ⌜ Limits v × ((0 < count) × ((first + count ≤ v .copied) × ((v .copied ≤ length (now copied)) × ((at + count * 10) * 4 ≤ mostWords + 4)))) ⌝ }
-    ensures { λ r. ⌜ (r + 1 ≡ at + count * 10) × Written from (productOf (column (λ j. identityTree v (now (copied .entry)) (first + j)) count)) at (now (out .entry)) (now (out .exit)) r ⌝ }
+    requires { ⌜ Limits params × ((0 < count) × ((first + count ≤ params .«num_permutation_polys») × ((params .«num_permutation_polys» ≤ length (now copied)) × ((at + count * 10) * 4 ≤ mostWords + 4)))) ⌝ }
+    ensures { λ r. ⌜ (r + 1 ≡ at + count * 10) × Written from (productOf (column (λ j. identityTree params (now (copied .entry)) (first + j)) count)) at (now (out .entry)) (now (out .exit)) r ⌝ }
 {
-    let mut x = identity_factor(copied, out, from, v, first, at);
+    let mut x = identity_factor(copied, out, from, params, first, at);
     let mut j = 1;
     while j < count {
-        let y = identity_factor(copied, out, from, v, first + j, x);
+        let y = identity_factor(copied, out, from, params, first + j, x);
         x = product(out, from, x, y);
         j += 1;
     }
@@ -102,18 +115,18 @@ pub fn permutation_product(
     copied: &[u64],
     out: &mut [u64],
     from: usize,
-    v: Numbers,
+    params: CircuitParams,
     first: usize,
     count: usize,
     at: usize,
 ) -> usize
-    requires { ⌜ Limits v × ((0 < count) × ((first + count ≤ v .copied) × ((v .copied ≤ length (now copied)) × ((at + count * 8) * 4 ≤ mostWords + 4)))) ⌝ }
-    ensures { λ r. ⌜ (r + 1 ≡ at + count * 8) × Written from (productOf (column (λ j. permutationTree v (now (copied .entry)) (first + j)) count)) at (now (out .entry)) (now (out .exit)) r ⌝ }
+    requires { ⌜ Limits params × ((0 < count) × ((first + count ≤ params .«num_permutation_polys») × ((params .«num_permutation_polys» ≤ length (now copied)) × ((at + count * 8) * 4 ≤ mostWords + 4)))) ⌝ }
+    ensures { λ r. ⌜ (r + 1 ≡ at + count * 8) × Written from (productOf (column (λ j. permutationTree params (now (copied .entry)) (first + j)) count)) at (now (out .entry)) (now (out .exit)) r ⌝ }
 {
-    let mut x = permutation_factor(copied, out, from, v, first, at);
+    let mut x = permutation_factor(copied, out, from, params, first, at);
     let mut j = 1;
     while j < count {
-        let y = permutation_factor(copied, out, from, v, first + j, x);
+        let y = permutation_factor(copied, out, from, params, first + j, x);
         x = product(out, from, x, y);
         j += 1;
     }

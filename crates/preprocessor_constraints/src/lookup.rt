@@ -11,7 +11,7 @@ use expression_write::operations::product;
 use expression_write::operations::query;
 use expression_write::operations::sum;
 use expression_write::push;
-use preprocessor::Numbers;
+use preprocessor::CircuitParams;
 ghost use Prim.Native.Nat.{_+_, _*_, _≤_, _<_};
 ghost use lib.IntN.{pos};
 ghost use lib.ListN.{length};
@@ -20,7 +20,7 @@ ghost use Rattle.expression.specs.Expr.{Expr, distributePowers};
 ghost use Rattle.expression.specs.Flat.{size, sizes, extra};
 ghost use Rattle.expression.specs.Written.{mostWords, Written, WrittenList};
 ghost use Rattle.backend.specs.Constraints.{lookupTree};
-ghost use Rattle.preprocessor.specs.Pieces.{sideExprs, sideTree, exprsFrom, IsNode, Limits};
+ghost use Rattle.preprocessor.specs.ComposeWords.{sideExprs, sideTree, exprsFrom, IsNode, Limits};
 
 // The expressions of a lookup's side from number i on, the base, the Items.
 fn side_items(
@@ -117,23 +117,23 @@ pub fn lookup_constraint(
     pairs: &[u64],
     out: &mut [u64],
     from: usize,
-    v: Numbers,
+    params: CircuitParams,
     j: usize,
     s: usize,
     w: usize,
     at: usize,
 ) -> usize
-    requires { ⌜ All (IsNode (now user)) (now pairs) × (Limits v × ((j < v .lookups) × ((s + w * 2 ≤ length (now pairs)) × ((at + size (sideTree (now user) (now pairs) (v .user) s w) * 2 + size (sideTree (now user) (now pairs) (v .user) (s + 1) w) * 2 + 8) * 4 ≤ mostWords)))) ⌝ }
-    ensures { λ r. ⌜ Written from (lookupTree (Expr.poly (v .polys + v .copied + j) (pos 0)) (Expr.poly (v .polys + v .copied + v .lookups + j) (pos 0)) (sideTree (now (user .entry)) (now (pairs .entry)) (v .user) s w) (sideTree (now (user .entry)) (now (pairs .entry)) (v .user) (s + 1) w)) at (now (out .entry)) (now (out .exit)) r ⌝ }
+    requires { ⌜ All (IsNode (now user)) (now pairs) × (Limits params × ((j < params .«num_lookups») × ((s + w * 2 ≤ length (now pairs)) × ((at + size (sideTree (now user) (now pairs) (params .«num_challenges») s w) * 2 + size (sideTree (now user) (now pairs) (params .«num_challenges») (s + 1) w) * 2 + 8) * 4 ≤ mostWords)))) ⌝ }
+    ensures { λ r. ⌜ Written from (lookupTree (Expr.poly (params .«num_poly» + params .«num_permutation_polys» + j) (pos 0)) (Expr.poly (params .«num_poly» + params .«num_permutation_polys» + params .«num_lookups» + j) (pos 0)) (sideTree (now (user .entry)) (now (pairs .entry)) (params .«num_challenges») s w) (sideTree (now (user .entry)) (now (pairs .entry)) (params .«num_challenges») (s + 1) w)) at (now (out .entry)) (now (out .exit)) r ⌝ }
 {
-    let m = v.polys + v.copied + j;
-    let h = v.polys + v.copied + v.lookups + j;
-    let a = query_side(user, pairs, out, from, v.user, s, w, h, at);
-    let b = side(user, pairs, out, from, v.user, s + 1, w, a);
+    let m = params.num_poly + params.num_permutation_polys + j;
+    let h = params.num_poly + params.num_permutation_polys + params.num_lookups + j;
+    let a = query_side(user, pairs, out, from, params.num_challenges, s, w, h, at);
+    let b = side(user, pairs, out, from, params.num_challenges, s + 1, w, a);
     let p = product(out, from, a, b);
-    let t = side(user, pairs, out, from, v.user, s + 1, w, p);
+    let t = side(user, pairs, out, from, params.num_challenges, s + 1, w, p);
     let n = negated(out, from, t);
     let d = sum(out, from, p, n);
-    let e = query_side(user, pairs, out, from, v.user, s, w, m, d);
+    let e = query_side(user, pairs, out, from, params.num_challenges, s, w, m, d);
     sum(out, from, d, e)
 }

@@ -6,7 +6,7 @@ use expression_write::operations::product;
 use expression_write::operations::query;
 use expression_write::operations::sum;
 use expression_write::push;
-use preprocessor::Numbers;
+use preprocessor::CircuitParams;
 ghost use mathlib.Core.Path.{_≡_};
 ghost use Prim.Native.Nat.{_+_, _*_, _≤_, _<_};
 ghost use lib.IntN.{pos};
@@ -14,30 +14,31 @@ ghost use lib.ListN.{length};
 ghost use Rattle.lists.specs.Lists.{column};
 ghost use Rattle.expression.specs.Expr.{Expr, productOf};
 ghost use Rattle.expression.specs.Written.{mostWords, Written};
-ghost use Rattle.preprocessor.specs.Pieces.{zAt, identityTree, permutationTree, nextTree, partOf, partTree, startTree, Limits};
+ghost use Rattle.preprocessor.specs.Compose.{numberOfZ, identityTree, permutationTree, nextTree, chunk, partTree, startTree};
+ghost use Rattle.preprocessor.specs.ComposeWords.{Limits};
 
 // "Next is the following part's z at that row; after the last part it is the first z with rotation 1."
-fn next_z(out: &mut [u64], from: usize, v: Numbers, i: usize, at: usize) -> usize
-    requires { ⌜ Limits v × ((i < 72) × ((at + 1) * 4 ≤ mostWords)) ⌝ }
-    ensures { λ r. ⌜ Written from (nextTree v i) at (now (out .entry)) (now (out .exit)) r ⌝ }
+fn next_z(out: &mut [u64], from: usize, params: CircuitParams, i: usize, at: usize) -> usize
+    requires { ⌜ Limits params × ((i < 72) × ((at + 1) * 4 ≤ mostWords)) ⌝ }
+    ensures { λ r. ⌜ Written from (nextTree params i) at (now (out .entry)) (now (out .exit)) r ⌝ }
 {
-    let z = v.polys + v.copied + v.lookups * 2;
-    if i + 1 < v.parts {
+    let z = params.num_poly + params.num_permutation_polys + params.num_lookups * 2;
+    if i + 1 < params.num_chunks {
         return query(out, from, at, (z + (i + 1)) as u64);
     }
     push(out, from, at, 5, z as u64, 0, 2147483649)
 }
 
 // How many copied columns part i has.
-fn part_count(v: Numbers, i: usize) -> usize
-    requires { ⌜ Limits v × (i < v .parts) ⌝ }
-    ensures { λ r. ⌜ (r ≡ length (partOf v i)) × ((0 < r) × (i * v .part + r ≤ v .copied)) ⌝ }
+fn part_count(params: CircuitParams, i: usize) -> usize
+    requires { ⌜ Limits params × (i < params .«num_chunks») ⌝ }
+    ensures { λ r. ⌜ (r ≡ length (chunk params i)) × ((0 < r) × (i * params .«chunk_size» + r ≤ params .«num_permutation_polys»)) ⌝ }
 {
-    let left = v.copied - i * v.part;
-    if left <= v.part {
+    let left = params.num_permutation_polys - i * params.chunk_size;
+    if left <= params.chunk_size {
         return left;
     }
-    v.part
+    params.chunk_size
 }
 
 // z_lhs * product of identity factors
@@ -45,22 +46,22 @@ fn z_identities(
     copied: &[u64],
     out: &mut [u64],
     from: usize,
-    v: Numbers,
+    params: CircuitParams,
     i: usize,
     first: usize,
     count: usize,
     at: usize,
 ) -> usize
-    requires { ⌜ Limits v × ((i < 72) × ((0 < count) × ((first + count ≤ v .copied) × ((v .copied ≤ length (now copied)) × ((at + count * 10 + 1) * 4 ≤ mostWords))))) ⌝ }
-    ensures { λ r. ⌜ (r ≡ at + count * 10 + 1) × Written from (Expr.product (Expr.poly (zAt v i) (pos 0)) (productOf (column (λ j. identityTree v (now (copied .entry)) (first + j)) count))) at (now (out .entry)) (now (out .exit)) r ⌝ }
+    requires { ⌜ Limits params × ((i < 72) × ((0 < count) × ((first + count ≤ params .«num_permutation_polys») × ((params .«num_permutation_polys» ≤ length (now copied)) × ((at + count * 10 + 1) * 4 ≤ mostWords))))) ⌝ }
+    ensures { λ r. ⌜ (r ≡ at + count * 10 + 1) × Written from (Expr.product (Expr.poly (numberOfZ params i) (pos 0)) (productOf (column (λ j. identityTree params (now (copied .entry)) (first + j)) count))) at (now (out .entry)) (now (out .exit)) r ⌝ }
 {
     let z = query(
         out,
         from,
         at,
-        (v.polys + v.copied + v.lookups * 2 + i) as u64,
+        (params.num_poly + params.num_permutation_polys + params.num_lookups * 2 + i) as u64,
     );
-    let p = identity_product(copied, out, from, v, first, count, z);
+    let p = identity_product(copied, out, from, params, first, count, z);
     product(out, from, z, p)
 }
 
@@ -69,17 +70,17 @@ fn z_permutations(
     copied: &[u64],
     out: &mut [u64],
     from: usize,
-    v: Numbers,
+    params: CircuitParams,
     i: usize,
     first: usize,
     count: usize,
     at: usize,
 ) -> usize
-    requires { ⌜ Limits v × ((i < 72) × ((0 < count) × ((first + count ≤ v .copied) × ((v .copied ≤ length (now copied)) × ((at + count * 8 + 1) * 4 ≤ mostWords))))) ⌝ }
-    ensures { λ r. ⌜ (r ≡ at + count * 8 + 1) × Written from (Expr.product (nextTree v i) (productOf (column (λ j. permutationTree v (now (copied .entry)) (first + j)) count))) at (now (out .entry)) (now (out .exit)) r ⌝ }
+    requires { ⌜ Limits params × ((i < 72) × ((0 < count) × ((first + count ≤ params .«num_permutation_polys») × ((params .«num_permutation_polys» ≤ length (now copied)) × ((at + count * 8 + 1) * 4 ≤ mostWords))))) ⌝ }
+    ensures { λ r. ⌜ (r ≡ at + count * 8 + 1) × Written from (Expr.product (nextTree params i) (productOf (column (λ j. permutationTree params (now (copied .entry)) (first + j)) count))) at (now (out .entry)) (now (out .exit)) r ⌝ }
 {
-    let z = next_z(out, from, v, i, at);
-    let p = permutation_product(copied, out, from, v, first, count, z);
+    let z = next_z(out, from, params, i, at);
+    let p = permutation_product(copied, out, from, params, first, count, z);
     product(out, from, z, p)
 }
 
@@ -88,28 +89,33 @@ pub fn part_constraint(
     copied: &[u64],
     out: &mut [u64],
     from: usize,
-    v: Numbers,
+    params: CircuitParams,
     i: usize,
     at: usize,
 ) -> usize
-    requires { ⌜ Limits v × ((i < v .parts) × ((v .copied ≤ length (now copied)) × ((at + length (partOf v i) * 18 + 4) * 4 ≤ mostWords))) ⌝ }
-    ensures { λ r. ⌜ Written from (partTree v (now (copied .entry)) i) at (now (out .entry)) (now (out .exit)) r ⌝ }
+    requires { ⌜ Limits params × ((i < params .«num_chunks») × ((params .«num_permutation_polys» ≤ length (now copied)) × ((at + length (chunk params i) * 18 + 4) * 4 ≤ mostWords))) ⌝ }
+    ensures { λ r. ⌜ Written from (partTree params (now (copied .entry)) i) at (now (out .entry)) (now (out .exit)) r ⌝ }
 {
-    let count = part_count(v, i);
-    let first = i * v.part;
-    let left = z_identities(copied, out, from, v, i, first, count, at);
-    let right = z_permutations(copied, out, from, v, i, first, count, left);
+    let count = part_count(params, i);
+    let first = i * params.chunk_size;
+    let left = z_identities(copied, out, from, params, i, first, count, at);
+    let right = z_permutations(copied, out, from, params, i, first, count, left);
     let n = negated(out, from, right);
     sum(out, from, left, n)
 }
 
 // l_1 * (z_0 - one)
-pub fn start_constraint(out: &mut [u64], from: usize, v: Numbers, at: usize) -> usize
-    requires { ⌜ Limits v × ((at + 6) * 4 ≤ mostWords) ⌝ }
-    ensures { λ r. ⌜ Written from (startTree v) at (now (out .entry)) (now (out .exit)) r ⌝ }
+pub fn start_constraint(out: &mut [u64], from: usize, params: CircuitParams, at: usize) -> usize
+    requires { ⌜ Limits params × ((at + 6) * 4 ≤ mostWords) ⌝ }
+    ensures { λ r. ⌜ Written from (startTree params) at (now (out .entry)) (now (out .exit)) r ⌝ }
 {
     let l = push(out, from, at, 3, 0, 0, 2147483649);
-    let z = query(out, from, l, (v.polys + v.copied + v.lookups * 2) as u64);
+    let z = query(
+        out,
+        from,
+        l,
+        (params.num_poly + params.num_permutation_polys + params.num_lookups * 2) as u64,
+    );
     let one = push(out, from, z, 1, 0, 0, 1);
     let n = negated(out, from, one);
     let s = sum(out, from, z, n);

@@ -1,12 +1,12 @@
--- `filled` meets what `numbers` and `fill` require. Assumes nothing.
+-- `filled` meets what `circuit_params` and `fill` require. Assumes nothing.
 use native.Mathlib.Omega.{arith}
 use Rattle.cli_unlisted.proofs.Asked.{count-is}
 use borrow.Author.Needs.{needs}
 use Rattle.cli_unlisted.proofs.filled.Statement.{statement}
 use Rattle.cli_unlisted.proofs.filled.Tie as tie
 
-numbers-requires : tie.Need-numbers-requires
-numbers-requires c κs =
+circuit-params-requires : tie.Need-circuit-params-requires
+circuit-params-requires c κs =
     let s = c .before .before .before .before .before in
     (s .pre .0, count-is (s .args .of) (s .args .count) _ (omega (arith, s .pre .2)) (s .pre .3))
 
@@ -52,7 +52,7 @@ pub filled-spec : {M : Type 1} → statement M
 filled-spec =
     tie.close
     (tie.spec
-    numbers-requires
+    circuit-params-requires
     column-words-requires
     none-requires
     returns

@@ -3,8 +3,8 @@ use mathlib.Core.Path.{ap, _∙_}
 use native.Mathlib.Omega.{arith}
 use borrow.Author.Needs.{needs}
 use borrow.Author.Tests.{not-true, not-false}
-use Rattle.preprocessor.specs.Pieces.{numbersOf}
-use Rattle.preprocessor.specs.declared.Numbers.{Numbers}
+use Rattle.preprocessor.specs.Compose.{paramsOf}
+use Rattle.preprocessor.specs.declared.CircuitParams.{CircuitParams}
 use Rattle.hyperplonk_build.proofs.Built.{columns-room, nodes-room, is-fifteen, is-made}
 use Rattle.hyperplonk_build.proofs.build_checked.Statement.{statement}
 use Rattle.hyperplonk_build.proofs.build_checked.Tie as tie
@@ -47,7 +47,7 @@ same-length-3 : tie.Need-same-length-3
 same-length-3 c = search needs
 
 returns-2 : tie.Need-returns-2
-unfolding numbersOf
+unfolding paramsOf
 returns-2 c =
     let s = c .before .before .before .before .before .before .before .before .before .before .before .before .before .before .before .before .before in
     let a = s .args in
@@ -56,7 +56,7 @@ returns-2 c =
     (not-false (w .result) (c .before .before .before .before .before .if1 .left))
     (w .ensures .1)
     (c .before .before .before .before .column-words .ensures)
-    (ap (λ (v : Numbers). v .parts) (s .pre .0 .numbers-are))
+    (ap (λ (v : CircuitParams). v .«num_chunks») (s .pre .0 .params-are))
     (nodes-room (a .circuit .now) (a .instance .now) (a .witness .now) (a .challenges .now) (a .columns .now) (a .nodes .now) (s .pre .2))
     (c .before .before .compose-nodes .ensures)
 

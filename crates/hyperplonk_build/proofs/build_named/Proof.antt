@@ -12,13 +12,13 @@ use Rattle.hyperplonk_build.proofs.build_named.Tie as tie
 fourteen : _≡_ {A = ℕ} 14 0 → ⊥
 fourteen e = omega arith
 
-numbers-requires : tie.Need-numbers-requires
-numbers-requires c κs =
+circuit-params-requires : tie.Need-circuit-params-requires
+circuit-params-requires c κs =
     let s = c .before .before .before .before .before .before .before in
     (s .pre .0, count-is (s .args .circuit .now) (s .args .names .now) (s .args .count) (omega (arith, s .pre .3)) (s .pre .4))
 
 question-14-requires : tie.Need-question-14-requires
-question-14-requires c κs = (c .before .before .before .before .before .before .before .before .pre .0, (c .numbers .ensures, omega arith))
+question-14-requires c κs = (c .before .before .before .before .before .before .before .before .pre .0, (c .circuit-params .ensures, omega arith))
 
 refused-requires : tie.Need-refused-requires
 refused-requires c κs = search needs
@@ -44,7 +44,7 @@ build-checked-requires : tie.Need-build-checked-requires
 build-checked-requires c κs =
     let s = c .before .before .before .before .before .before .before .before .before .before .before .before .before in
     let a = s .args in (
-      first-names (a .circuit .now) (a .names .now) (a .count) _ (record { accepted = s .pre .0; copied-are = s .pre .4; numbers-are = c .before .before .before .before .before .numbers .ensures }),
+      first-names (a .circuit .now) (a .names .now) (a .count) _ (record { accepted = s .pre .0; copied-are = s .pre .4; params-are = c .before .before .before .before .before .circuit-params .ensures }),
       s .pre .1,
       says-yes _ _ (c .before .before .before .before .question-14 .ensures (a .columns .now) (a .nodes .now) refl refl) (c .before .before .before .if1 .left),
     )
@@ -69,7 +69,7 @@ pub build-named-spec : {M : Type 1} → statement M
 build-named-spec =
     tie.close
     (tie.spec
-    numbers-requires
+    circuit-params-requires
     question-14-requires
     refused-requires
     returns

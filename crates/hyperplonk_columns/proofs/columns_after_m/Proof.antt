@@ -11,18 +11,18 @@ places-of-requires : tie.Need-places-of-requires
 places-of-requires c κs = search needs
 
 add-at : tie.Need-add-at
-add-at c = let s = c .before .before .before .before .before .before in omega (arith, user-few (s .args .circuit .now) (s .pre .0 .accepted) (s .args .v) (s .pre .0 .numbers-are))
+add-at c = let s = c .before .before .before .before .before .before in omega (arith, user-few (s .args .circuit .now) (s .pre .0 .accepted) (s .args .params) (s .pre .0 .params-are))
 
 at-requires : tie.Need-at-requires
 at-requires c κs =
     let s = c .before .before .before .before .before .before in
-    omega (arith, s .pre .1, user-is (s .args .circuit .now) (s .pre .0 .accepted) (s .args .v) (s .pre .0 .numbers-are))
+    omega (arith, s .pre .1, user-is (s .args .circuit .now) (s .pre .0 .accepted) (s .args .params) (s .pre .0 .params-are))
 
 lookup-h-polys-requires : tie.Need-lookup-h-polys-requires
 lookup-h-polys-requires c κs =
     let s = c .before .before .before .before .before .before .before .before in
     let at = c .before .before .places-of in
-    hs-asked (s .args .circuit .now) (s .pre .0 .accepted) (s .args .v) (s .pre .0 .numbers-are) _ _ (at .ensures .0) (at .ensures .1)
+    hs-asked (s .args .circuit .now) (s .pre .0 .accepted) (s .args .params) (s .pre .0 .params-are) _ _ (at .ensures .0) (at .ensures .1)
     (length (s .args .columns .now))
     (s .pre .2)
     _
@@ -33,7 +33,7 @@ lookup-h-polys-requires c κs =
 z-columns-requires : tie.Need-z-columns-requires
 z-columns-requires c κs =
     let s = c .before .before .before .before .before .before .before .before .before .before .before .before in
-    z-asked (s .args .circuit .now) (s .pre .0 .accepted) (s .args .v) (s .pre .0 .numbers-are) (s .args .copied .now) (s .pre .0 .copied-are) _
+    z-asked (s .args .circuit .now) (s .pre .0 .accepted) (s .args .params) (s .pre .0 .params-are) (s .args .copied .now) (s .pre .0 .copied-are) _
     (omega (arith, s .pre .2, c .before .before .before .lookup-h-polys .kept .0))
 
 same-length : tie.Need-same-length
@@ -48,7 +48,7 @@ returns c instances front =
     _
     (s .pre .2)
     front
-    (hs-written (s .args .circuit .now) (s .pre .0 .accepted) (s .args .v) (s .pre .0 .numbers-are) _ _ (at .ensures .0) (at .ensures .1)
+    (hs-written (s .args .circuit .now) (s .pre .0 .accepted) (s .args .params) (s .pre .0 .params-are) _ _ (at .ensures .0) (at .ensures .1)
     (length (s .args .columns .now))
     (s .pre .2)
     _

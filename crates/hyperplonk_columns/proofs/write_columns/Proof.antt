@@ -12,13 +12,13 @@ columns-before-m-requires c κs =
     let s = c .before .before .before .before .before .before .before in (s .pre .0 .accepted, s .pre .0 .copied-are, s .pre .1, s .pre .2)
 
 places-of-requires : tie.Need-places-of-requires
-places-of-requires c κs = let s = c .before .before .before .before .before .before .before .before .before .before in (s .pre .0 .accepted, s .pre .0 .numbers-are)
+places-of-requires c κs = let s = c .before .before .before .before .before .before .before .before .before .before in (s .pre .0 .accepted, s .pre .0 .params-are)
 
 lookup-m-polys-requires : tie.Need-lookup-m-polys-requires
 lookup-m-polys-requires c κs =
     let s = c .before .before .before .before .before .before .before .before .before .before .before .before in
     let at = c .before .places-of in
-    counts-asked (s .args .circuit .now) (s .pre .0 .accepted) (s .args .v) (s .pre .0 .numbers-are) _ _ (at .ensures .0) (at .ensures .1)
+    counts-asked (s .args .circuit .now) (s .pre .0 .accepted) (s .args .params) (s .pre .0 .params-are) _ _ (at .ensures .0) (at .ensures .1)
     (length (s .args .columns .now))
     (s .pre .2)
     (s .args .instance .now)
@@ -30,7 +30,7 @@ lookup-m-polys-requires c κs =
     (c .before .before .before .before .columns-before-m .kept .1 .1 .1 .1 .0)
 
 column-words-requires : tie.Need-column-words-requires
-column-words-requires c κs = let s = c .before .before .before .before .before .before .before .before .before .before .before .before .before .before .before .before in (s .pre .0 .accepted, s .pre .0 .numbers-are)
+column-words-requires c κs = let s = c .before .before .before .before .before .before .before .before .before .before .before .before .before .before .before .before in (s .pre .0 .accepted, s .pre .0 .params-are)
 
 clear-requires : tie.Need-clear-requires
 clear-requires c κs =
@@ -46,7 +46,7 @@ returns c =
     let at = c .before .before .before .before .before .before .before .before .before .before .places-of in
     let before = c .before .before .before .before .before .before .before .before .before .before .before .before .before .columns-before-m .ensures in
     let m = c .before .before .before .before .before .before .before .before .lookup-m-polys in
-    answered-no _ (m .result) _ _ _ (answer-is (s .args .circuit .now) (s .pre .0 .accepted) (s .args .v) (s .pre .0 .numbers-are) _ _ (at .ensures .0) (at .ensures .1)
+    answered-no _ (m .result) _ _ _ (answer-is (s .args .circuit .now) (s .pre .0 .accepted) (s .args .params) (s .pre .0 .params-are) _ _ (at .ensures .0) (at .ensures .1)
     (length (s .args .columns .now))
     (s .pre .2)
     (s .args .instance .now)
@@ -63,7 +63,7 @@ returns c =
     _
     _
     _
-    (counts-behind (s .args .circuit .now) (s .pre .0 .accepted) (s .args .v) (s .pre .0 .numbers-are) _ _ (at .ensures .0) (at .ensures .1)
+    (counts-behind (s .args .circuit .now) (s .pre .0 .accepted) (s .args .params) (s .pre .0 .params-are) _ _ (at .ensures .0) (at .ensures .1)
     (length (s .args .columns .now))
     (s .pre .2)
     (s .args .instance .now)
@@ -96,7 +96,7 @@ returns-2 c =
     let before = c .before .before .before .before .before .before .before .before .before .before .before .before .columns-before-m .ensures in
     let m = c .before .before .before .before .before .before .before .lookup-m-polys in
     let yes = not-false (m .result) (c .before .before .before .before .if1 .left) in
-    answered-yes _ (m .result) _ _ _ (answer-is (s .args .circuit .now) (s .pre .0 .accepted) (s .args .v) (s .pre .0 .numbers-are) _ _ (at .ensures .0) (at .ensures .1)
+    answered-yes _ (m .result) _ _ _ (answer-is (s .args .circuit .now) (s .pre .0 .accepted) (s .args .params) (s .pre .0 .params-are) _ _ (at .ensures .0) (at .ensures .1)
     (length (s .args .columns .now))
     (s .pre .2)
     (s .args .instance .now)
@@ -112,7 +112,7 @@ returns-2 c =
     (all-end (s .args .circuit .now) (s .args .instance .now) (s .args .witness .now) (s .args .challenges .now) (s .pre .0 .accepted) (s .args .columns .now) _ (s .pre .2) before
     _
     _
-    (counts-written (s .args .circuit .now) (s .pre .0 .accepted) (s .args .v) (s .pre .0 .numbers-are) _ _ (at .ensures .0) (at .ensures .1)
+    (counts-written (s .args .circuit .now) (s .pre .0 .accepted) (s .args .params) (s .pre .0 .params-are) _ _ (at .ensures .0) (at .ensures .1)
     (length (s .args .columns .now))
     (s .pre .2)
     (s .args .instance .now)

@@ -1,7 +1,7 @@
 -- `compose_nodes` meets its contract. Assumes nothing.
 use borrow.Author.Needs.{needs}
 use Rattle.hyperplonk_prepare.proofs.Accepted.{laid-of}
-use Rattle.hyperplonk_nodes.proofs.Handed.{asked, pieces-from}
+use Rattle.hyperplonk_nodes.proofs.ComposeInput.{asked, decoded-from}
 use Rattle.hyperplonk_nodes.proofs.compose_nodes.Statement.{statement}
 use Rattle.hyperplonk_nodes.proofs.compose_nodes.Tie as tie
 
@@ -20,7 +20,7 @@ pairs-of-requires c κs = laid-of (c .before .before .before .before .before .be
 compose-requires : tie.Need-compose-requires
 compose-requires c κs =
     let s = c .before .before .before .before .before .before .before .before in
-    asked (s .args .circuit .now) (s .args .copied .now) (s .args .v) (s .pre .0) _ _ _ _ (c .before .before .before .before .nodes-of .ensures) (c .before .before .before .constraints-of .ensures) (c .before .before .widths-of .ensures) (c .before .pairs-of .ensures) (s .pre .1)
+    asked (s .args .circuit .now) (s .args .copied .now) (s .args .params) (s .pre .0) _ _ _ _ (c .before .before .before .before .nodes-of .ensures) (c .before .before .before .constraints-of .ensures) (c .before .before .widths-of .ensures) (c .before .pairs-of .ensures) (s .pre .1)
 
 same-length : tie.Need-same-length
 same-length c = search needs
@@ -28,7 +28,7 @@ same-length c = search needs
 returns : tie.Need-returns
 returns c =
     let s = c .before .before .before .before .before .before .before .before .before .before .before in
-    c .before .before .compose .ensures _ (pieces-from (s .args .circuit .now) (s .args .copied .now) (s .args .v) (s .pre .0) _ _ _ _ (c .before .before .before .before .before .before .before .nodes-of .ensures) (c .before .before .before .before .before .before .constraints-of .ensures) (c .before .before .before .before .before .widths-of .ensures) (c .before .before .before .before .pairs-of .ensures))
+    c .before .before .compose .ensures _ (decoded-from (s .args .circuit .now) (s .args .copied .now) (s .args .params) (s .pre .0) _ _ _ _ (c .before .before .before .before .before .before .before .nodes-of .ensures) (c .before .before .before .before .before .before .constraints-of .ensures) (c .before .before .before .before .before .widths-of .ensures) (c .before .before .before .before .pairs-of .ensures))
 
 pub compose-nodes-spec : {M : Type 1} → statement M
 compose-nodes-spec =

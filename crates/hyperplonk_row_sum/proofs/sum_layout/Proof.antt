@@ -15,22 +15,22 @@ shared-slice-read-preprocess : tie.Need-shared-slice-read-preprocess
 shared-slice-read-preprocess c = omega (arith, laid-of (c .before .before .before .args .circuit .now) (c .before .before .before .pre .0) .long)
 
 sub-t10 : tie.Need-sub-t10
-sub-t10 c = omega (arith, polys-are (c .before .before .before .before .args .circuit .now) (c .before .before .before .before .pre .0) (c .before .before .before .before .args .v) (c .before .before .before .before .pre .1))
+sub-t10 c = omega (arith, polys-are (c .before .before .before .before .args .circuit .now) (c .before .before .before .before .pre .0) (c .before .before .before .before .args .params) (c .before .before .before .before .pre .1))
 
 sub-t11 : tie.Need-sub-t11
-sub-t11 c = omega (arith, polys-are (c .before .before .before .before .args .circuit .now) (c .before .before .before .before .pre .0) (c .before .before .before .before .args .v) (c .before .before .before .before .pre .1))
+sub-t11 c = omega (arith, polys-are (c .before .before .before .before .args .circuit .now) (c .before .before .before .before .pre .0) (c .before .before .before .before .args .params) (c .before .before .before .before .pre .1))
 
 mul-t12 : tie.Need-mul-t12
-mul-t12 c = omega (arith, numbers-few (c .before .before .before .before .before .args .circuit .now) (c .before .before .before .before .before .pre .0) (c .before .before .before .before .before .args .v) (c .before .before .before .before .before .pre .1) .1)
+mul-t12 c = omega (arith, numbers-few (c .before .before .before .before .before .args .circuit .now) (c .before .before .before .before .before .pre .0) (c .before .before .before .before .before .args .params) (c .before .before .before .before .before .pre .1) .1)
 
 mul-t13 : tie.Need-mul-t13
-mul-t13 c = omega (arith, numbers-few (c .before .before .before .before .before .before .args .circuit .now) (c .before .before .before .before .before .before .pre .0) (c .before .before .before .before .before .before .args .v) (c .before .before .before .before .before .before .pre .1) .1)
+mul-t13 c = omega (arith, numbers-few (c .before .before .before .before .before .before .args .circuit .now) (c .before .before .before .before .before .before .pre .0) (c .before .before .before .before .before .before .args .params) (c .before .before .before .before .before .before .pre .1) .1)
 
 add-t14 : tie.Need-add-t14
-add-t14 c = omega (arith, numbers-few (c .before .before .before .before .before .before .before .args .circuit .now) (c .before .before .before .before .before .before .before .pre .0) (c .before .before .before .before .before .before .before .args .v) (c .before .before .before .before .before .before .before .pre .1) .1, numbers-few (c .before .before .before .before .before .before .before .args .circuit .now) (c .before .before .before .before .before .before .before .pre .0) (c .before .before .before .before .before .before .before .args .v) (c .before .before .before .before .before .before .before .pre .1) .2)
+add-t14 c = omega (arith, numbers-few (c .before .before .before .before .before .before .before .args .circuit .now) (c .before .before .before .before .before .before .before .pre .0) (c .before .before .before .before .before .before .before .args .params) (c .before .before .before .before .before .before .before .pre .1) .1, numbers-few (c .before .before .before .before .before .before .before .args .circuit .now) (c .before .before .before .before .before .before .before .pre .0) (c .before .before .before .before .before .before .before .args .params) (c .before .before .before .before .before .before .before .pre .1) .2)
 
 returns : tie.Need-returns
-returns c = layout-made (c .before .before .before .before .before .before .before .args .circuit .now) (c .before .before .before .before .before .before .before .pre .0) (c .before .before .before .before .before .before .before .args .v) (c .before .before .before .before .before .before .before .pre .1)
+returns c = layout-made (c .before .before .before .before .before .before .before .args .circuit .now) (c .before .before .before .before .before .before .before .pre .0) (c .before .before .before .before .before .before .before .args .params) (c .before .before .before .before .before .before .before .pre .1)
 
 pub sum-layout-spec : {M : Type 1} → statement M
 sum-layout-spec =

@@ -1,9 +1,10 @@
 use Prim.Native.Nat.{ℕ, suc, _+_, _-_, _<_}
 use Rattle.expression.specs.Expr.{Expr}
 use Rattle.expression.specs.Flat.{body}
-use Rattle.preprocessor.proofs.Handed as handed
+use Rattle.preprocessor.proofs.ComposeWords as trees
 use Rattle.preprocessor.proofs.Lists as lists
-use Rattle.preprocessor.specs.Pieces.{handedTrees, zeroTree, outerTrees, hAt}
+use Rattle.preprocessor.specs.Compose.{zeroTree, outerTrees, numberOfH}
+use Rattle.preprocessor.specs.ComposeWords.{constraintsFromWords}
 use borrow.Author.Needs.{needs}
 use lib.IntN.{pos}
 use mathlib.Core.Path.{_≡_}
@@ -21,7 +22,7 @@ use Rattle.preprocessor_compose.proofs.+outer_items.{statement}
 use Rattle.preprocessor_compose.proofs.+outer_items.Tie.{close}
 
 abbrev μ-outer-items : Measures 6 outer-items-kinds.ps ℕ
-μ-outer-items κs a = a .1 .1 .1 .1 .1 .1 .1 .0 .lookups - a .1 .1 .1 .1 .1 .1 .1 .1 .0
+μ-outer-items κs a = a .1 .1 .1 .1 .1 .1 .1 .0 .«num_lookups» - a .1 .1 .1 .1 .1 .1 .1 .1 .0
 
 abbrev outer-items-at : ℕ → In 6 outer-items-kinds.ps
 outer-items-at t =
@@ -54,14 +55,14 @@ unfolding body
 outer-items-outer-items-requires t c κs =
     let entry = c .before .before .before .before .before .before .before .before .before .before .before .before .before .before .before in
     let a = (entry .args) in
-    let v = a .v in
-    let hs = handedTrees v (a .copied .now) (a .user .now) (a .roots .now) (a .widths .now) (a .pairs .now) in
+    let v = a .params in
+    let hs = constraintsFromWords v (a .copied .now) (a .user .now) (a .roots .now) (a .widths .now) (a .pairs .now) in
     let es = outerTrees v hs in
-    let long = handed.outer-length v hs in
-    let e = Expr.poly (hAt v (a .i)) (pos 0) in
-    let same = handed.query-nth v hs (a .i) (c .before .before .before .before .before .before .before .if1 .taken) in
-    let m : a .i + 1 < suc (v .lookups) = omega (arith, (c .before .before .before .before .before .before .before .if1 .taken)) in
-    let q = lists.more-sizes es (suc (v .lookups)) long (a .i) e same m in
+    let long = trees.outer-length v hs in
+    let e = Expr.poly (numberOfH v (a .i)) (pos 0) in
+    let same = trees.query-nth v hs (a .i) (c .before .before .before .before .before .before .before .if1 .taken) in
+    let m : a .i + 1 < suc (v .«num_lookups») = omega (arith, (c .before .before .before .before .before .before .before .if1 .taken)) in
+    let q = lists.more-sizes es (suc (v .«num_lookups»)) long (a .i) e same m in
     let x = (c .before .before .before .query .ensures .number) in
     (omega (arith, (entry .pre .0), (c .before .before .before .before .before .before .before .if1 .taken)), ((entry .pre .1 .0), (omega (arith, (c .before .before .before .before .before .before .before .if1 .taken)), omega (arith, (entry .pre .1 .1 .1)))))
 
@@ -70,14 +71,14 @@ unfolding body
 outer-items-item-requires t c κs =
     let entry = c .before .before .before .before .before .before .before .before .before .before .before .before .before .before .before .before .before .before .before in
     let a = (entry .args) in
-    let v = a .v in
-    let hs = handedTrees v (a .copied .now) (a .user .now) (a .roots .now) (a .widths .now) (a .pairs .now) in
+    let v = a .params in
+    let hs = constraintsFromWords v (a .copied .now) (a .user .now) (a .roots .now) (a .widths .now) (a .pairs .now) in
     let es = outerTrees v hs in
-    let long = handed.outer-length v hs in
-    let e = Expr.poly (hAt v (a .i)) (pos 0) in
-    let same = handed.query-nth v hs (a .i) (c .before .before .before .before .before .before .before .before .before .before .before .if1 .taken) in
-    let m : a .i + 1 < suc (v .lookups) = omega (arith, (c .before .before .before .before .before .before .before .before .before .before .before .if1 .taken)) in
-    let q = lists.more-sizes es (suc (v .lookups)) long (a .i) e same m in
+    let long = trees.outer-length v hs in
+    let e = Expr.poly (numberOfH v (a .i)) (pos 0) in
+    let same = trees.query-nth v hs (a .i) (c .before .before .before .before .before .before .before .before .before .before .before .if1 .taken) in
+    let m : a .i + 1 < suc (v .«num_lookups») = omega (arith, (c .before .before .before .before .before .before .before .before .before .before .before .if1 .taken)) in
+    let q = lists.more-sizes es (suc (v .«num_lookups»)) long (a .i) e same m in
     let x = (c .before .before .before .before .before .before .before .query .ensures .number) in
     let y = (c .before .before .before .outer-items .ensures .number) in
     omega (arith, (entry .pre .1 .1 .1))
@@ -88,27 +89,27 @@ outer-items-same-length t c = search needs
 outer-items-returns : (t : ℕ) → outer-items-lts.Need-returns (outer-items-claims t) (outer-items-at t) outer-items.Post
 outer-items-returns t c =
     let a = (c .before .before .before .before .before .before .before .before .before .before .before .before .before .before .before .before .before .before .before .before .before .before .args) in
-    let v = a .v in
-    let hs = handedTrees v (a .copied .now) (a .user .now) (a .roots .now) (a .widths .now) (a .pairs .now) in
+    let v = a .params in
+    let hs = constraintsFromWords v (a .copied .now) (a .user .now) (a .roots .now) (a .widths .now) (a .pairs .now) in
     let es = outerTrees v hs in
-    let long = handed.outer-length v hs in
-    let e = Expr.poly (hAt v (a .i)) (pos 0) in
-    let same = handed.query-nth v hs (a .i) (c .before .before .before .before .before .before .before .before .before .before .before .before .before .before .if1 .taken) in
-    let m : a .i + 1 < suc (v .lookups) = omega (arith, (c .before .before .before .before .before .before .before .before .before .before .before .before .before .before .if1 .taken)) in
-    lists.more-from es (suc (v .lookups)) long (a .i) e same m (c .before .before .before .before .before .before .before .before .before .before .query .ensures) (c .before .before .before .before .before .before .outer-items .ensures) (c .before .before .item .ensures)
+    let long = trees.outer-length v hs in
+    let e = Expr.poly (numberOfH v (a .i)) (pos 0) in
+    let same = trees.query-nth v hs (a .i) (c .before .before .before .before .before .before .before .before .before .before .before .before .before .before .if1 .taken) in
+    let m : a .i + 1 < suc (v .«num_lookups») = omega (arith, (c .before .before .before .before .before .before .before .before .before .before .before .before .before .before .if1 .taken)) in
+    lists.more-from es (suc (v .«num_lookups»)) long (a .i) e same m (c .before .before .before .before .before .before .before .before .before .before .query .ensures) (c .before .before .before .before .before .before .outer-items .ensures) (c .before .before .item .ensures)
 
 outer-items-zero-check-requires : (t : ℕ) → outer-items-lts.Need-zero-check-requires (outer-items-claims t) (outer-items-at t) outer-items.Post
 outer-items-zero-check-requires t c κs =
     let entry = c .before .before .before .before .before .before .before .before .before in
     let a = (entry .args) in
-    let v = a .v in
-    let hs = handedTrees v (a .copied .now) (a .user .now) (a .roots .now) (a .widths .now) (a .pairs .now) in
+    let v = a .params in
+    let hs = constraintsFromWords v (a .copied .now) (a .user .now) (a .roots .now) (a .widths .now) (a .pairs .now) in
     let es = outerTrees v hs in
-    let long = handed.outer-length v hs in
-    let last : a .i ≡ v .lookups = omega (arith, (entry .pre .1 .1 .0), (c .before .if1 .left)) in
+    let long = trees.outer-length v hs in
+    let last : a .i ≡ v .«num_lookups» = omega (arith, (entry .pre .1 .1 .0), (c .before .if1 .left)) in
     let e = zeroTree v hs in
-    let same = handed.zero-nth v hs (a .i) last in
-    let r = lists.first-room es (suc (v .lookups)) long (a .i) e same in
+    let same = trees.zero-nth v hs (a .i) last in
+    let r = lists.first-room es (suc (v .«num_lookups»)) long (a .i) e same in
     ((entry .pre .1 .0), omega (arith, (entry .pre .1 .1 .1)))
 
 outer-items-add-list-end : (t : ℕ) → outer-items-lts.Need-add-list-end (outer-items-claims t) (outer-items-at t) outer-items.Post
@@ -118,14 +119,14 @@ outer-items-list-end-requires : (t : ℕ) → outer-items-lts.Need-list-end-requ
 outer-items-list-end-requires t c κs =
     let entry = c .before .before .before .before .before .before .before .before .before .before .before .before .before .before in
     let a = (entry .args) in
-    let v = a .v in
-    let hs = handedTrees v (a .copied .now) (a .user .now) (a .roots .now) (a .widths .now) (a .pairs .now) in
+    let v = a .params in
+    let hs = constraintsFromWords v (a .copied .now) (a .user .now) (a .roots .now) (a .widths .now) (a .pairs .now) in
     let es = outerTrees v hs in
-    let long = handed.outer-length v hs in
-    let last : a .i ≡ v .lookups = omega (arith, (entry .pre .1 .1 .0), (c .before .before .before .before .before .before .if1 .left)) in
+    let long = trees.outer-length v hs in
+    let last : a .i ≡ v .«num_lookups» = omega (arith, (entry .pre .1 .1 .0), (c .before .before .before .before .before .before .if1 .left)) in
     let e = zeroTree v hs in
-    let same = handed.zero-nth v hs (a .i) last in
-    let r = lists.first-room es (suc (v .lookups)) long (a .i) e same in
+    let same = trees.zero-nth v hs (a .i) last in
+    let r = lists.first-room es (suc (v .«num_lookups»)) long (a .i) e same in
     let x = (c .before .before .before .before .zero-check .ensures .number) in
     omega (arith, (entry .pre .1 .1 .1))
 
@@ -136,14 +137,14 @@ outer-items-returns-2 : (t : ℕ) → outer-items-lts.Need-returns-2 (outer-item
 outer-items-returns-2 t c =
     let entry = c .before .before .before .before .before .before .before .before .before .before .before .before .before .before .before .before .before in
     let a = (entry .args) in
-    let v = a .v in
-    let hs = handedTrees v (a .copied .now) (a .user .now) (a .roots .now) (a .widths .now) (a .pairs .now) in
+    let v = a .params in
+    let hs = constraintsFromWords v (a .copied .now) (a .user .now) (a .roots .now) (a .widths .now) (a .pairs .now) in
     let es = outerTrees v hs in
-    let long = handed.outer-length v hs in
-    let last : a .i ≡ v .lookups = omega (arith, (entry .pre .1 .1 .0), (c .before .before .before .before .before .before .before .before .before .if1 .left)) in
+    let long = trees.outer-length v hs in
+    let last : a .i ≡ v .«num_lookups» = omega (arith, (entry .pre .1 .1 .0), (c .before .before .before .before .before .before .before .before .before .if1 .left)) in
     let e = zeroTree v hs in
-    let same = handed.zero-nth v hs (a .i) last in
-    lists.end-from es (suc (v .lookups)) long (a .i) e same (omega arith) (c .before .before .before .before .before .before .before .zero-check .ensures) (c .before .before .list-end .ensures)
+    let same = trees.zero-nth v hs (a .i) last in
+    lists.end-from es (suc (v .«num_lookups»)) long (a .i) e same (omega arith) (c .before .before .before .before .before .before .before .zero-check .ensures) (c .before .before .list-end .ensures)
 
 pub +outer-items-spec : {M : Type 1} → statement M
 +outer-items-spec = close μ-outer-items λ t. outer-items-lts.spec (outer-items-claims t)

@@ -12,8 +12,8 @@ use Rattle.hyperplonk_cli.proofs.shape.accepted.Tie as tie
 count-is : (of : List ℕ) (count : ℕ) (names : List ℕ) → count ≤ length of → take count of ≡ names → count ≡ length names
 count-is of count names h e = sym (length-take-le count of h) ∙ ap (λ (xs : List ℕ). length xs) e
 
-numbers-requires : tie.Need-numbers-requires
-numbers-requires c κs =
+circuit-params-requires : tie.Need-circuit-params-requires
+circuit-params-requires c κs =
     let a = c .before .args in
     let pre = c .before .pre in
     (pre .0, count-is (a .of) (a .count) _ (omega (arith, pre .1 .0)) (pre .1 .1))
@@ -33,4 +33,4 @@ returns c = search needs
 pub accepted-spec : {M : Type 1} → statement M
 accepted-spec =
     tie.close
-    (tie.spec numbers-requires column-words-requires composed-nodes-requires word-at-requires returns)
+    (tie.spec circuit-params-requires column-words-requires composed-nodes-requires word-at-requires returns)

@@ -1,6 +1,6 @@
 -- `composed_nodes` meets its contract. Assumes nothing.
 use Rattle.hyperplonk_prepare.proofs.Accepted.{laid-of}
-use Rattle.hyperplonk_prepare.proofs.Computed.{words-from, pieces-from}
+use Rattle.hyperplonk_prepare.proofs.Computed.{words-from, decoded-from}
 use Rattle.hyperplonk_prepare.proofs.needed.composed_nodes.Statement.{statement}
 use Rattle.hyperplonk_prepare.proofs.needed.composed_nodes.Tie as tie
 
@@ -24,7 +24,7 @@ composed-nodes-requires c κs =
 returns : tie.Need-returns
 returns c =
     let s = c .before .before .before .before .before .before in
-    c .composed-nodes .ensures _ _ (pieces-from (s .args .circuit .now) (s .pre .0) _ _ _ _ (c .before .before .before .before .nodes-of .ensures) (c .before .before .before .constraints-of .ensures) (c .before .before .widths-of .ensures) (c .before .pairs-of .ensures) _ (s .pre .1))
+    c .composed-nodes .ensures _ _ (decoded-from (s .args .circuit .now) (s .pre .0) _ _ _ _ (c .before .before .before .before .nodes-of .ensures) (c .before .before .before .constraints-of .ensures) (c .before .before .widths-of .ensures) (c .before .pairs-of .ensures) _ (s .pre .1))
 
 pub composed-nodes-spec : {M : Type 1} → statement M
 composed-nodes-spec =

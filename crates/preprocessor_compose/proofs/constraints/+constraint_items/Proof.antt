@@ -1,9 +1,9 @@
 use Prim.Native.Nat.{ℕ, _+_, _-_, _<_}
 use Rattle.expression.specs.Expr.{Expr}
 use Rattle.expression.specs.Flat.{body}
-use Rattle.preprocessor.proofs.Handed as handed
+use Rattle.preprocessor.proofs.ComposeWords as trees
 use Rattle.preprocessor.proofs.Lists as lists
-use Rattle.preprocessor.specs.Pieces.{handedTrees, numConstraints}
+use Rattle.preprocessor.specs.ComposeWords.{constraintsFromWords, numConstraints}
 use borrow.Author.Needs.{needs}
 use lib.ListN.{length, getD}
 use mathlib.Core.Path.{refl}
@@ -61,10 +61,10 @@ constraint-items-constraint-requires : (t : ℕ) → constraint-items-lts.Need-c
 constraint-items-constraint-requires t c κs =
     let entry = c .before .before .before .before .before .before .before .before in
     let a = (entry .args) in
-    let v = a .v in
-    let es = handedTrees v (a .copied .now) (a .user .now) (a .roots .now) (a .widths .now) (a .pairs .now) in
+    let v = a .params in
+    let es = constraintsFromWords v (a .copied .now) (a .user .now) (a .roots .now) (a .widths .now) (a .pairs .now) in
     let n = numConstraints (length (a .roots .now)) v in
-    let long = handed.handed-length v (a .copied .now) (a .user .now) (a .roots .now) (a .widths .now) (a .pairs .now) in
+    let long = trees.constraints-length v (a .copied .now) (a .user .now) (a .roots .now) (a .widths .now) (a .pairs .now) in
     let e = getD es (a .i) (Expr.constant 0) in
     let r = lists.first-room es n long (a .i) e refl in
     ((entry .pre .1 .0), ((entry .pre .1 .1 .0), omega (arith, (entry .pre .1 .1 .1))))
@@ -91,10 +91,10 @@ constraint-items-constraint-items-requires :
 constraint-items-constraint-items-requires t c κs =
     let entry = c .before .before .before .before .before .before .before .before .before .before .before .before .before in
     let a = (entry .args) in
-    let v = a .v in
-    let es = handedTrees v (a .copied .now) (a .user .now) (a .roots .now) (a .widths .now) (a .pairs .now) in
+    let v = a .params in
+    let es = constraintsFromWords v (a .copied .now) (a .user .now) (a .roots .now) (a .widths .now) (a .pairs .now) in
     let n = numConstraints (length (a .roots .now)) v in
-    let long = handed.handed-length v (a .copied .now) (a .user .now) (a .roots .now) (a .widths .now) (a .pairs .now) in
+    let long = trees.constraints-length v (a .copied .now) (a .user .now) (a .roots .now) (a .widths .now) (a .pairs .now) in
     let e = getD es (a .i) (Expr.constant 0) in
     let m : a .i + 1 < n = omega (arith, (c .before .if1 .taken), (c .before .before .before .before .before .before .num-constraints .ensures)) in
     let q = lists.more-sizes es n long (a .i) e refl m in
@@ -106,10 +106,10 @@ unfolding body
 constraint-items-item-requires t c κs =
     let entry = c .before .before .before .before .before .before .before .before .before .before .before .before .before .before .before .before .before in
     let a = (entry .args) in
-    let v = a .v in
-    let es = handedTrees v (a .copied .now) (a .user .now) (a .roots .now) (a .widths .now) (a .pairs .now) in
+    let v = a .params in
+    let es = constraintsFromWords v (a .copied .now) (a .user .now) (a .roots .now) (a .widths .now) (a .pairs .now) in
     let n = numConstraints (length (a .roots .now)) v in
-    let long = handed.handed-length v (a .copied .now) (a .user .now) (a .roots .now) (a .widths .now) (a .pairs .now) in
+    let long = trees.constraints-length v (a .copied .now) (a .user .now) (a .roots .now) (a .widths .now) (a .pairs .now) in
     let e = getD es (a .i) (Expr.constant 0) in
     let m : a .i + 1 < n = omega (arith, (c .before .before .before .before .before .if1 .taken), (c .before .before .before .before .before .before .before .before .before .before .num-constraints .ensures)) in
     let q = lists.more-sizes es n long (a .i) e refl m in
@@ -123,10 +123,10 @@ constraint-items-same-length t c = search needs
 constraint-items-returns : (t : ℕ) → constraint-items-lts.Need-returns (constraint-items-claims t) (constraint-items-at t) constraint-items.Post
 constraint-items-returns t c =
     let a = (c .before .before .before .before .before .before .before .before .before .before .before .before .before .before .before .before .before .before .before .before .args) in
-    let v = a .v in
-    let es = handedTrees v (a .copied .now) (a .user .now) (a .roots .now) (a .widths .now) (a .pairs .now) in
+    let v = a .params in
+    let es = constraintsFromWords v (a .copied .now) (a .user .now) (a .roots .now) (a .widths .now) (a .pairs .now) in
     let n = numConstraints (length (a .roots .now)) v in
-    let long = handed.handed-length v (a .copied .now) (a .user .now) (a .roots .now) (a .widths .now) (a .pairs .now) in
+    let long = trees.constraints-length v (a .copied .now) (a .user .now) (a .roots .now) (a .widths .now) (a .pairs .now) in
     let e = getD es (a .i) (Expr.constant 0) in
     let m : a .i + 1 < n = omega (arith, (c .before .before .before .before .before .before .before .before .if1 .taken), (c .before .before .before .before .before .before .before .before .before .before .before .before .before .num-constraints .ensures)) in
     lists.more-from es n long (a .i) e refl m (c .before .before .before .before .before .before .before .before .before .before .before .constraint .ensures) (c .before .before .before .before .before .before .constraint-items .ensures) (c .before .before .item .ensures)
@@ -138,10 +138,10 @@ constraint-items-list-end-requires : (t : ℕ) → constraint-items-lts.Need-lis
 constraint-items-list-end-requires t c κs =
     let entry = c .before .before .before .before .before .before .before .before .before .before .before .before .before .before in
     let a = (entry .args) in
-    let v = a .v in
-    let es = handedTrees v (a .copied .now) (a .user .now) (a .roots .now) (a .widths .now) (a .pairs .now) in
+    let v = a .params in
+    let es = constraintsFromWords v (a .copied .now) (a .user .now) (a .roots .now) (a .widths .now) (a .pairs .now) in
     let n = numConstraints (length (a .roots .now)) v in
-    let long = handed.handed-length v (a .copied .now) (a .user .now) (a .roots .now) (a .widths .now) (a .pairs .now) in
+    let long = trees.constraints-length v (a .copied .now) (a .user .now) (a .roots .now) (a .widths .now) (a .pairs .now) in
     let e = getD es (a .i) (Expr.constant 0) in
     let r = lists.first-room es n long (a .i) e refl in
     let x = (c .before .before .before .before .before .constraint .ensures .number) in
@@ -153,10 +153,10 @@ constraint-items-same-length-2 t c = search needs
 constraint-items-returns-2 : (t : ℕ) → constraint-items-lts.Need-returns-2 (constraint-items-claims t) (constraint-items-at t) constraint-items.Post
 constraint-items-returns-2 t c =
     let a = (c .before .before .before .before .before .before .before .before .before .before .before .before .before .before .before .before .before .args) in
-    let v = a .v in
-    let es = handedTrees v (a .copied .now) (a .user .now) (a .roots .now) (a .widths .now) (a .pairs .now) in
+    let v = a .params in
+    let es = constraintsFromWords v (a .copied .now) (a .user .now) (a .roots .now) (a .widths .now) (a .pairs .now) in
     let n = numConstraints (length (a .roots .now)) v in
-    let long = handed.handed-length v (a .copied .now) (a .user .now) (a .roots .now) (a .widths .now) (a .pairs .now) in
+    let long = trees.constraints-length v (a .copied .now) (a .user .now) (a .roots .now) (a .widths .now) (a .pairs .now) in
     let e = getD es (a .i) (Expr.constant 0) in
     lists.end-from es n long (a .i) e refl (omega (arith, (c .before .before .before .before .before .if1 .left), (c .before .before .before .before .before .before .before .before .before .before .num-constraints .ensures))) (c .before .before .before .before .before .before .before .before .constraint .ensures) (c .before .before .list-end .ensures)
 

@@ -1,9 +1,10 @@
 use Prim.Native.Nat.{suc, _+_, _*_, _-_}
 use Rattle.expression.proofs.Written as written
 use Rattle.expression.specs.Flat.{size}
-use Rattle.preprocessor.proofs.Handed as handed
+use Rattle.preprocessor.proofs.ComposeWords as trees
 use Rattle.preprocessor.proofs.Parts as parts
-use Rattle.preprocessor.specs.Pieces.{mAt, hAt, sideTree}
+use Rattle.preprocessor.specs.Compose.{numberOfM, numberOfH}
+use Rattle.preprocessor.specs.ComposeWords.{sideTree}
 use lib.ListN.{length}
 use mathlib.Core.Path.{_≡_, ap}
 use native.Mathlib.Omega.{arith}
@@ -24,10 +25,10 @@ copy-expr-requires : tie.Need-copy-expr-requires
 copy-expr-requires c κs =
     let entry = c .before .before .before .before .before .before .before .before .before .before in
     let a = (entry .args) in
-    let v = a .v in
+    let v = a .params in
     let n = (c .before .index .result) in
-    let q = ap size (handed.own-nth v (a .copied .now) (a .user .now) (a .roots .now) (a .widths .now) (a .pairs .now) (a .i) n (c .before .before .before .if1 .taken) (c .before .index .ensures)) in
-    (handed.root-node (a .user .now) (a .roots .now) (a .i) n (entry .pre .0 .words .constraints-named) (c .before .before .before .if1 .taken) (c .before .index .ensures), omega (arith, (entry .pre .1 .1)))
+    let q = ap size (trees.own-nth v (a .copied .now) (a .user .now) (a .roots .now) (a .widths .now) (a .pairs .now) (a .i) n (c .before .before .before .if1 .taken) (c .before .index .ensures)) in
+    (trees.root-node (a .user .now) (a .roots .now) (a .i) n (entry .pre .0 .words .constraints-named) (c .before .before .before .if1 .taken) (c .before .index .ensures), omega (arith, (entry .pre .1 .1)))
 
 same-length : tie.Need-same-length
 same-length c = search needs
@@ -35,8 +36,8 @@ same-length c = search needs
 returns : tie.Need-returns
 returns c =
     let a = (c .before .before .before .before .before .before .before .before .before .before .before .before .before .args) in
-    let v = a .v in
-    written.written-as (handed.own-nth v (a .copied .now) (a .user .now) (a .roots .now) (a .widths .now) (a .pairs .now) (a .i) (c .before .before .before .before .index .result) (c .before .before .before .before .before .before .if1 .taken) (c .before .before .before .before .index .ensures)) (c .before .before .copy-expr .ensures)
+    let v = a .params in
+    written.written-as (trees.own-nth v (a .copied .now) (a .user .now) (a .roots .now) (a .widths .now) (a .pairs .now) (a .i) (c .before .before .before .before .index .result) (c .before .before .before .before .before .before .if1 .taken) (c .before .before .before .before .index .ensures)) (c .before .before .copy-expr .ensures)
 
 mul-index-2 : tie.Need-mul-index-2
 mul-index-2 c = search needs
@@ -54,21 +55,21 @@ mul-lookup-constraint : tie.Need-mul-lookup-constraint
 mul-lookup-constraint c =
     let entry = c .before .before .before .before .before .before .before .before .before .before .before .before .before in
     let a = (entry .args) in
-    let v = a .v in
-    let q = handed.words-end (a .user .now) (a .widths .now) (a .pairs .now) (entry .pre .0 .words .all-pairs) (a .i - length (a .roots .now)) (omega (arith, (entry .pre .0 .words .all-lookups), (c .before .before .before .before .if2 .taken))) in
+    let v = a .params in
+    let q = trees.words-end (a .user .now) (a .widths .now) (a .pairs .now) (entry .pre .0 .words .all-pairs) (a .i - length (a .roots .now)) (omega (arith, (entry .pre .0 .words .all-lookups), (c .before .before .before .before .if2 .taken))) in
     omega (arith, (c .before .pairs-before .ensures))
 
 lookup-constraint-requires : tie.Need-lookup-constraint-requires
 lookup-constraint-requires c κs =
     let entry = c .before .before .before .before .before .before .before .before .before .before .before .before .before in
     let a = (entry .args) in
-    let v = a .v in
+    let v = a .params in
     let s = (c .before .pairs-before .result) in
     let w = (c .before .before .index2 .result) in
     let j = a .i - length (a .roots .now) in
-    let q = handed.words-end (a .user .now) (a .widths .now) (a .pairs .now) (entry .pre .0 .words .all-pairs) j (omega (arith, (entry .pre .0 .words .all-lookups), (c .before .before .before .before .if2 .taken))) in
-    let t = ap size (handed.lookup-nth v (a .copied .now) (a .user .now) (a .roots .now) (a .widths .now) (a .pairs .now) (a .i) j s w (omega (arith, (c .before .before .before .before .before .before .if1 .left))) (c .before .before .before .before .if2 .taken) (entry .pre .0 .words .all-lookups) (entry .pre .0 .words .all-pairs) (c .before .pairs-before .ensures) (c .before .before .index2 .ensures)) in
-    let u = handed.lookup-size (mAt v j) (hAt v j) (sideTree (a .user .now) (a .pairs .now) (v .user) (s * 2) w) (sideTree (a .user .now) (a .pairs .now) (v .user) (s * 2 + 1) w) in
+    let q = trees.words-end (a .user .now) (a .widths .now) (a .pairs .now) (entry .pre .0 .words .all-pairs) j (omega (arith, (entry .pre .0 .words .all-lookups), (c .before .before .before .before .if2 .taken))) in
+    let t = ap size (trees.lookup-nth v (a .copied .now) (a .user .now) (a .roots .now) (a .widths .now) (a .pairs .now) (a .i) j s w (omega (arith, (c .before .before .before .before .before .before .if1 .left))) (c .before .before .before .before .if2 .taken) (entry .pre .0 .words .all-lookups) (entry .pre .0 .words .all-pairs) (c .before .pairs-before .ensures) (c .before .before .index2 .ensures)) in
+    let u = trees.lookup-size (numberOfM v j) (numberOfH v j) (sideTree (a .user .now) (a .pairs .now) (v .«num_challenges») (s * 2) w) (sideTree (a .user .now) (a .pairs .now) (v .«num_challenges») (s * 2 + 1) w) in
     ((entry .pre .0 .words .pairs-named), ((entry .pre .0 .words .limits), ((c .before .before .before .before .if2 .taken), (omega (arith, (c .before .pairs-before .ensures), (c .before .before .index2 .ensures)), omega (arith, (entry .pre .1 .1))))))
 
 same-length-2 : tie.Need-same-length-2
@@ -78,16 +79,16 @@ returns-2 : tie.Need-returns-2
 returns-2 c =
     let entry = c .before .before .before .before .before .before .before .before .before .before .before .before .before .before .before .before in
     let a = (entry .args) in
-    let v = a .v in
+    let v = a .params in
     let j = a .i - length (a .roots .now) in
-    written.written-as (handed.lookup-nth v (a .copied .now) (a .user .now) (a .roots .now) (a .widths .now) (a .pairs .now) (a .i) j (c .before .before .before .before .pairs-before .result) (c .before .before .before .before .before .index2 .result) (omega (arith, (c .before .before .before .before .before .before .before .before .before .if1 .left))) (c .before .before .before .before .before .before .before .if2 .taken) (entry .pre .0 .words .all-lookups) (entry .pre .0 .words .all-pairs) (c .before .before .before .before .pairs-before .ensures) (c .before .before .before .before .before .index2 .ensures)) (c .before .before .lookup-constraint .ensures)
+    written.written-as (trees.lookup-nth v (a .copied .now) (a .user .now) (a .roots .now) (a .widths .now) (a .pairs .now) (a .i) j (c .before .before .before .before .pairs-before .result) (c .before .before .before .before .before .index2 .result) (omega (arith, (c .before .before .before .before .before .before .before .before .before .if1 .left))) (c .before .before .before .before .before .before .before .if2 .taken) (entry .pre .0 .words .all-lookups) (entry .pre .0 .words .all-pairs) (c .before .before .before .before .pairs-before .ensures) (c .before .before .before .before .before .index2 .ensures)) (c .before .before .lookup-constraint .ensures)
 
 start-constraint-requires : tie.Need-start-constraint-requires
 start-constraint-requires c κs =
     let entry = c .before .before .before .before .before .before .before .before .before .before .before .before in
     let a = (entry .args) in
-    let v = a .v in
-    let q = ap size (handed.start-nth v (a .copied .now) (a .user .now) (a .roots .now) (a .widths .now) (a .pairs .now) (a .i) (omega (arith, (c .before .before .before .before .before .if1 .left), (c .before .before .before .if2 .left), (c .before .if3 .taken))) (entry .pre .1 .0)) in
+    let v = a .params in
+    let q = ap size (trees.start-nth v (a .copied .now) (a .user .now) (a .roots .now) (a .widths .now) (a .pairs .now) (a .i) (omega (arith, (c .before .before .before .before .before .if1 .left), (c .before .before .before .if2 .left), (c .before .if3 .taken))) (entry .pre .1 .0)) in
     let r = parts.start-size v in
     ((entry .pre .0 .words .limits), omega (arith, (entry .pre .1 .1)))
 
@@ -98,8 +99,8 @@ returns-3 : tie.Need-returns-3
 returns-3 c =
     let entry = c .before .before .before .before .before .before .before .before .before .before .before .before .before .before .before in
     let a = (entry .args) in
-    let v = a .v in
-    written.written-as (handed.start-nth v (a .copied .now) (a .user .now) (a .roots .now) (a .widths .now) (a .pairs .now) (a .i) (omega (arith, (c .before .before .before .before .before .before .before .before .if1 .left), (c .before .before .before .before .before .before .if2 .left), (c .before .before .before .before .if3 .taken))) (entry .pre .1 .0)) (c .before .before .start-constraint .ensures)
+    let v = a .params in
+    written.written-as (trees.start-nth v (a .copied .now) (a .user .now) (a .roots .now) (a .widths .now) (a .pairs .now) (a .i) (omega (arith, (c .before .before .before .before .before .before .before .before .if1 .left), (c .before .before .before .before .before .before .if2 .left), (c .before .before .before .before .if3 .taken))) (entry .pre .1 .0)) (c .before .before .start-constraint .ensures)
 
 sub-part-constraint : tie.Need-sub-part-constraint
 sub-part-constraint c = search needs
@@ -108,11 +109,11 @@ part-constraint-requires : tie.Need-part-constraint-requires
 part-constraint-requires c κs =
     let entry = c .before .before .before .before .before .before .before .before .before .before .before .before in
     let a = (entry .args) in
-    let v = a .v in
-    let p = a .i - length (a .roots .now) - v .lookups - 1 in
-    let e : a .i ≡ length (a .roots .now) + (v .lookups + suc p) = omega (arith, (c .before .before .before .before .before .if1 .left), (c .before .before .before .if2 .left), (c .before .if3 .left)) in
-    let h = handed.part-below v (a .copied .now) (a .user .now) (a .roots .now) (a .widths .now) (a .pairs .now) (a .i) p e (entry .pre .1 .0) in
-    let q = ap size (handed.part-nth v (a .copied .now) (a .user .now) (a .roots .now) (a .widths .now) (a .pairs .now) (a .i) p e (entry .pre .1 .0)) in
+    let v = a .params in
+    let p = a .i - length (a .roots .now) - v .«num_lookups» - 1 in
+    let e : a .i ≡ length (a .roots .now) + (v .«num_lookups» + suc p) = omega (arith, (c .before .before .before .before .before .if1 .left), (c .before .before .before .if2 .left), (c .before .if3 .left)) in
+    let h = trees.part-below v (a .copied .now) (a .user .now) (a .roots .now) (a .widths .now) (a .pairs .now) (a .i) p e (entry .pre .1 .0) in
+    let q = ap size (trees.part-nth v (a .copied .now) (a .user .now) (a .roots .now) (a .widths .now) (a .pairs .now) (a .i) p e (entry .pre .1 .0)) in
     let r = parts.part-size v (entry .pre .0 .words .limits) p h (a .copied .now) in
     ((entry .pre .0 .words .limits), (h, ((entry .pre .0 .all-copied), omega (arith, (entry .pre .1 .1)))))
 
@@ -123,10 +124,10 @@ returns-4 : tie.Need-returns-4
 returns-4 c =
     let entry = c .before .before .before .before .before .before .before .before .before .before .before .before .before .before .before in
     let a = (entry .args) in
-    let v = a .v in
-    let p = a .i - length (a .roots .now) - v .lookups - 1 in
-    let e : a .i ≡ length (a .roots .now) + (v .lookups + suc p) = omega (arith, (c .before .before .before .before .before .before .before .before .if1 .left), (c .before .before .before .before .before .before .if2 .left), (c .before .before .before .before .if3 .left)) in
-    written.written-as (handed.part-nth v (a .copied .now) (a .user .now) (a .roots .now) (a .widths .now) (a .pairs .now) (a .i) p e (entry .pre .1 .0)) (c .before .before .part-constraint .ensures)
+    let v = a .params in
+    let p = a .i - length (a .roots .now) - v .«num_lookups» - 1 in
+    let e : a .i ≡ length (a .roots .now) + (v .«num_lookups» + suc p) = omega (arith, (c .before .before .before .before .before .before .before .before .if1 .left), (c .before .before .before .before .before .before .if2 .left), (c .before .before .before .before .if3 .left)) in
+    written.written-as (trees.part-nth v (a .copied .now) (a .user .now) (a .roots .now) (a .widths .now) (a .pairs .now) (a .i) p e (entry .pre .1 .0)) (c .before .before .part-constraint .ensures)
 
 pub constraint-spec : {M : Type 1} → statement M
 constraint-spec =

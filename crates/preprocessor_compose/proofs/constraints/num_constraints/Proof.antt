@@ -1,4 +1,4 @@
-use Rattle.preprocessor.proofs.Handed as handed
+use Rattle.preprocessor.proofs.ComposeWords as trees
 use Rattle.preprocessor.proofs.Parts as parts
 use mathlib.Core.Path.{sym}
 use native.Mathlib.Omega.{arith}
@@ -12,7 +12,7 @@ add-result c = search needs
 returns : tie.Need-returns
 returns c =
     let entry = c .before .before .before in
-    sym (handed.num-none (entry .args .own) (entry .args .v) (c .before .if1 .taken))
+    sym (trees.num-none (entry .args .own) (entry .args .params) (c .before .if1 .taken))
 
 add-result-2 : tie.Need-add-result-2
 add-result-2 c = search needs
@@ -20,17 +20,17 @@ add-result-2 c = search needs
 add-result-3 : tie.Need-add-result-3
 add-result-3 c =
     let entry = c .before .before .before .before in
-    let f = parts.parts-few (entry .args .v) (entry .pre .0) in omega (arith, (entry .pre))
+    let f = parts.parts-few (entry .args .params) (entry .pre .0) in omega (arith, (entry .pre))
 
 add-result-4 : tie.Need-add-result-4
 add-result-4 c =
     let entry = c .before .before .before .before in
-    let f = parts.parts-few (entry .args .v) (entry .pre .0) in omega (arith, (entry .pre))
+    let f = parts.parts-few (entry .args .params) (entry .pre .0) in omega (arith, (entry .pre))
 
 returns-2 : tie.Need-returns-2
 returns-2 c =
     let entry = c .before .before .before .before in
-    sym (handed.num-some (entry .args .own) (entry .args .v) (c .before .before .if1 .left))
+    sym (trees.num-some (entry .args .own) (entry .args .params) (c .before .before .if1 .left))
 
 pub num-constraints-spec : {M : Type 1} → statement M
 num-constraints-spec =

@@ -2,9 +2,10 @@ use Rattle.lists.proofs.Runs as runs
 use Prim.Native.Nat.{ℕ, _-_, _≤_, _<_, min}
 use Rattle.expression.specs.Expr.{Expr}
 use Rattle.preprocessor.proofs.Counts as counts
-use Rattle.preprocessor.proofs.Handed as handed
+use Rattle.preprocessor.proofs.ComposeWords as trees
 use Rattle.preprocessor.specs.Count.{nodesIn, most}
-use Rattle.preprocessor.specs.Pieces.{lookupsOf, lookupTreeOf}
+use Rattle.preprocessor.specs.Compose.{lookupTreeOf}
+use Rattle.preprocessor.specs.ComposeWords.{lookupsOf}
 use Rattle.lists.specs.Lists.{column, total}
 use borrow.Author.Needs.{needs}
 use lib.ListN.{length, take}
@@ -14,15 +15,15 @@ use Rattle.preprocessor_compose.proofs.count.lookups_nodes.Statement.{s
 use Rattle.preprocessor_compose.proofs.count.lookups_nodes.Tie as tie
 
 abbrev Inv-loop : tie.InvT-loop
-Inv-loop user roots widths pairs v sum₀ s₀ j₀ sum s j = (j ≤ v .lookups) × ((s ≡ total (take j widths)) × (sum ≡ min most (nodesIn (column (lookupTreeOf v (lookupsOf user widths pairs)) j))))
+Inv-loop user roots widths pairs v sum₀ s₀ j₀ sum s j = (j ≤ v .«num_lookups») × ((s ≡ total (take j widths)) × (sum ≡ min most (nodesIn (column (lookupTreeOf v (lookupsOf user widths pairs)) j))))
 
 abbrev μ-loop : tie.MeasureT-loop
-μ-loop user roots widths pairs v sum₀ s₀ j₀ sum s j = v .lookups - j
+μ-loop user roots widths pairs v sum₀ s₀ j₀ sum s j = v .«num_lookups» - j
 
 loop-holds : tie.Need-loop-holds Inv-loop μ-loop
 loop-holds c =
     let a = (c .before .before .before .before .args) in
-    (omega arith, (sym (runs.total-none (a .widths .now)), counts.count-none (lookupTreeOf (a .v) (lookupsOf (a .user .now) (a .widths .now) (a .pairs .now)))))
+    (omega arith, (sym (runs.total-none (a .widths .now)), counts.count-none (lookupTreeOf (a .params) (lookupsOf (a .user .now) (a .widths .now) (a .pairs .now)))))
 
 mul-index : tie.Need-mul-index Inv-loop μ-loop
 mul-index c = omega (arith, (c .before .before .before .before .before .before .before .pre .all-lookups))
@@ -37,14 +38,14 @@ mul-lookup-nodes : tie.Need-mul-lookup-nodes Inv-loop μ-loop
 mul-lookup-nodes c =
     let entry = c .before .before .before .before .before .before .before .before .before in
     let a = (entry .args) in
-    let q = handed.words-end (a .user .now) (a .widths .now) (a .pairs .now) (entry .pre .all-pairs) (c .before .before .before .before .loop .j) (omega (arith, (entry .pre .all-lookups))) in
+    let q = trees.words-end (a .user .now) (a .widths .now) (a .pairs .now) (entry .pre .all-pairs) (c .before .before .before .before .loop .j) (omega (arith, (entry .pre .all-lookups))) in
     omega (arith, (c .before .before .before .before .loop .inv .1 .0))
 
 lookup-nodes-requires : tie.Need-lookup-nodes-requires Inv-loop μ-loop
 lookup-nodes-requires c κs =
     let entry = c .before .before .before .before .before .before .before .before .before in
     let a = (entry .args) in
-    let q = handed.words-end (a .user .now) (a .widths .now) (a .pairs .now) (entry .pre .all-pairs) (c .before .before .before .before .loop .j) (omega (arith, (entry .pre .all-lookups))) in
+    let q = trees.words-end (a .user .now) (a .widths .now) (a .pairs .now) (entry .pre .all-pairs) (c .before .before .before .before .loop .j) (omega (arith, (entry .pre .all-lookups))) in
     ((entry .pre .pairs-named), omega (arith, (c .before .before .before .before .loop .inv .1 .0), (c .index .ensures)))
 
 plus-requires : tie.Need-plus-requires Inv-loop μ-loop
@@ -54,7 +55,7 @@ add-s : tie.Need-add-s Inv-loop μ-loop
 add-s c =
     let entry = c .before .before .before .before .before .before .before .before .before .before .before in
     let a = (entry .args) in
-    let q = handed.words-end (a .user .now) (a .widths .now) (a .pairs .now) (entry .pre .all-pairs) (c .before .before .before .before .before .before .loop .j) (omega (arith, (entry .pre .all-lookups))) in
+    let q = trees.words-end (a .user .now) (a .widths .now) (a .pairs .now) (entry .pre .all-pairs) (c .before .before .before .before .before .before .loop .j) (omega (arith, (entry .pre .all-lookups))) in
     omega (arith, (c .before .before .before .before .before .before .loop .inv .1 .0), (c .before .before .index .ensures))
 
 add-j : tie.Need-add-j Inv-loop μ-loop
@@ -67,16 +68,16 @@ loop-again : tie.Need-loop-again Inv-loop μ-loop
 loop-again c =
     let entry = c .before .before .before .before .before .before .before .before .before .before .before in
     let a = (entry .args) in
-    let f : ℕ → Expr = lookupTreeOf (a .v) (lookupsOf (a .user .now) (a .widths .now) (a .pairs .now)) in
+    let f : ℕ → Expr = lookupTreeOf (a .params) (lookupsOf (a .user .now) (a .widths .now) (a .pairs .now)) in
     let h : (c .before .before .before .before .before .before .loop .j) < length (a .widths .now) = omega (arith, (entry .pre .all-lookups)) in
-    let e = counts.lookup-is (a .v) (a .user .now) (a .widths .now) (a .pairs .now) (c .before .before .before .before .before .before .loop .j) (c .before .before .before .before .before .before .loop .s) (c .before .before .index .result) (c .before .lookup-nodes .result) (entry .pre .all-pairs) h (c .before .before .before .before .before .before .loop .inv .1 .0) (c .before .before .index .ensures) (c .before .lookup-nodes .ensures) in
+    let e = counts.lookup-is (a .params) (a .user .now) (a .widths .now) (a .pairs .now) (c .before .before .before .before .before .before .loop .j) (c .before .before .before .before .before .before .loop .s) (c .before .before .index .result) (c .before .lookup-nodes .result) (entry .pre .all-pairs) h (c .before .before .before .before .before .before .loop .inv .1 .0) (c .before .before .index .ensures) (c .before .lookup-nodes .ensures) in
     (omega arith, (runs.total-step (a .widths .now) (c .before .before .before .before .before .before .loop .j) (c .before .before .before .before .before .before .loop .s) (c .before .before .index .result) h (c .before .before .before .before .before .before .loop .inv .1 .0) (c .before .before .index .ensures), counts.count-more f (c .before .before .before .before .before .before .loop .j) (c .plus .result) (c .before .before .before .before .before .before .loop .sum) (c .before .lookup-nodes .result) (c .plus .ensures) (c .before .before .before .before .before .before .loop .inv .1 .1) e))
 
 returns : tie.Need-returns Inv-loop μ-loop
 returns c =
     let a = (c .before .before .before .before .before .before .before .args) in
-    let f : ℕ → Expr = lookupTreeOf (a .v) (lookupsOf (a .user .now) (a .widths .now) (a .pairs .now)) in
-    counts.count-all f (c .before .before .loop .sum) (c .before .before .loop .j) (a .v .lookups) (omega arith) (c .before .before .loop .inv .1 .1)
+    let f : ℕ → Expr = lookupTreeOf (a .params) (lookupsOf (a .user .now) (a .widths .now) (a .pairs .now)) in
+    counts.count-all f (c .before .before .loop .sum) (c .before .before .loop .j) (a .params .«num_lookups») (omega arith) (c .before .before .loop .inv .1 .1)
 
 pub lookups-nodes-spec : {M : Type 1} → statement M
 lookups-nodes-spec =

@@ -3,7 +3,7 @@ use Rattle.expression.specs.Expr.{Expr}
 use Rattle.expression.specs.Flat.{size}
 use Rattle.expression.specs.Nodes.{exprOf}
 use Rattle.preprocessor.proofs.Counts as counts
-use Rattle.preprocessor.proofs.Handed as handed
+use Rattle.preprocessor.proofs.ComposeWords as trees
 use Rattle.preprocessor.specs.Count.{nodesIn, most}
 use Rattle.lists.specs.Lists.{column}
 use borrow.Author.Needs.{needs}
@@ -51,7 +51,7 @@ size-of-requires : tie.Need-size-of-requires Inv-loop μ-loop
 size-of-requires c κs =
     let entry = c .before .before .before .before .before .before in
     let b = counts.root-below (entry .args .s) (entry .args .step) (entry .args .w) (length (entry .args .roots .now)) (c .before .before .before .loop .i) (entry .pre .1) (omega arith) in
-    handed.root-node (entry .args .user .now) (entry .args .roots .now) ((entry .args .s) + (c .before .before .before .loop .i) * (entry .args .step)) (c .index .result) (entry .pre .0) b (c .index .ensures)
+    trees.root-node (entry .args .user .now) (entry .args .roots .now) ((entry .args .s) + (c .before .before .before .loop .i) * (entry .args .step)) (c .index .result) (entry .pre .0) b (c .index .ensures)
 
 plus-requires : tie.Need-plus-requires Inv-loop μ-loop
 plus-requires c κs = search needs

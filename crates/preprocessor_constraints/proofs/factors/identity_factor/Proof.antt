@@ -1,7 +1,7 @@
 use Rattle.expression.proofs.Written as written
 use Rattle.expression.specs.Flat.{body}
 use Rattle.preprocessor.proofs.Parts as parts
-use Rattle.preprocessor.specs.Pieces.{identityTree}
+use Rattle.preprocessor.specs.Compose.{identityTree}
 use native.Mathlib.Omega.{arith}
 use borrow.Author.Needs.{needs}
 use Rattle.preprocessor_constraints.proofs.factors.identity_factor.Statement.{statement}
@@ -19,7 +19,7 @@ query-requires c κs = search needs
 mul-beta-label : tie.Need-mul-beta-label
 mul-beta-label c =
     let entry = c .before .before .before .before .before .before .before .before .before in
-    parts.label-fits ((entry .args .v)) ((entry .pre .0)) ((entry .args .i)) ((entry .pre .1 .0))
+    parts.label-fits ((entry .args .params)) ((entry .pre .0)) ((entry .args .i)) ((entry .pre .1 .0))
 
 beta-label-requires : tie.Need-beta-label-requires
 unfolding body

@@ -1,6 +1,6 @@
 use Rattle.expression.proofs.Written as written
 use Rattle.expression.specs.Flat.{body}
-use Rattle.preprocessor.specs.Pieces.{permutationTree}
+use Rattle.preprocessor.specs.Compose.{permutationTree}
 use native.Mathlib.Omega.{arith}
 use borrow.Author.Needs.{needs}
 use Rattle.preprocessor_constraints.proofs.factors.permutation_factor.Statement.{statement}

@@ -1,9 +1,9 @@
 use Prim.Native.Nat.{ℕ, _+_, _*_, _-_, _<_}
 use Rattle.expression.specs.Flat.{body}
 use Rattle.expression.specs.Nodes.{exprOf}
-use Rattle.preprocessor.proofs.Handed as handed
+use Rattle.preprocessor.proofs.ComposeWords as trees
 use Rattle.preprocessor.proofs.Lists as lists
-use Rattle.preprocessor.specs.Pieces.{sideExprs}
+use Rattle.preprocessor.specs.ComposeWords.{sideExprs}
 use borrow.Author.Needs.{needs}
 use native.Mathlib.Omega.{arith}
 use borrow.Fn.Kinds.{In}
@@ -52,12 +52,12 @@ side-items-copy-expr-requires t c κs =
     let entry = c .before .before .before .before .before .before in
     let a = (entry .args) in
     let es = sideExprs (a .user .now) (a .pairs .now) (a .s) (a .w) in
-    let long = handed.side-length (a .user .now) (a .pairs .now) (a .s) (a .w) in
+    let long = trees.side-length (a .user .now) (a .pairs .now) (a .s) (a .w) in
     let n = (c .before .index .result) in
-    let same = handed.side-nth (a .user .now) (a .pairs .now) (a .s) (a .w) (a .i) n (entry .pre .1 .1 .1 .0) (c .before .index .ensures) in
+    let same = trees.side-nth (a .user .now) (a .pairs .now) (a .s) (a .w) (a .i) n (entry .pre .1 .1 .1 .0) (c .before .index .ensures) in
     let e = exprOf (a .user .now) n in
     let r = lists.first-room es (a .w) long (a .i) e same in
-    (handed.root-node (a .user .now) (a .pairs .now) (a .s + a .i * 2) n (entry .pre .1 .0) (omega (arith, (entry .pre .1 .1))) (c .before .index .ensures), omega (arith, (entry .pre .1 .1 .1 .1)))
+    (trees.root-node (a .user .now) (a .pairs .now) (a .s + a .i * 2) n (entry .pre .1 .0) (omega (arith, (entry .pre .1 .1))) (c .before .index .ensures), omega (arith, (entry .pre .1 .1 .1 .1)))
 
 side-items-add-if1 : (t : ℕ) → side-items-lts.Need-add-if1 (side-items-claims t) (side-items-at t) side-items.Post
 side-items-add-if1 t c = omega (arith, (c .before .before .before .before .before .before .before .before .before .pre .1 .1 .1 .0))
@@ -70,9 +70,9 @@ side-items-side-items-requires t c κs =
     let entry = c .before .before .before .before .before .before .before .before .before .before .before in
     let a = (entry .args) in
     let es = sideExprs (a .user .now) (a .pairs .now) (a .s) (a .w) in
-    let long = handed.side-length (a .user .now) (a .pairs .now) (a .s) (a .w) in
+    let long = trees.side-length (a .user .now) (a .pairs .now) (a .s) (a .w) in
     let n = (c .before .before .before .before .before .before .index .result) in
-    let same = handed.side-nth (a .user .now) (a .pairs .now) (a .s) (a .w) (a .i) n (entry .pre .1 .1 .1 .0) (c .before .before .before .before .before .before .index .ensures) in
+    let same = trees.side-nth (a .user .now) (a .pairs .now) (a .s) (a .w) (a .i) n (entry .pre .1 .1 .1 .0) (c .before .before .before .before .before .before .index .ensures) in
     let e = exprOf (a .user .now) n in
     let q = lists.more-sizes es (a .w) long (a .i) e same (c .before .if1 .taken) in
     let x = (c .before .before .before .before .copy-expr .ensures .number) in
@@ -84,9 +84,9 @@ side-items-item-requires t c κs =
     let entry = c .before .before .before .before .before .before .before .before .before .before .before .before .before .before .before in
     let a = (entry .args) in
     let es = sideExprs (a .user .now) (a .pairs .now) (a .s) (a .w) in
-    let long = handed.side-length (a .user .now) (a .pairs .now) (a .s) (a .w) in
+    let long = trees.side-length (a .user .now) (a .pairs .now) (a .s) (a .w) in
     let n = (c .before .before .before .before .before .before .before .before .before .before .index .result) in
-    let same = handed.side-nth (a .user .now) (a .pairs .now) (a .s) (a .w) (a .i) n (entry .pre .1 .1 .1 .0) (c .before .before .before .before .before .before .before .before .before .before .index .ensures) in
+    let same = trees.side-nth (a .user .now) (a .pairs .now) (a .s) (a .w) (a .i) n (entry .pre .1 .1 .1 .0) (c .before .before .before .before .before .before .before .before .before .before .index .ensures) in
     let e = exprOf (a .user .now) n in
     let q = lists.more-sizes es (a .w) long (a .i) e same (c .before .before .before .before .before .if1 .taken) in
     let x = (c .before .before .before .before .before .before .before .before .copy-expr .ensures .number) in
@@ -101,9 +101,9 @@ side-items-returns t c =
     let entry = c .before .before .before .before .before .before .before .before .before .before .before .before .before .before .before .before .before .before in
     let a = (entry .args) in
     let es = sideExprs (a .user .now) (a .pairs .now) (a .s) (a .w) in
-    let long = handed.side-length (a .user .now) (a .pairs .now) (a .s) (a .w) in
+    let long = trees.side-length (a .user .now) (a .pairs .now) (a .s) (a .w) in
     let n = (c .before .before .before .before .before .before .before .before .before .before .before .before .before .index .result) in
-    let same = handed.side-nth (a .user .now) (a .pairs .now) (a .s) (a .w) (a .i) n (entry .pre .1 .1 .1 .0) (c .before .before .before .before .before .before .before .before .before .before .before .before .before .index .ensures) in
+    let same = trees.side-nth (a .user .now) (a .pairs .now) (a .s) (a .w) (a .i) n (entry .pre .1 .1 .1 .0) (c .before .before .before .before .before .before .before .before .before .before .before .before .before .index .ensures) in
     let e = exprOf (a .user .now) n in
     lists.more-from es (a .w) long (a .i) e same (c .before .before .before .before .before .before .before .before .if1 .taken) (c .before .before .before .before .before .before .before .before .before .before .before .copy-expr .ensures) (c .before .before .before .before .before .before .side-items .ensures) (c .before .before .item .ensures)
 
@@ -112,9 +112,9 @@ side-items-list-end-requires t c κs =
     let entry = c .before .before .before .before .before .before .before .before .before .before .before in
     let a = (entry .args) in
     let es = sideExprs (a .user .now) (a .pairs .now) (a .s) (a .w) in
-    let long = handed.side-length (a .user .now) (a .pairs .now) (a .s) (a .w) in
+    let long = trees.side-length (a .user .now) (a .pairs .now) (a .s) (a .w) in
     let n = (c .before .before .before .before .before .before .index .result) in
-    let same = handed.side-nth (a .user .now) (a .pairs .now) (a .s) (a .w) (a .i) n (entry .pre .1 .1 .1 .0) (c .before .before .before .before .before .before .index .ensures) in
+    let same = trees.side-nth (a .user .now) (a .pairs .now) (a .s) (a .w) (a .i) n (entry .pre .1 .1 .1 .0) (c .before .before .before .before .before .before .index .ensures) in
     let e = exprOf (a .user .now) n in
     let r = lists.first-room es (a .w) long (a .i) e same in
     let x = (c .before .before .before .before .copy-expr .ensures .number) in
@@ -128,9 +128,9 @@ side-items-returns-2 t c =
     let entry = c .before .before .before .before .before .before .before .before .before .before .before .before .before .before in
     let a = (entry .args) in
     let es = sideExprs (a .user .now) (a .pairs .now) (a .s) (a .w) in
-    let long = handed.side-length (a .user .now) (a .pairs .now) (a .s) (a .w) in
+    let long = trees.side-length (a .user .now) (a .pairs .now) (a .s) (a .w) in
     let n = (c .before .before .before .before .before .before .before .before .before .index .result) in
-    let same = handed.side-nth (a .user .now) (a .pairs .now) (a .s) (a .w) (a .i) n (entry .pre .1 .1 .1 .0) (c .before .before .before .before .before .before .before .before .before .index .ensures) in
+    let same = trees.side-nth (a .user .now) (a .pairs .now) (a .s) (a .w) (a .i) n (entry .pre .1 .1 .1 .0) (c .before .before .before .before .before .before .before .before .before .index .ensures) in
     let e = exprOf (a .user .now) n in
     lists.end-from es (a .w) long (a .i) e same (c .before .before .before .before .if1 .left) (c .before .before .before .before .before .before .before .copy-expr .ensures) (c .before .before .list-end .ensures)
 

@@ -1,7 +1,7 @@
 use Rattle.expression.proofs.Written as written
 use Rattle.expression.specs.Flat.{body}
-use Rattle.preprocessor.proofs.Handed as handed
-use Rattle.preprocessor.specs.Pieces.{sideTree}
+use Rattle.preprocessor.proofs.ComposeWords as trees
+use Rattle.preprocessor.specs.ComposeWords.{sideTree}
 use native.Mathlib.Omega.{arith}
 use borrow.Author.Needs.{needs}
 use Rattle.preprocessor_constraints.proofs.lookup.side.Statement.{statement}
@@ -11,7 +11,7 @@ side-powers-requires : tie.Need-side-powers-requires
 side-powers-requires c κs =
     let entry = c .before .before .before .before in
     let a = (entry .args) in
-    let q = handed.side-size (a .user .now) (a .pairs .now) (a .beta) (a .s) (a .w) in
+    let q = trees.side-size (a .user .now) (a .pairs .now) (a .beta) (a .s) (a .w) in
     ((entry .pre .0), ((entry .pre .1 .0), omega (arith, (entry .pre .1 .1 .1))))
 
 add-challenge : tie.Need-add-challenge
@@ -21,7 +21,7 @@ challenge-requires : tie.Need-challenge-requires
 challenge-requires c κs =
     let entry = c .before .before .before .before .before .before .before .before in
     let a = (entry .args) in
-    let q = handed.side-size (a .user .now) (a .pairs .now) (a .beta) (a .s) (a .w) in
+    let q = trees.side-size (a .user .now) (a .pairs .now) (a .beta) (a .s) (a .w) in
     let x = (c .before .before .before .side-powers .ensures .number) in
     omega (arith, (entry .pre .1 .1 .1))
 
@@ -30,7 +30,7 @@ unfolding body
 sum-requires c κs =
     let entry = c .before .before .before .before .before .before .before .before .before .before .before .before in
     let a = (entry .args) in
-    let q = handed.side-size (a .user .now) (a .pairs .now) (a .beta) (a .s) (a .w) in
+    let q = trees.side-size (a .user .now) (a .pairs .now) (a .beta) (a .s) (a .w) in
     let x = (c .before .before .before .before .before .before .before .side-powers .ensures .number) in
     omega (arith, (entry .pre .1 .1 .1), (c .before .before .before .challenge .ensures .number))
 

@@ -31,7 +31,7 @@ same-length c = search needs
 returns : tie.Need-returns
 returns c =
     let entry = c .before .before .before .before .before .before .before .before .before in
-    parts.next-written (entry .args .v) (entry .args .i) _ (omega arith) (omega (arith, (c .before .before .before .before .if1 .taken))) (c .before .before .query .ensures)
+    parts.next-written (entry .args .params) (entry .args .i) _ (omega arith) (omega (arith, (c .before .before .before .before .if1 .taken))) (c .before .before .query .ensures)
 
 push-requires : tie.Need-push-requires
 push-requires c κs = search needs
@@ -42,7 +42,7 @@ same-length-2 c = search needs
 returns-2 : tie.Need-returns-2
 returns-2 c =
     let entry = c .before .before .before .before .before .before .before .before .before in
-    parts.around-written (entry .args .v) (entry .args .i) _ (omega arith) (omega (arith, (c .before .before .before .before .if1 .left))) (c .before .before .push .ensures)
+    parts.around-written (entry .args .params) (entry .args .i) _ (omega arith) (omega (arith, (c .before .before .before .before .if1 .left))) (c .before .before .push .ensures)
 
 pub next-z-spec : {M : Type 1} → statement M
 next-z-spec =

@@ -13,14 +13,14 @@ mul-first c = search needs
 z-identities-requires : tie.Need-z-identities-requires
 z-identities-requires c κs =
     let entry = c .before .before .before .before .before in
-    let f = parts.parts-few (entry .args .v) (entry .pre .0) in
+    let f = parts.parts-few (entry .args .params) (entry .pre .0) in
     let n = (c .before .before .part-count .ensures .0) in
     ((entry .pre .0), (omega (arith, (entry .pre)), ((c .before .before .part-count .ensures .1 .0), ((c .before .before .part-count .ensures .1 .1), ((entry .pre .1 .1 .0), omega (arith, (entry .pre .1 .1 .1)))))))
 
 z-permutations-requires : tie.Need-z-permutations-requires
 z-permutations-requires c κs =
     let entry = c .before .before .before .before .before .before .before .before .before in
-    let f = parts.parts-few (entry .args .v) (entry .pre .0) in
+    let f = parts.parts-few (entry .args .params) (entry .pre .0) in
     let n = (c .before .before .before .before .before .before .part-count .ensures .0) in
     ((entry .pre .0), (omega (arith, (entry .pre .0), (entry .pre .1 .0)), ((c .before .before .before .before .before .before .part-count .ensures .1 .0), ((c .before .before .before .before .before .before .part-count .ensures .1 .1), ((entry .pre .1 .1 .0), omega (arith, (entry .pre .1 .1 .1), (c .before .before .before .z-identities .ensures .0)))))))
 
@@ -36,7 +36,7 @@ same-length c = search needs
 returns : tie.Need-returns
 returns c =
     let entry = c .before .before .before .before .before .before .before .before .before .before .before .before .before .before .before .before .before .before .before .before in
-    parts.part-written (entry .args .v) (entry .pre .0) (entry .args .i) (entry .pre .1 .0) (entry .args .copied .now) (c .before .before .before .before .before .before .before .before .before .before .before .before .before .before .before .before .before .part-count .result) (c .before .before .before .before .before .before .before .before .before .before .before .before .before .before .before .before .before .part-count .ensures .0) (c .before .before .before .before .before .before .before .before .before .before .before .before .before .before .z-identities .ensures .1) (c .before .before .before .before .before .before .before .before .before .before .z-permutations .ensures .1) (c .before .before .before .before .before .before .negated .ensures) (c .before .before .sum .ensures)
+    parts.part-written (entry .args .params) (entry .pre .0) (entry .args .i) (entry .pre .1 .0) (entry .args .copied .now) (c .before .before .before .before .before .before .before .before .before .before .before .before .before .before .before .before .before .part-count .result) (c .before .before .before .before .before .before .before .before .before .before .before .before .before .before .before .before .before .part-count .ensures .0) (c .before .before .before .before .before .before .before .before .before .before .before .before .before .before .z-identities .ensures .1) (c .before .before .before .before .before .before .before .before .before .before .z-permutations .ensures .1) (c .before .before .before .before .before .before .negated .ensures) (c .before .before .sum .ensures)
 
 pub part-constraint-spec : {M : Type 1} → statement M
 part-constraint-spec =

@@ -40,7 +40,7 @@ same-length : tie.Need-same-length
 same-length c = search needs
 
 returns : tie.Need-returns
-returns c = parts.start-written (c .before .before .before .before .before .before .before .before .before .before .before .before .before .before .before .before .before .before .before .before .before .before .before .before .before .before .before .args .v) _ (omega arith) (c .before .before .before .before .before .before .before .before .before .before .before .before .before .before .before .before .before .before .before .before .before .before .before .before .push .ensures) (c .before .before .before .before .before .before .before .before .before .before .before .before .before .before .before .before .before .before .query .ensures) (c .before .before .before .before .before .before .before .before .before .before .before .before .before .before .push2 .ensures) (c .before .before .before .before .before .before .before .before .before .before .negated .ensures) (c .before .before .before .before .before .before .sum .ensures) (c .before .before .product .ensures)
+returns c = parts.start-written (c .before .before .before .before .before .before .before .before .before .before .before .before .before .before .before .before .before .before .before .before .before .before .before .before .before .before .before .args .params) _ (omega arith) (c .before .before .before .before .before .before .before .before .before .before .before .before .before .before .before .before .before .before .before .before .before .before .before .before .push .ensures) (c .before .before .before .before .before .before .before .before .before .before .before .before .before .before .before .before .before .before .query .ensures) (c .before .before .before .before .before .before .before .before .before .before .before .before .before .before .push2 .ensures) (c .before .before .before .before .before .before .before .before .before .before .negated .ensures) (c .before .before .before .before .before .before .sum .ensures) (c .before .before .product .ensures)
 
 pub start-constraint-spec : {M : Type 1} → statement M
 start-constraint-spec =

@@ -11,12 +11,12 @@ next-z-requires c κs = search needs
 permutation-product-requires : tie.Need-permutation-product-requires
 permutation-product-requires c κs =
     let entry = c .before .before .before .before .before .before .before in
-    ((entry .pre .0), ((entry .pre .1 .1 .0), ((entry .pre .1 .1 .1 .0), ((entry .pre .1 .1 .1 .1 .0), omega (arith, (entry .pre .1 .1 .1 .1 .1), (c .before .before .before .next-z .ensures .number), parts.next-size (entry .args .v) (entry .args .i))))))
+    ((entry .pre .0), ((entry .pre .1 .1 .0), ((entry .pre .1 .1 .1 .0), ((entry .pre .1 .1 .1 .1 .0), omega (arith, (entry .pre .1 .1 .1 .1 .1), (c .before .before .before .next-z .ensures .number), parts.next-size (entry .args .params) (entry .args .i))))))
 
 product-requires : tie.Need-product-requires
 product-requires c κs =
     let entry = c .before .before .before .before .before .before .before .before .before .before .before in
-    omega (arith, (entry .pre .1 .1 .1 .1 .1), (c .before .before .before .before .before .before .before .next-z .ensures .number), (c .before .before .before .permutation-product .ensures .0), parts.next-size (entry .args .v) (entry .args .i))
+    omega (arith, (entry .pre .1 .1 .1 .1 .1), (c .before .before .before .before .before .before .before .next-z .ensures .number), (c .before .before .before .permutation-product .ensures .0), parts.next-size (entry .args .params) (entry .args .i))
 
 same-length : tie.Need-same-length
 same-length c = search needs
@@ -24,7 +24,7 @@ same-length c = search needs
 returns : tie.Need-returns
 returns c =
     let entry = c .before .before .before .before .before .before .before .before .before .before .before .before .before .before in
-    (omega (arith, (c .before .before .product .ensures .number), (c .before .before .before .before .before .before .permutation-product .ensures .0), (c .before .before .before .before .before .before .before .before .before .before .next-z .ensures .number), parts.next-size (entry .args .v) (entry .args .i)), written.written-product (c .before .before .before .before .before .before .before .before .before .before .next-z .ensures) (c .before .before .before .before .before .before .permutation-product .ensures .1) (c .before .before .product .ensures))
+    (omega (arith, (c .before .before .product .ensures .number), (c .before .before .before .before .before .before .permutation-product .ensures .0), (c .before .before .before .before .before .before .before .before .before .before .next-z .ensures .number), parts.next-size (entry .args .params) (entry .args .i)), written.written-product (c .before .before .before .before .before .before .before .before .before .before .next-z .ensures) (c .before .before .before .before .before .before .permutation-product .ensures .1) (c .before .before .product .ensures))
 
 pub z-permutations-spec : {M : Type 1} → statement M
 z-permutations-spec =

@@ -2,10 +2,10 @@ use native.Mathlib.Omega.{arith}
 use Rattle.hyperplonk_prepare.proofs.Accepted.{laid-counted, laid-of, two-degree, degree-most, few-copied}
 use Rattle.hyperplonk_prepare.proofs.Computed.{lookups-are, numbers-from}
 use borrow.Author.Needs.{needs}
-use Rattle.hyperplonk_prepare.proofs.numbers.Statement.{statement}
-use Rattle.hyperplonk_prepare.proofs.numbers.Tie as tie
-use Rattle.hyperplonk_prepare.proofs.numbers.Reads as reads
-use Rattle.hyperplonk_prepare.proofs.numbers.Lts as lts
+use Rattle.hyperplonk_prepare.proofs.circuit_params.Statement.{statement}
+use Rattle.hyperplonk_prepare.proofs.circuit_params.Tie as tie
+use Rattle.hyperplonk_prepare.proofs.circuit_params.Reads as reads
+use Rattle.hyperplonk_prepare.proofs.circuit_params.Lts as lts
 use Rattle.backend_sections.proofs.bodies.num_poly.Reads as num-poly-reads
 use Rattle.backend_sections.proofs.bodies.num_user.Reads as num-user-reads
 use Rattle.backend_sections.proofs.bodies.rows.Reads as rows-reads
@@ -51,8 +51,8 @@ div-parts c = omega (arith, two-degree (c .before .before .before .before .befor
 returns : tie.Need-returns
 returns c = numbers-from (c .before .before .before .before .before .before .args .circuit .now) (c .before .before .before .before .before .before .pre .0) _ _ _ _ _ _ (c .before .before .before .before .num-poly .ensures) (c .before .before .before .before .before .before .pre .1) (lookups-are (c .before .before .before .before .before .before .args .circuit .now) (c .before .before .before .before .before .before .pre .0)) (c .before .before .before .num-user .ensures) (c .before .before .rows .ensures) (c .degree-of .ensures)
 
-pub numbers-spec : {M : Type 1} → statement M
-numbers-spec =
+pub circuit-params-spec : {M : Type 1} → statement M
+circuit-params-spec =
     tie.close
     (tie.spec
     num-poly-requires

@@ -21,26 +21,9 @@ use Rattle.expression.specs.Flat.{body, size}
 use Rattle.expression.specs.Written.{Pushed, Written}
 use Rattle.backend.specs.Circuit.{Pair, pairAt}
 use Rattle.backend.specs.Constraints.{inputsOf, tablesOf, lookupTree}
-use Rattle.preprocessor.specs.Pieces.{
-  Limits,
-  Handed,
-  IsNode,
-  mAt,
-  hAt,
-  startTree,
-  partTree,
-  lookupsOf,
-  lookupTreeOf,
-  sideExprs,
-  sideTree,
-  constraintTrees,
-  handedTrees,
-  zeroTree,
-  outerTrees,
-  composeTree,
-  numConstraints,
-}
-use Rattle.preprocessor.specs.declared.Numbers.{Numbers}
+use Rattle.preprocessor.specs.Compose.{numberOfM, numberOfH, startTree, partTree, lookupTreeOf, permutationTrees, constraintTrees, zeroTree, outerTrees, composeTree}
+use Rattle.preprocessor.specs.ComposeWords.{Limits, ComposeInput, IsNode, lookupsOf, sideExprs, sideTree, constraintsFromWords, numConstraints}
+use Rattle.preprocessor.specs.declared.CircuitParams.{CircuitParams}
 use Rattle.preprocessor.proofs.Lists.{nth}
 
 -- ---- a lookup's pairs
@@ -80,17 +63,17 @@ module _ (nodes widths pairs : List ℕ) (enough : total widths * 2 ≤ length p
       ∙ column-cong (λ i. exprOf nodes (getD pairs ((before + i) * 2 + 1) 0)) (λ i. exprOf nodes (getD pairs (before * 2 + 1 + i * 2) 0)) width
       (λ i l. ap (λ (n : ℕ). exprOf nodes (getD pairs n 0)) (omega arith))
 
-  pub lookup-tree : (v : Numbers)
+  pub lookup-tree : (v : CircuitParams)
       → lookupTreeOf v (lookupsOf nodes widths pairs) j
-      ≡ lookupTree (at (mAt v j)) (at (hAt v j)) (sideTree nodes pairs (v .user) (before * 2) width)
-      (sideTree nodes pairs (v .user) (before * 2 + 1) width)
+      ≡ lookupTree (at (numberOfM v j)) (at (numberOfH v j)) (sideTree nodes pairs (v .«num_challenges») (before * 2) width)
+      (sideTree nodes pairs (v .«num_challenges») (before * 2 + 1) width)
   unfolding lookupTreeOf sideTree
   lookup-tree v =
       ap₂
       (λ (a b : List Expr).
-      lookupTree (at (mAt v j)) (at (hAt v j))
-      (Expr.sum (distributePowers a (Expr.challenge (v .user))) (Expr.challenge (v .user + 1)))
-      (Expr.sum (distributePowers b (Expr.challenge (v .user))) (Expr.challenge (v .user + 1))))
+      lookupTree (at (numberOfM v j)) (at (numberOfH v j))
+      (Expr.sum (distributePowers a (Expr.challenge (v .«num_challenges»))) (Expr.challenge (v .«num_challenges» + 1)))
+      (Expr.sum (distributePowers b (Expr.challenge (v .«num_challenges»))) (Expr.challenge (v .«num_challenges» + 1))))
       inputs-are
       tables-are
 
@@ -115,20 +98,20 @@ unfolding body
 lookup-size m h a b = omega arith
 
 -- ---- how many constraints
-pub num-none : (own : ℕ) (v : Numbers) → v .copied ≡ 0 → numConstraints own v ≡ own + v .lookups
+pub num-none : (own : ℕ) (v : CircuitParams) → v .«num_permutation_polys» ≡ 0 → numConstraints own v ≡ own + v .«num_lookups»
 unfolding numConstraints
 num-none own v h =
-    ap (λ (t : Bool). own + v .lookups + cond t 0 (suc (v .parts))) (eq-eqb (v .copied) 0 h) ∙ add-zero (own + v .lookups)
+    ap (λ (t : Bool). own + v .«num_lookups» + cond t 0 (suc (v .«num_chunks»))) (eq-eqb (v .«num_permutation_polys») 0 h) ∙ add-zero (own + v .«num_lookups»)
 
-pub num-some : (own : ℕ) (v : Numbers) → (v .copied ≡ 0 → ⊥) → numConstraints own v ≡ own + v .lookups + (1 + v .parts)
+pub num-some : (own : ℕ) (v : CircuitParams) → (v .«num_permutation_polys» ≡ 0 → ⊥) → numConstraints own v ≡ own + v .«num_lookups» + (1 + v .«num_chunks»)
 unfolding numConstraints
 num-some own v h =
-    ap (λ (t : Bool). own + v .lookups + cond t 0 (suc (v .parts))) (ne-eqb (v .copied) 0 h) ∙ omega arith
+    ap (λ (t : Bool). own + v .«num_lookups» + cond t 0 (suc (v .«num_chunks»))) (ne-eqb (v .«num_permutation_polys») 0 h) ∙ omega arith
 
 -- ---- the constraints by their numbers
-module _ (v : Numbers) (names nodes roots widths pairs : List ℕ) where
+module _ (v : CircuitParams) (names nodes roots widths pairs : List ℕ) where
   abbrev es : List Expr
-  es = handedTrees v names nodes roots widths pairs
+  es = constraintsFromWords v names nodes roots widths pairs
 
   abbrev user : List Expr
   user = map (exprOf nodes) roots
@@ -137,105 +120,105 @@ module _ (v : Numbers) (names nodes roots widths pairs : List ℕ) where
   lookup = lookupTreeOf v (lookupsOf nodes widths pairs)
 
   abbrev some : List Expr
-  some = startTree v ∷ column (partTree v names) (v .parts)
+  some = startTree v ∷ column (partTree v names) (v .«num_chunks»)
 
-  some-length : (t : Bool) → length (cond t [] some) ≡ cond t 0 (suc (v .parts))
+  some-length : (t : Bool) → length (cond t [] some) ≡ cond t 0 (suc (v .«num_chunks»))
   some-length true = refl
-  some-length false = ap suc (column-length (partTree v names) (v .parts))
+  some-length false = ap suc (column-length (partTree v names) (v .«num_chunks»))
 
-  pub handed-length : length es ≡ numConstraints (length roots) v
-  unfolding constraintTrees numConstraints
-  handed-length =
-      length-append user (column lookup (v .lookups) ++ cond (eqb (v .copied) 0) [] some)
+  pub constraints-length : length es ≡ numConstraints (length roots) v
+  unfolding constraintTrees permutationTrees numConstraints
+  constraints-length =
+      length-append user (column lookup (v .«num_lookups») ++ cond (eqb (v .«num_permutation_polys») 0) [] some)
       ∙ ap₂ _+_ (length-map roots (exprOf nodes))
-      (length-append (column lookup (v .lookups)) (cond (eqb (v .copied) 0) [] some)
-      ∙ ap₂ _+_ (column-length lookup (v .lookups)) (some-length (eqb (v .copied) 0)))
+      (length-append (column lookup (v .«num_lookups»)) (cond (eqb (v .«num_permutation_polys») 0) [] some)
+      ∙ ap₂ _+_ (column-length lookup (v .«num_lookups»)) (some-length (eqb (v .«num_permutation_polys») 0)))
       ∙ omega arith
 
   pub own-nth : (i n : ℕ) → i < length roots → n ≡ getD roots i 0 → nth es i ≡ exprOf nodes n
-  unfolding constraintTrees
+  unfolding constraintTrees permutationTrees
   own-nth i n h e =
-      get-left user (column lookup (v .lookups) ++ cond (eqb (v .copied) 0) [] some) i (Expr.constant 0)
+      get-left user (column lookup (v .«num_lookups») ++ cond (eqb (v .«num_permutation_polys») 0) [] some) i (Expr.constant 0)
       (let e = length-map roots (exprOf nodes) in omega arith)
       ∙ get-map (exprOf nodes) roots i 0 (Expr.constant 0) h
       ∙ ap (exprOf nodes) (sym e)
 
   past-own : (i k : ℕ) → i ≡ length roots + k
-      → nth es i ≡ nth (column lookup (v .lookups) ++ cond (eqb (v .copied) 0) [] some) k
-  unfolding constraintTrees
+      → nth es i ≡ nth (column lookup (v .«num_lookups») ++ cond (eqb (v .«num_permutation_polys») 0) [] some) k
+  unfolding constraintTrees permutationTrees
   past-own i k e =
-      get-past user (column lookup (v .lookups) ++ cond (eqb (v .copied) 0) [] some) i k (Expr.constant 0)
+      get-past user (column lookup (v .«num_lookups») ++ cond (eqb (v .«num_permutation_polys») 0) [] some) i k (Expr.constant 0)
       (e ∙ ap (λ (n : ℕ). n + k) (sym (length-map roots (exprOf nodes))))
 
-  pub lookup-nth : (i j s w : ℕ) → i ≡ length roots + j → j < v .lookups → v .lookups ≡ length widths
+  pub lookup-nth : (i j s w : ℕ) → i ≡ length roots + j → j < v .«num_lookups» → v .«num_lookups» ≡ length widths
       → total widths * 2 ≤ length pairs
       → s ≡ total (take j widths)
       → w ≡ getD widths j 0
       → nth es i
-      ≡ lookupTree (at (mAt v j)) (at (hAt v j)) (sideTree nodes pairs (v .user) (s * 2) w)
-      (sideTree nodes pairs (v .user) (s * 2 + 1) w)
+      ≡ lookupTree (at (numberOfM v j)) (at (numberOfH v j)) (sideTree nodes pairs (v .«num_challenges») (s * 2) w)
+      (sideTree nodes pairs (v .«num_challenges») (s * 2 + 1) w)
   lookup-nth i j s w e h all enough es ew =
       past-own i j e
-      ∙ get-left (column lookup (v .lookups)) (cond (eqb (v .copied) 0) [] some) j (Expr.constant 0)
-      (let l = column-length lookup (v .lookups) in omega arith)
-      ∙ get-column lookup (v .lookups) j (Expr.constant 0) h
+      ∙ get-left (column lookup (v .«num_lookups»)) (cond (eqb (v .«num_permutation_polys») 0) [] some) j (Expr.constant 0)
+      (let l = column-length lookup (v .«num_lookups») in omega arith)
+      ∙ get-column lookup (v .«num_lookups») j (Expr.constant 0) h
       ∙ lookup-tree nodes widths pairs enough j (omega arith) v
       ∙ ap₂
       (λ (s w : ℕ).
-      lookupTree (at (mAt v j)) (at (hAt v j)) (sideTree nodes pairs (v .user) (s * 2) w)
-      (sideTree nodes pairs (v .user) (s * 2 + 1) w))
+      lookupTree (at (numberOfM v j)) (at (numberOfH v j)) (sideTree nodes pairs (v .«num_challenges») (s * 2) w)
+      (sideTree nodes pairs (v .«num_challenges») (s * 2 + 1) w))
       (sym es)
       (sym ew)
 
-  some-at : (t : Bool) (p : ℕ) → p < cond t 0 (suc (v .parts)) → nth (cond t [] some) p ≡ nth some p
+  some-at : (t : Bool) (p : ℕ) → p < cond t 0 (suc (v .«num_chunks»)) → nth (cond t [] some) p ≡ nth some p
   some-at true p h = absurd (omega arith)
   some-at false p h = refl
 
-  past-lookups : (i p : ℕ) → i ≡ length roots + (v .lookups + p) → i < numConstraints (length roots) v → nth es i ≡ nth some p
+  past-lookups : (i p : ℕ) → i ≡ length roots + (v .«num_lookups» + p) → i < numConstraints (length roots) v → nth es i ≡ nth some p
   unfolding numConstraints
   past-lookups i p e h =
-      past-own i (v .lookups + p) e
-      ∙ get-past (column lookup (v .lookups)) (cond (eqb (v .copied) 0) [] some) (v .lookups + p) p (Expr.constant 0)
-      (ap (λ (n : ℕ). n + p) (sym (column-length lookup (v .lookups))))
-      ∙ some-at (eqb (v .copied) 0) p (omega arith)
+      past-own i (v .«num_lookups» + p) e
+      ∙ get-past (column lookup (v .«num_lookups»)) (cond (eqb (v .«num_permutation_polys») 0) [] some) (v .«num_lookups» + p) p (Expr.constant 0)
+      (ap (λ (n : ℕ). n + p) (sym (column-length lookup (v .«num_lookups»))))
+      ∙ some-at (eqb (v .«num_permutation_polys») 0) p (omega arith)
 
-  pub start-nth : (i : ℕ) → i ≡ length roots + v .lookups → i < numConstraints (length roots) v → nth es i ≡ startTree v
-  start-nth i e h = past-lookups i 0 (e ∙ ap (λ (n : ℕ). length roots + n) (sym (add-zero (v .lookups)))) h
+  pub start-nth : (i : ℕ) → i ≡ length roots + v .«num_lookups» → i < numConstraints (length roots) v → nth es i ≡ startTree v
+  start-nth i e h = past-lookups i 0 (e ∙ ap (λ (n : ℕ). length roots + n) (sym (add-zero (v .«num_lookups»)))) h
 
-  few : (t : Bool) (p : ℕ) → suc p < cond t 0 (suc (v .parts)) → p < v .parts
+  few : (t : Bool) (p : ℕ) → suc p < cond t 0 (suc (v .«num_chunks»)) → p < v .«num_chunks»
   few true p h = absurd (omega arith)
   few false p h = omega arith
 
-  pub part-below : (i p : ℕ) → i ≡ length roots + (v .lookups + suc p) → i < numConstraints (length roots) v → p < v .parts
+  pub part-below : (i p : ℕ) → i ≡ length roots + (v .«num_lookups» + suc p) → i < numConstraints (length roots) v → p < v .«num_chunks»
   unfolding numConstraints
-  part-below i p e h = few (eqb (v .copied) 0) p (omega arith)
+  part-below i p e h = few (eqb (v .«num_permutation_polys») 0) p (omega arith)
 
-  pub part-nth : (i p : ℕ) → i ≡ length roots + (v .lookups + suc p) → i < numConstraints (length roots) v
+  pub part-nth : (i p : ℕ) → i ≡ length roots + (v .«num_lookups» + suc p) → i < numConstraints (length roots) v
       → nth es i ≡ partTree v names p
   part-nth i p e h =
-      past-lookups i (suc p) e h ∙ get-column (partTree v names) (v .parts) p (Expr.constant 0) (part-below i p e h)
+      past-lookups i (suc p) e h ∙ get-column (partTree v names) (v .«num_chunks») p (Expr.constant 0) (part-below i p e h)
 
 -- ---- the h queries and the zero check
-module _ (v : Numbers) (es : List Expr) where
-  pub outer-length : length (outerTrees v es) ≡ suc (v .lookups)
+module _ (v : CircuitParams) (es : List Expr) where
+  pub outer-length : length (outerTrees v es) ≡ suc (v .«num_lookups»)
   unfolding outerTrees
   outer-length =
-      length-append (column (λ j. at (hAt v j)) (v .lookups)) (zeroTree v es ∷ [])
-      ∙ ap (λ (n : ℕ). n + 1) (column-length (λ j. at (hAt v j)) (v .lookups))
+      length-append (column (λ j. at (numberOfH v j)) (v .«num_lookups»)) (zeroTree v es ∷ [])
+      ∙ ap (λ (n : ℕ). n + 1) (column-length (λ j. at (numberOfH v j)) (v .«num_lookups»))
       ∙ omega arith
 
-  pub query-nth : (i : ℕ) → i < v .lookups → nth (outerTrees v es) i ≡ at (hAt v i)
+  pub query-nth : (i : ℕ) → i < v .«num_lookups» → nth (outerTrees v es) i ≡ at (numberOfH v i)
   unfolding outerTrees
   query-nth i h =
-      get-left (column (λ j. at (hAt v j)) (v .lookups)) (zeroTree v es ∷ []) i (Expr.constant 0)
-      (let l = column-length (λ j. at (hAt v j)) (v .lookups) in omega arith)
-      ∙ get-column (λ j. at (hAt v j)) (v .lookups) i (Expr.constant 0) h
+      get-left (column (λ j. at (numberOfH v j)) (v .«num_lookups»)) (zeroTree v es ∷ []) i (Expr.constant 0)
+      (let l = column-length (λ j. at (numberOfH v j)) (v .«num_lookups») in omega arith)
+      ∙ get-column (λ j. at (numberOfH v j)) (v .«num_lookups») i (Expr.constant 0) h
 
-  pub zero-nth : (i : ℕ) → i ≡ v .lookups → nth (outerTrees v es) i ≡ zeroTree v es
+  pub zero-nth : (i : ℕ) → i ≡ v .«num_lookups» → nth (outerTrees v es) i ≡ zeroTree v es
   unfolding outerTrees
   zero-nth i h =
-      get-past (column (λ j. at (hAt v j)) (v .lookups)) (zeroTree v es ∷ []) i 0 (Expr.constant 0)
-      (let l = column-length (λ j. at (hAt v j)) (v .lookups) in omega arith)
+      get-past (column (λ j. at (numberOfH v j)) (v .«num_lookups»)) (zeroTree v es ∷ []) i 0 (Expr.constant 0)
+      (let l = column-length (λ j. at (numberOfH v j)) (v .«num_lookups») in omega arith)
 
 -- the nodes of a sum with gamma, and of a product with a query
 pub side-size : (nodes pairs : List ℕ) (user s w : ℕ)
@@ -243,13 +226,13 @@ pub side-size : (nodes pairs : List ℕ) (user s w : ℕ)
 unfolding sideTree body
 side-size nodes pairs user s w = omega arith
 
-pub zero-size : (v : Numbers) (es : List Expr)
-    → size (zeroTree v es) ≡ size (distributePowers es (Expr.challenge (v .user + 2))) + 2
+pub zero-size : (v : CircuitParams) (es : List Expr)
+    → size (zeroTree v es) ≡ size (distributePowers es (Expr.challenge (v .«num_challenges» + 2))) + 2
 unfolding zeroTree body
 zero-size v es = omega arith
 
 -- with no lookup the composed expression is the zero check
-pub compose-alone : (v : Numbers) (es : List Expr) → v .lookups ≡ 0 → composeTree v es ≡ zeroTree v es
+pub compose-alone : (v : CircuitParams) (es : List Expr) → v .«num_lookups» ≡ 0 → composeTree v es ≡ zeroTree v es
 unfolding composeTree outerTrees distributePowers column
 compose-alone v es h =
-    ap (λ (n : ℕ). distributePowers (column (λ j. at (hAt v j)) n ++ (zeroTree v es ∷ [])) (Expr.challenge (v .user + 2))) h
+    ap (λ (n : ℕ). distributePowers (column (λ j. at (numberOfH v j)) n ++ (zeroTree v es ∷ [])) (Expr.challenge (v .«num_challenges» + 2))) h

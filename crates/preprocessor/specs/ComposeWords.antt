@@ -1,0 +1,82 @@
+-- The words and the numbers that the code is handed: the constraints that they stand for, and what must hold of them. Assumes nothing.
+use mathlib.Core.Path.{_≡_}
+use mathlib.Core.Bool.{cond}
+use mathlib.Core.List.{List, map}
+use Prim.Native.Nat.{ℕ, suc, _+_, _*_, _≤_, _<_}
+use lib.ListN.{length, getD, drop}
+use lib.Dec.{eqb}
+use Rattle.lists.specs.Lists.{column, ceilDiv, split, total, laid, All}
+use Rattle.expression.specs.Expr.{Expr, Exprs, exprsOf}
+use Rattle.expression.specs.Nodes.{exprOf}
+use Rattle.backend.specs.Circuit.{Circuit, Pair, pairsOf, copied}
+use Rattle.backend.specs.Constraints.{sideOf}
+use Rattle.preprocessor.specs.Compose.{paramsOf, constraintTrees, composedWords, composedNodes}
+use Rattle.preprocessor.specs.declared.CircuitParams.{CircuitParams}
+
+-- "lookup pairs (input root, table root)", parted by the widths
+unfoldable pub lookupsOf : List ℕ → List ℕ → List ℕ → List (List Pair)
+lookupsOf nodes widths pairs = split widths (pairsOf nodes pairs)
+
+-- the expressions whose roots are every second word, w of them from s on
+unfoldable pub sideExprs : List ℕ → List ℕ → ℕ → ℕ → List Expr
+sideExprs nodes pairs s w = column (λ i. exprOf nodes (getD pairs (s + i * 2) 0)) w
+
+-- those by powers of beta, and gamma
+unfoldable pub sideTree : List ℕ → List ℕ → ℕ → ℕ → ℕ → Expr
+sideTree nodes pairs user s w = sideOf user (sideExprs nodes pairs s w)
+
+-- the constraints of the words that the code is handed
+abbrev pub constraintsFromWords : CircuitParams → List ℕ → List ℕ → List ℕ → List ℕ → List ℕ → List Expr
+constraintsFromWords params names nodes roots widths pairs =
+    constraintTrees params names (map (exprOf nodes) roots) (lookupsOf nodes widths pairs)
+
+-- the expressions of a list from number i on
+unfoldable pub exprsFrom : List Expr → ℕ → Exprs
+exprsFrom es i = exprsOf (getD es i (Expr.constant 0)) (drop (suc i) es)
+
+-- a node of these words
+abbrev pub IsNode : List ℕ → ℕ → Type 0
+IsNode nodes r = r * 4 + 4 ≤ length nodes
+
+-- numbers in the limits of documents 01 and 02; D is 2 or more
+pub record Limits (params : CircuitParams) : Type 0 where
+  pub few-polys : params .«num_poly» ≤ 72
+  pub few-copied : params .«num_permutation_polys» ≤ 72
+  pub few-lookups : params .«num_lookups» ≤ 8
+  pub few-user : params .«num_challenges» ≤ 16
+  pub few-rows : params .rows ≤ 1048576
+  pub some-part : 0 < params .«chunk_size»
+  pub parts-are : params .«num_chunks» ≡ ceilDiv (params .«num_permutation_polys») (params .«chunk_size»)
+
+-- the words that go with them: every root is a node
+pub record Words (params : CircuitParams) (nodes roots widths pairs : List ℕ) : Type 0 where
+  pub limits : Limits params
+  pub all-lookups : params .«num_lookups» ≡ length widths
+  pub all-pairs : total widths * 2 ≤ length pairs
+  pub constraints-named : All (IsNode nodes) roots
+  pub pairs-named : All (IsNode nodes) pairs
+
+-- and the copied columns
+pub record ComposeInput (params : CircuitParams) (names nodes roots widths pairs : List ℕ) : Type 0 where
+  pub words : Words params nodes roots widths pairs
+  pub all-copied : params .«num_permutation_polys» ≤ length names
+
+-- how many constraints there are, with as many of the user's own
+unfoldable pub numConstraints : ℕ → CircuitParams → ℕ
+numConstraints own params = own + params .«num_lookups» + cond (eqb (params .«num_permutation_polys») 0) 0 (suc (params .«num_chunks»))
+
+-- the nodes of the permutation's constraints
+unfoldable pub permutationNodes : CircuitParams → ℕ
+permutationNodes params = cond (eqb (params .«num_permutation_polys») 0) 0 (6 + params .«num_permutation_polys» * 18 + params .«num_chunks» * 4)
+
+-- the numbers and the words are those of a circuit
+pub record DecodedFrom (c : Circuit) (params : CircuitParams) (names nodes roots widths pairs : List ℕ) : Type 0 where
+  pub params-are : params ≡ paramsOf c
+  pub copied-are : names ≡ copied c
+  pub constraints-are : map (exprOf nodes) roots ≡ c .constraints
+  pub lookups-are : lookupsOf nodes widths pairs ≡ c .lookups
+
+-- the composed nodes of a circuit stand from node 0 on, as far as they fall into the buffer, which stands for the words from `from` on
+pub record Composed (from : ℕ) (c : Circuit) (before after : List ℕ) (next : ℕ) : Type 0 where
+  pub number : next ≡ composedNodes c
+  pub buffer : after ≡ laid from before 0 (composedWords c)
