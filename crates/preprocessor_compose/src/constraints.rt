@@ -7,6 +7,7 @@ use expression_write::operations::list_end;
 use expression_write::operations::list_head;
 use expression_write::push;
 use preprocessor::CircuitParams;
+use preprocessor_constraints::lookup::Run;
 use preprocessor_constraints::lookup::lookup_constraint;
 use preprocessor_constraints::permutation::part_constraint;
 use preprocessor_constraints::permutation::start_constraint;
@@ -44,6 +45,19 @@ pub fn num_constraints(own: usize, params: CircuitParams) -> usize
     own + params.num_lookups + (1 + params.num_chunks)
 }
 
+// Where nodes are written: node `at` is next, in a buffer that stands for the words from word `from` on.
+pub struct Place {
+    pub from: usize,
+    pub at: usize,
+}
+
+// The same, with the number of the item that is written next.
+pub struct ItemPlace {
+    pub i: usize,
+    pub from: usize,
+    pub at: usize,
+}
+
 // Constraint i: "user, lookup, permutation constraints".
 fn constraint(
     copied: &[u64],
@@ -52,30 +66,31 @@ fn constraint(
     widths: &[u64],
     pairs: &[u64],
     out: &mut [u64],
-    from: usize,
     params: CircuitParams,
-    i: usize,
-    at: usize,
+    place: ItemPlace,
 ) -> usize
-    requires { ⌜ ComposeInput params (now copied) (now user) (now roots) (now widths) (now pairs) × ((i < numConstraints (length (now roots)) params) × ((at + size (getD (constraintsFromWords params (now copied) (now user) (now roots) (now widths) (now pairs)) i (Expr.constant 0))) * 4 ≤ mostWords)) ⌝ }
-    ensures { λ r. ⌜ Written from (getD (constraintsFromWords params (now (copied .entry)) (now (user .entry)) (now (roots .entry)) (now (widths .entry)) (now (pairs .entry))) i (Expr.constant 0)) at (now (out .entry)) (now (out .exit)) r ⌝ }
+    requires { ⌜ ComposeInput params (now copied) (now user) (now roots) (now widths) (now pairs) × ((place .i < numConstraints (length (now roots)) params) × ((place .at + size (getD (constraintsFromWords params (now copied) (now user) (now roots) (now widths) (now pairs)) (place .i) (Expr.constant 0))) * 4 ≤ mostWords)) ⌝ }
+    ensures { λ r. ⌜ Written (place .from) (getD (constraintsFromWords params (now (copied .entry)) (now (user .entry)) (now (roots .entry)) (now (widths .entry)) (now (pairs .entry))) (place .i) (Expr.constant 0)) (place .at) (now (out .entry)) (now (out .exit)) r ⌝ }
 {
     let own = roots.len();
+    let i = place.i;
     if i < own {
         let n = index(roots[i]);
-        return copy_expr(user, out, from, n, at);
+        return copy_expr(user, out, place.from, n, place.at);
     }
     let j = i - own;
     if j < params.num_lookups {
         let w = index(widths[j]);
         let s = pairs_before(widths, j);
-        return lookup_constraint(user, pairs, out, from, params, j, s * 2, w, at);
+        let start = s * 2;
+        let inputs = Run { start, count: w };
+        return lookup_constraint(user, pairs, out, place.from, params, j, inputs, place.at);
     }
     let p = j - params.num_lookups;
     if p == 0 {
-        return start_constraint(out, from, params, at);
+        return start_constraint(out, place.from, params, place.at);
     }
-    part_constraint(copied, out, from, params, p - 1, at)
+    part_constraint(copied, out, place.from, params, p - 1, place.at)
 }
 
 // The constraints from number i on, the base, the Items.
@@ -86,33 +101,26 @@ fn constraint_items(
     widths: &[u64],
     pairs: &[u64],
     out: &mut [u64],
-    from: usize,
     params: CircuitParams,
-    i: usize,
-    at: usize,
+    place: ItemPlace,
 ) -> Listed
-    requires { ⌜ ComposeInput params (now copied) (now user) (now roots) (now widths) (now pairs) × ((i < numConstraints (length (now roots)) params) × ((at + sizes (exprsFrom (constraintsFromWords params (now copied) (now user) (now roots) (now widths) (now pairs)) i) + extra (exprsFrom (constraintsFromWords params (now copied) (now user) (now roots) (now widths) (now pairs)) i) + 2) * 4 ≤ mostWords)) ⌝ }
-    ensures { λ r. ⌜ WrittenList from (exprsFrom (constraintsFromWords params (now (copied .entry)) (now (user .entry)) (now (roots .entry)) (now (widths .entry)) (now (pairs .entry))) i) (Expr.challenge (params .«num_challenges» + 2)) at (now (out .entry)) (now (out .exit)) (r .next) (r .base) ⌝ }
+    requires { ⌜ ComposeInput params (now copied) (now user) (now roots) (now widths) (now pairs) × ((place .i < numConstraints (length (now roots)) params) × ((place .at + sizes (exprsFrom (constraintsFromWords params (now copied) (now user) (now roots) (now widths) (now pairs)) (place .i)) + extra (exprsFrom (constraintsFromWords params (now copied) (now user) (now roots) (now widths) (now pairs)) (place .i)) + 2) * 4 ≤ mostWords)) ⌝ }
+    ensures { λ r. ⌜ WrittenList (place .from) (exprsFrom (constraintsFromWords params (now (copied .entry)) (now (user .entry)) (now (roots .entry)) (now (widths .entry)) (now (pairs .entry))) (place .i)) (Expr.challenge (params .«num_challenges» + 2)) (place .at) (now (out .entry)) (now (out .exit)) (r .next) (r .base) ⌝ }
 {
     let n = num_constraints(roots.len(), params);
-    let x = constraint(copied, user, roots, widths, pairs, out, from, params, i, at);
-    if i + 1 < n {
-        let l = constraint_items(
-            copied,
-            user,
-            roots,
-            widths,
-            pairs,
-            out,
-            from,
-            params,
-            i + 1,
-            x,
-        );
-        let next = item(out, from, x, l.next);
+    let x = constraint(copied, user, roots, widths, pairs, out, params, place);
+    if place.i + 1 < n {
+        let i = place.i + 1;
+        let after = ItemPlace {
+            i,
+            from: place.from,
+            at: x,
+        };
+        let l = constraint_items(copied, user, roots, widths, pairs, out, params, after);
+        let next = item(out, place.from, x, l.next);
         return Listed { next, base: l.base };
     }
-    list_end(out, from, x, params.num_challenges + 2)
+    list_end(out, place.from, x, params.num_challenges + 2)
 }
 
 // The constraints by powers of alpha.
@@ -123,20 +131,24 @@ pub fn constraint_powers(
     widths: &[u64],
     pairs: &[u64],
     out: &mut [u64],
-    from: usize,
     params: CircuitParams,
-    at: usize,
+    place: Place,
 ) -> usize
-    requires { ⌜ ComposeInput params (now copied) (now user) (now roots) (now widths) (now pairs) × ((at + size (distributePowers (constraintsFromWords params (now copied) (now user) (now roots) (now widths) (now pairs)) (Expr.challenge (params .«num_challenges» + 2)))) * 4 ≤ mostWords) ⌝ }
-    ensures { λ r. ⌜ Written from (distributePowers (constraintsFromWords params (now (copied .entry)) (now (user .entry)) (now (roots .entry)) (now (widths .entry)) (now (pairs .entry))) (Expr.challenge (params .«num_challenges» + 2))) at (now (out .entry)) (now (out .exit)) r ⌝ }
+    requires { ⌜ ComposeInput params (now copied) (now user) (now roots) (now widths) (now pairs) × ((place .at + size (distributePowers (constraintsFromWords params (now copied) (now user) (now roots) (now widths) (now pairs)) (Expr.challenge (params .«num_challenges» + 2)))) * 4 ≤ mostWords) ⌝ }
+    ensures { λ r. ⌜ Written (place .from) (distributePowers (constraintsFromWords params (now (copied .entry)) (now (user .entry)) (now (roots .entry)) (now (widths .entry)) (now (pairs .entry))) (Expr.challenge (params .«num_challenges» + 2))) (place .at) (now (out .entry)) (now (out .exit)) r ⌝ }
 {
     let n = num_constraints(roots.len(), params);
     if n == 0 {
-        return push(out, from, at, 1, 0, 0, 0);
+        return push(out, place.from, place.at, 1, 0, 0, 0);
     }
+    let first = ItemPlace {
+        i: 0,
+        from: place.from,
+        at: place.at,
+    };
     if n == 1 {
-        return constraint(copied, user, roots, widths, pairs, out, from, params, 0, at);
+        return constraint(copied, user, roots, widths, pairs, out, params, first);
     }
-    let l = constraint_items(copied, user, roots, widths, pairs, out, from, params, 0, at);
-    list_head(out, from, l)
+    let l = constraint_items(copied, user, roots, widths, pairs, out, params, first);
+    list_head(out, place.from, l)
 }

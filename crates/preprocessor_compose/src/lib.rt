@@ -2,6 +2,8 @@
 mod constraints;
 pub mod count;
 
+use crate::constraints::ItemPlace;
+use crate::constraints::Place;
 use crate::constraints::constraint_powers;
 use expression_write::operations::Listed;
 use expression_write::operations::item;
@@ -28,16 +30,15 @@ fn zero_check(
     widths: &[u64],
     pairs: &[u64],
     out: &mut [u64],
-    from: usize,
     params: CircuitParams,
-    at: usize,
+    place: Place,
 ) -> usize
-    requires { ⌜ ComposeInput params (now copied) (now user) (now roots) (now widths) (now pairs) × ((at + size (zeroTree params (constraintsFromWords params (now copied) (now user) (now roots) (now widths) (now pairs)))) * 4 ≤ mostWords) ⌝ }
-    ensures { λ r. ⌜ Written from (zeroTree params (constraintsFromWords params (now (copied .entry)) (now (user .entry)) (now (roots .entry)) (now (widths .entry)) (now (pairs .entry)))) at (now (out .entry)) (now (out .exit)) r ⌝ }
+    requires { ⌜ ComposeInput params (now copied) (now user) (now roots) (now widths) (now pairs) × ((place .at + size (zeroTree params (constraintsFromWords params (now copied) (now user) (now roots) (now widths) (now pairs)))) * 4 ≤ mostWords) ⌝ }
+    ensures { λ r. ⌜ Written (place .from) (zeroTree params (constraintsFromWords params (now (copied .entry)) (now (user .entry)) (now (roots .entry)) (now (widths .entry)) (now (pairs .entry)))) (place .at) (now (out .entry)) (now (out .exit)) r ⌝ }
 {
-    let x = constraint_powers(copied, user, roots, widths, pairs, out, from, params, at);
-    let y = push(out, from, x, 4, 0, 0, 0);
-    product(out, from, x, y)
+    let x = constraint_powers(copied, user, roots, widths, pairs, out, params, place);
+    let y = push(out, place.from, x, 4, 0, 0, 0);
+    product(out, place.from, x, y)
 }
 
 // The h queries from number i on, the zero check, the base, the Items.
@@ -48,37 +49,28 @@ fn outer_items(
     widths: &[u64],
     pairs: &[u64],
     out: &mut [u64],
-    from: usize,
     params: CircuitParams,
-    i: usize,
-    at: usize,
+    place: ItemPlace,
 ) -> Listed
-    requires { ⌜ ComposeInput params (now copied) (now user) (now roots) (now widths) (now pairs) × ((i ≤ params .«num_lookups») × ((at + sizes (exprsFrom (outerTrees params (constraintsFromWords params (now copied) (now user) (now roots) (now widths) (now pairs))) i) + extra (exprsFrom (outerTrees params (constraintsFromWords params (now copied) (now user) (now roots) (now widths) (now pairs))) i) + 2) * 4 ≤ mostWords)) ⌝ }
-    ensures { λ r. ⌜ WrittenList from (exprsFrom (outerTrees params (constraintsFromWords params (now (copied .entry)) (now (user .entry)) (now (roots .entry)) (now (widths .entry)) (now (pairs .entry)))) i) (Expr.challenge (params .«num_challenges» + 2)) at (now (out .entry)) (now (out .exit)) (r .next) (r .base) ⌝ }
+    requires { ⌜ ComposeInput params (now copied) (now user) (now roots) (now widths) (now pairs) × ((place .i ≤ params .«num_lookups») × ((place .at + sizes (exprsFrom (outerTrees params (constraintsFromWords params (now copied) (now user) (now roots) (now widths) (now pairs))) (place .i)) + extra (exprsFrom (outerTrees params (constraintsFromWords params (now copied) (now user) (now roots) (now widths) (now pairs))) (place .i)) + 2) * 4 ≤ mostWords)) ⌝ }
+    ensures { λ r. ⌜ WrittenList (place .from) (exprsFrom (outerTrees params (constraintsFromWords params (now (copied .entry)) (now (user .entry)) (now (roots .entry)) (now (widths .entry)) (now (pairs .entry)))) (place .i)) (Expr.challenge (params .«num_challenges» + 2)) (place .at) (now (out .entry)) (now (out .exit)) (r .next) (r .base) ⌝ }
 {
-    if i < params.num_lookups {
+    let from = place.from;
+    if place.i < params.num_lookups {
         let x = query(
             out,
             from,
-            at,
-            (params.num_poly + params.num_permutation_polys + params.num_lookups + i) as u64,
+            place.at,
+            (params.num_poly + params.num_permutation_polys + params.num_lookups + place.i) as u64,
         );
-        let l = outer_items(
-            copied,
-            user,
-            roots,
-            widths,
-            pairs,
-            out,
-            from,
-            params,
-            i + 1,
-            x,
-        );
+        let i = place.i + 1;
+        let after = ItemPlace { i, from, at: x };
+        let l = outer_items(copied, user, roots, widths, pairs, out, params, after);
         let next = item(out, from, x, l.next);
         return Listed { next, base: l.base };
     }
-    let x = zero_check(copied, user, roots, widths, pairs, out, from, params, at);
+    let last = Place { from, at: place.at };
+    let x = zero_check(copied, user, roots, widths, pairs, out, params, last);
     list_end(out, from, x, params.num_challenges + 2)
 }
 
@@ -97,9 +89,11 @@ fn outer(
     ensures { λ r. ⌜ Written from (composeTree params (constraintsFromWords params (now (copied .entry)) (now (user .entry)) (now (roots .entry)) (now (widths .entry)) (now (pairs .entry)))) 0 (now (out .entry)) (now (out .exit)) r ⌝ }
 {
     if params.num_lookups == 0 {
-        return zero_check(copied, user, roots, widths, pairs, out, from, params, 0);
+        let place = Place { from, at: 0 };
+        return zero_check(copied, user, roots, widths, pairs, out, params, place);
     }
-    let l = outer_items(copied, user, roots, widths, pairs, out, from, params, 0, 0);
+    let first = ItemPlace { i: 0, from, at: 0 };
+    let l = outer_items(copied, user, roots, widths, pairs, out, params, first);
     list_head(out, from, l)
 }
 

@@ -20,7 +20,14 @@ ghost use Rattle.expression.specs.Expr.{Expr, distributePowers};
 ghost use Rattle.expression.specs.Flat.{size, sizes, extra};
 ghost use Rattle.expression.specs.Written.{mostWords, Written, WrittenList};
 ghost use Rattle.backend.specs.Constraints.{lookupTree};
+ghost use Rattle.preprocessor.specs.Compose.{numberOfM, numberOfH};
 ghost use Rattle.preprocessor.specs.ComposeWords.{sideExprs, sideTree, exprsFrom, IsNode, Limits};
+
+// The roots of a lookup's side: every second word, `count` of them from word `start` on.
+pub struct Run {
+    pub start: usize,
+    pub count: usize,
+}
 
 // The expressions of a lookup's side from number i on, the base, the Items.
 fn side_items(
@@ -29,18 +36,18 @@ fn side_items(
     out: &mut [u64],
     from: usize,
     beta: usize,
-    s: usize,
+    run: Run,
     i: usize,
-    w: usize,
     at: usize,
 ) -> Listed
-    requires { ⌜ All (IsNode (now user)) (now pairs) × ((s + w * 2 ≤ length (now pairs) + 1) × ((i < w) × ((at + sizes (exprsFrom (sideExprs (now user) (now pairs) s w) i) + extra (exprsFrom (sideExprs (now user) (now pairs) s w) i) + 2) * 4 ≤ mostWords))) ⌝ }
-    ensures { λ r. ⌜ WrittenList from (exprsFrom (sideExprs (now (user .entry)) (now (pairs .entry)) s w) i) (Expr.challenge beta) at (now (out .entry)) (now (out .exit)) (r .next) (r .base) ⌝ }
+    requires { ⌜ All (IsNode (now user)) (now pairs) × ((run .start + run .count * 2 ≤ length (now pairs) + 1) × ((i < run .count) × ((at + sizes (exprsFrom (sideExprs (now user) (now pairs) (run .start) (run .count)) i) + extra (exprsFrom (sideExprs (now user) (now pairs) (run .start) (run .count)) i) + 2) * 4 ≤ mostWords))) ⌝ }
+    ensures { λ r. ⌜ WrittenList from (exprsFrom (sideExprs (now (user .entry)) (now (pairs .entry)) (run .start) (run .count)) i) (Expr.challenge beta) at (now (out .entry)) (now (out .exit)) (r .next) (r .base) ⌝ }
 {
-    let n = index(pairs[s + i * 2]);
+    let start = run.start;
+    let n = index(pairs[start + i * 2]);
     let x = copy_expr(user, out, from, n, at);
-    if i + 1 < w {
-        let l = side_items(user, pairs, out, from, beta, s, i + 1, w, x);
+    if i + 1 < run.count {
+        let l = side_items(user, pairs, out, from, beta, run, i + 1, x);
         let next = item(out, from, x, l.next);
         return Listed { next, base: l.base };
     }
@@ -54,21 +61,21 @@ fn side_powers(
     out: &mut [u64],
     from: usize,
     beta: usize,
-    s: usize,
-    w: usize,
+    run: Run,
     at: usize,
 ) -> usize
-    requires { ⌜ All (IsNode (now user)) (now pairs) × ((s + w * 2 ≤ length (now pairs) + 1) × ((at + size (distributePowers (sideExprs (now user) (now pairs) s w) (Expr.challenge beta))) * 4 ≤ mostWords)) ⌝ }
-    ensures { λ r. ⌜ Written from (distributePowers (sideExprs (now (user .entry)) (now (pairs .entry)) s w) (Expr.challenge beta)) at (now (out .entry)) (now (out .exit)) r ⌝ }
+    requires { ⌜ All (IsNode (now user)) (now pairs) × ((run .start + run .count * 2 ≤ length (now pairs) + 1) × ((at + size (distributePowers (sideExprs (now user) (now pairs) (run .start) (run .count)) (Expr.challenge beta))) * 4 ≤ mostWords)) ⌝ }
+    ensures { λ r. ⌜ Written from (distributePowers (sideExprs (now (user .entry)) (now (pairs .entry)) (run .start) (run .count)) (Expr.challenge beta)) at (now (out .entry)) (now (out .exit)) r ⌝ }
 {
-    if w == 0 {
+    if run.count == 0 {
         return push(out, from, at, 1, 0, 0, 0);
     }
-    if w == 1 {
-        let n = index(pairs[s]);
+    if run.count == 1 {
+        let start = run.start;
+        let n = index(pairs[start]);
         return copy_expr(user, out, from, n, at);
     }
-    let l = side_items(user, pairs, out, from, beta, s, 0, w, at);
+    let l = side_items(user, pairs, out, from, beta, run, 0, at);
     list_head(out, from, l)
 }
 
@@ -79,14 +86,13 @@ fn side(
     out: &mut [u64],
     from: usize,
     beta: usize,
-    s: usize,
-    w: usize,
+    run: Run,
     at: usize,
 ) -> usize
-    requires { ⌜ All (IsNode (now user)) (now pairs) × ((s + w * 2 ≤ length (now pairs) + 1) × ((beta ≤ 16) × ((at + size (sideTree (now user) (now pairs) beta s w)) * 4 ≤ mostWords))) ⌝ }
-    ensures { λ r. ⌜ Written from (sideTree (now (user .entry)) (now (pairs .entry)) beta s w) at (now (out .entry)) (now (out .exit)) r ⌝ }
+    requires { ⌜ All (IsNode (now user)) (now pairs) × ((run .start + run .count * 2 ≤ length (now pairs) + 1) × ((beta ≤ 16) × ((at + size (sideTree (now user) (now pairs) beta (run .start) (run .count))) * 4 ≤ mostWords))) ⌝ }
+    ensures { λ r. ⌜ Written from (sideTree (now (user .entry)) (now (pairs .entry)) beta (run .start) (run .count)) at (now (out .entry)) (now (out .exit)) r ⌝ }
 {
-    let x = side_powers(user, pairs, out, from, beta, s, w, at);
+    let x = side_powers(user, pairs, out, from, beta, run, at);
     let gamma = challenge(out, from, x, (beta + 1) as u64);
     sum(out, from, x, gamma)
 }
@@ -98,20 +104,19 @@ fn query_side(
     out: &mut [u64],
     from: usize,
     beta: usize,
-    s: usize,
-    w: usize,
+    run: Run,
     q: usize,
     at: usize,
 ) -> usize
-    requires { ⌜ All (IsNode (now user)) (now pairs) × ((s + w * 2 ≤ length (now pairs) + 1) × ((beta ≤ 16) × ((at + size (sideTree (now user) (now pairs) beta s w) + 2) * 4 ≤ mostWords))) ⌝ }
-    ensures { λ r. ⌜ Written from (Expr.product (Expr.poly q (pos 0)) (sideTree (now (user .entry)) (now (pairs .entry)) beta s w)) at (now (out .entry)) (now (out .exit)) r ⌝ }
+    requires { ⌜ All (IsNode (now user)) (now pairs) × ((run .start + run .count * 2 ≤ length (now pairs) + 1) × ((beta ≤ 16) × ((at + size (sideTree (now user) (now pairs) beta (run .start) (run .count)) + 2) * 4 ≤ mostWords))) ⌝ }
+    ensures { λ r. ⌜ Written from (Expr.product (Expr.poly q (pos 0)) (sideTree (now (user .entry)) (now (pairs .entry)) beta (run .start) (run .count))) at (now (out .entry)) (now (out .exit)) r ⌝ }
 {
     let x = query(out, from, at, q as u64);
-    let y = side(user, pairs, out, from, beta, s, w, x);
+    let y = side(user, pairs, out, from, beta, run, x);
     product(out, from, x, y)
 }
 
-// h * (input + gamma) * (table + gamma) - (table + gamma) + m * (input + gamma), of the lookup whose first pair starts at word s
+// h * (input + gamma) * (table + gamma) - (table + gamma) + m * (input + gamma), of the lookup whose inputs are these
 pub fn lookup_constraint(
     user: &[u64],
     pairs: &[u64],
@@ -119,21 +124,26 @@ pub fn lookup_constraint(
     from: usize,
     params: CircuitParams,
     j: usize,
-    s: usize,
-    w: usize,
+    inputs: Run,
     at: usize,
 ) -> usize
-    requires { ⌜ All (IsNode (now user)) (now pairs) × (Limits params × ((j < params .«num_lookups») × ((s + w * 2 ≤ length (now pairs)) × ((at + size (sideTree (now user) (now pairs) (params .«num_challenges») s w) * 2 + size (sideTree (now user) (now pairs) (params .«num_challenges») (s + 1) w) * 2 + 8) * 4 ≤ mostWords)))) ⌝ }
-    ensures { λ r. ⌜ Written from (lookupTree (Expr.poly (params .«num_poly» + params .«num_permutation_polys» + j) (pos 0)) (Expr.poly (params .«num_poly» + params .«num_permutation_polys» + params .«num_lookups» + j) (pos 0)) (sideTree (now (user .entry)) (now (pairs .entry)) (params .«num_challenges») s w) (sideTree (now (user .entry)) (now (pairs .entry)) (params .«num_challenges») (s + 1) w)) at (now (out .entry)) (now (out .exit)) r ⌝ }
+    requires { ⌜ All (IsNode (now user)) (now pairs) × (Limits params × ((j < params .«num_lookups») × ((inputs .start + inputs .count * 2 ≤ length (now pairs)) × ((at + size (sideTree (now user) (now pairs) (params .«num_challenges») (inputs .start) (inputs .count)) * 2 + size (sideTree (now user) (now pairs) (params .«num_challenges») (inputs .start + 1) (inputs .count)) * 2 + 8) * 4 ≤ mostWords)))) ⌝ }
+    ensures { λ r. ⌜ Written from (lookupTree (Expr.poly (numberOfM params j) (pos 0)) (Expr.poly (numberOfH params j) (pos 0)) (sideTree (now (user .entry)) (now (pairs .entry)) (params .«num_challenges») (inputs .start) (inputs .count)) (sideTree (now (user .entry)) (now (pairs .entry)) (params .«num_challenges») (inputs .start + 1) (inputs .count))) at (now (out .entry)) (now (out .exit)) r ⌝ }
 {
     let m = params.num_poly + params.num_permutation_polys + j;
     let h = params.num_poly + params.num_permutation_polys + params.num_lookups + j;
-    let a = query_side(user, pairs, out, from, params.num_challenges, s, w, h, at);
-    let b = side(user, pairs, out, from, params.num_challenges, s + 1, w, a);
+    let start = inputs.start + 1;
+    let tables = Run {
+        start,
+        count: inputs.count,
+    };
+    let beta = params.num_challenges;
+    let a = query_side(user, pairs, out, from, beta, inputs, h, at);
+    let b = side(user, pairs, out, from, beta, tables, a);
     let p = product(out, from, a, b);
-    let t = side(user, pairs, out, from, params.num_challenges, s + 1, w, p);
+    let t = side(user, pairs, out, from, beta, tables, p);
     let n = negated(out, from, t);
     let d = sum(out, from, p, n);
-    let e = query_side(user, pairs, out, from, params.num_challenges, s, w, m, d);
+    let e = query_side(user, pairs, out, from, beta, inputs, m, d);
     sum(out, from, d, e)
 }

@@ -19,7 +19,7 @@ use Rattle.preprocessor_constraints.proofs.lookup.+side_items.{statemen
 use Rattle.preprocessor_constraints.proofs.lookup.+side_items.Tie.{close}
 
 abbrev μ-side-items : Measures 3 side-items-kinds.ps ℕ
-μ-side-items κs a = a .1 .1 .1 .1 .1 .1 .1 .0 - a .1 .1 .1 .1 .1 .1 .0
+μ-side-items κs a = a .1 .1 .1 .1 .1 .0 .count - a .1 .1 .1 .1 .1 .1 .0
 
 abbrev side-items-at : ℕ → In 3 side-items-kinds.ps
 side-items-at t =
@@ -51,13 +51,13 @@ side-items-copy-expr-requires : (t : ℕ) → side-items-lts.Need-copy-expr-requ
 side-items-copy-expr-requires t c κs =
     let entry = c .before .before .before .before .before .before in
     let a = (entry .args) in
-    let es = sideExprs (a .user .now) (a .pairs .now) (a .s) (a .w) in
-    let long = trees.side-length (a .user .now) (a .pairs .now) (a .s) (a .w) in
+    let es = sideExprs (a .user .now) (a .pairs .now) (a .run .start) (a .run .count) in
+    let long = trees.side-length (a .user .now) (a .pairs .now) (a .run .start) (a .run .count) in
     let n = (c .before .index .result) in
-    let same = trees.side-nth (a .user .now) (a .pairs .now) (a .s) (a .w) (a .i) n (entry .pre .1 .1 .1 .0) (c .before .index .ensures) in
+    let same = trees.side-nth (a .user .now) (a .pairs .now) (a .run .start) (a .run .count) (a .i) n (entry .pre .1 .1 .1 .0) (c .before .index .ensures) in
     let e = exprOf (a .user .now) n in
-    let r = lists.first-room es (a .w) long (a .i) e same in
-    (trees.root-node (a .user .now) (a .pairs .now) (a .s + a .i * 2) n (entry .pre .1 .0) (omega (arith, (entry .pre .1 .1))) (c .before .index .ensures), omega (arith, (entry .pre .1 .1 .1 .1)))
+    let r = lists.first-room es (a .run .count) long (a .i) e same in
+    (trees.root-node (a .user .now) (a .pairs .now) (a .run .start + a .i * 2) n (entry .pre .1 .0) (omega (arith, (entry .pre .1 .1))) (c .before .index .ensures), omega (arith, (entry .pre .1 .1 .1 .1)))
 
 side-items-add-if1 : (t : ℕ) → side-items-lts.Need-add-if1 (side-items-claims t) (side-items-at t) side-items.Post
 side-items-add-if1 t c = omega (arith, (c .before .before .before .before .before .before .before .before .before .pre .1 .1 .1 .0))
@@ -67,29 +67,29 @@ side-items-add-side-items t c = omega (arith, (c .before .if1 .taken))
 
 side-items-side-items-requires : (t : ℕ) → side-items-lts.Need-side-items-requires (side-items-claims t) (side-items-at t) side-items.Post
 side-items-side-items-requires t c κs =
-    let entry = c .before .before .before .before .before .before .before .before .before .before .before in
+    let entry = c .before .before .before .before .before .before .before .before .before .before .before .before in
     let a = (entry .args) in
-    let es = sideExprs (a .user .now) (a .pairs .now) (a .s) (a .w) in
-    let long = trees.side-length (a .user .now) (a .pairs .now) (a .s) (a .w) in
-    let n = (c .before .before .before .before .before .before .index .result) in
-    let same = trees.side-nth (a .user .now) (a .pairs .now) (a .s) (a .w) (a .i) n (entry .pre .1 .1 .1 .0) (c .before .before .before .before .before .before .index .ensures) in
+    let es = sideExprs (a .user .now) (a .pairs .now) (a .run .start) (a .run .count) in
+    let long = trees.side-length (a .user .now) (a .pairs .now) (a .run .start) (a .run .count) in
+    let n = (c .before .before .before .before .before .before .before .index .result) in
+    let same = trees.side-nth (a .user .now) (a .pairs .now) (a .run .start) (a .run .count) (a .i) n (entry .pre .1 .1 .1 .0) (c .before .before .before .before .before .before .before .index .ensures) in
     let e = exprOf (a .user .now) n in
-    let q = lists.more-sizes es (a .w) long (a .i) e same (c .before .if1 .taken) in
-    let x = (c .before .before .before .before .copy-expr .ensures .number) in
+    let q = lists.more-sizes es (a .run .count) long (a .i) e same (c .before .if1 .taken) in
+    let x = (c .before .before .before .before .before .copy-expr .ensures .number) in
     (omega (arith, (entry .pre .0), (c .before .if1 .taken)), ((entry .pre .1 .0), ((entry .pre .1 .1 .0), ((c .before .if1 .taken), omega (arith, (entry .pre .1 .1 .1 .1))))))
 
 side-items-item-requires : (t : ℕ) → side-items-lts.Need-item-requires (side-items-claims t) (side-items-at t) side-items.Post
 unfolding body
 side-items-item-requires t c κs =
-    let entry = c .before .before .before .before .before .before .before .before .before .before .before .before .before .before .before in
+    let entry = c .before .before .before .before .before .before .before .before .before .before .before .before .before .before .before .before in
     let a = (entry .args) in
-    let es = sideExprs (a .user .now) (a .pairs .now) (a .s) (a .w) in
-    let long = trees.side-length (a .user .now) (a .pairs .now) (a .s) (a .w) in
-    let n = (c .before .before .before .before .before .before .before .before .before .before .index .result) in
-    let same = trees.side-nth (a .user .now) (a .pairs .now) (a .s) (a .w) (a .i) n (entry .pre .1 .1 .1 .0) (c .before .before .before .before .before .before .before .before .before .before .index .ensures) in
+    let es = sideExprs (a .user .now) (a .pairs .now) (a .run .start) (a .run .count) in
+    let long = trees.side-length (a .user .now) (a .pairs .now) (a .run .start) (a .run .count) in
+    let n = (c .before .before .before .before .before .before .before .before .before .before .before .index .result) in
+    let same = trees.side-nth (a .user .now) (a .pairs .now) (a .run .start) (a .run .count) (a .i) n (entry .pre .1 .1 .1 .0) (c .before .before .before .before .before .before .before .before .before .before .before .index .ensures) in
     let e = exprOf (a .user .now) n in
-    let q = lists.more-sizes es (a .w) long (a .i) e same (c .before .before .before .before .before .if1 .taken) in
-    let x = (c .before .before .before .before .before .before .before .before .copy-expr .ensures .number) in
+    let q = lists.more-sizes es (a .run .count) long (a .i) e same (c .before .before .before .before .before .if1 .taken) in
+    let x = (c .before .before .before .before .before .before .before .before .before .copy-expr .ensures .number) in
     let y = (c .before .before .before .side-items .ensures .number) in
     omega (arith, (entry .pre .1 .1 .1 .1))
 
@@ -98,26 +98,26 @@ side-items-same-length t c = search needs
 
 side-items-returns : (t : ℕ) → side-items-lts.Need-returns (side-items-claims t) (side-items-at t) side-items.Post
 side-items-returns t c =
-    let entry = c .before .before .before .before .before .before .before .before .before .before .before .before .before .before .before .before .before .before in
+    let entry = c .before .before .before .before .before .before .before .before .before .before .before .before .before .before .before .before .before .before .before in
     let a = (entry .args) in
-    let es = sideExprs (a .user .now) (a .pairs .now) (a .s) (a .w) in
-    let long = trees.side-length (a .user .now) (a .pairs .now) (a .s) (a .w) in
-    let n = (c .before .before .before .before .before .before .before .before .before .before .before .before .before .index .result) in
-    let same = trees.side-nth (a .user .now) (a .pairs .now) (a .s) (a .w) (a .i) n (entry .pre .1 .1 .1 .0) (c .before .before .before .before .before .before .before .before .before .before .before .before .before .index .ensures) in
+    let es = sideExprs (a .user .now) (a .pairs .now) (a .run .start) (a .run .count) in
+    let long = trees.side-length (a .user .now) (a .pairs .now) (a .run .start) (a .run .count) in
+    let n = (c .before .before .before .before .before .before .before .before .before .before .before .before .before .before .index .result) in
+    let same = trees.side-nth (a .user .now) (a .pairs .now) (a .run .start) (a .run .count) (a .i) n (entry .pre .1 .1 .1 .0) (c .before .before .before .before .before .before .before .before .before .before .before .before .before .before .index .ensures) in
     let e = exprOf (a .user .now) n in
-    lists.more-from es (a .w) long (a .i) e same (c .before .before .before .before .before .before .before .before .if1 .taken) (c .before .before .before .before .before .before .before .before .before .before .before .copy-expr .ensures) (c .before .before .before .before .before .before .side-items .ensures) (c .before .before .item .ensures)
+    lists.more-from es (a .run .count) long (a .i) e same (c .before .before .before .before .before .before .before .before .if1 .taken) (c .before .before .before .before .before .before .before .before .before .before .before .before .copy-expr .ensures) (c .before .before .before .before .before .before .side-items .ensures) (c .before .before .item .ensures)
 
 side-items-list-end-requires : (t : ℕ) → side-items-lts.Need-list-end-requires (side-items-claims t) (side-items-at t) side-items.Post
 side-items-list-end-requires t c κs =
-    let entry = c .before .before .before .before .before .before .before .before .before .before .before in
+    let entry = c .before .before .before .before .before .before .before .before .before .before .before .before in
     let a = (entry .args) in
-    let es = sideExprs (a .user .now) (a .pairs .now) (a .s) (a .w) in
-    let long = trees.side-length (a .user .now) (a .pairs .now) (a .s) (a .w) in
-    let n = (c .before .before .before .before .before .before .index .result) in
-    let same = trees.side-nth (a .user .now) (a .pairs .now) (a .s) (a .w) (a .i) n (entry .pre .1 .1 .1 .0) (c .before .before .before .before .before .before .index .ensures) in
+    let es = sideExprs (a .user .now) (a .pairs .now) (a .run .start) (a .run .count) in
+    let long = trees.side-length (a .user .now) (a .pairs .now) (a .run .start) (a .run .count) in
+    let n = (c .before .before .before .before .before .before .before .index .result) in
+    let same = trees.side-nth (a .user .now) (a .pairs .now) (a .run .start) (a .run .count) (a .i) n (entry .pre .1 .1 .1 .0) (c .before .before .before .before .before .before .before .index .ensures) in
     let e = exprOf (a .user .now) n in
-    let r = lists.first-room es (a .w) long (a .i) e same in
-    let x = (c .before .before .before .before .copy-expr .ensures .number) in
+    let r = lists.first-room es (a .run .count) long (a .i) e same in
+    let x = (c .before .before .before .before .before .copy-expr .ensures .number) in
     omega (arith, (entry .pre .1 .1 .1 .1))
 
 side-items-same-length-2 : (t : ℕ) → side-items-lts.Need-same-length-2 (side-items-claims t) (side-items-at t) side-items.Post
@@ -125,14 +125,14 @@ side-items-same-length-2 t c = search needs
 
 side-items-returns-2 : (t : ℕ) → side-items-lts.Need-returns-2 (side-items-claims t) (side-items-at t) side-items.Post
 side-items-returns-2 t c =
-    let entry = c .before .before .before .before .before .before .before .before .before .before .before .before .before .before in
+    let entry = c .before .before .before .before .before .before .before .before .before .before .before .before .before .before .before in
     let a = (entry .args) in
-    let es = sideExprs (a .user .now) (a .pairs .now) (a .s) (a .w) in
-    let long = trees.side-length (a .user .now) (a .pairs .now) (a .s) (a .w) in
-    let n = (c .before .before .before .before .before .before .before .before .before .index .result) in
-    let same = trees.side-nth (a .user .now) (a .pairs .now) (a .s) (a .w) (a .i) n (entry .pre .1 .1 .1 .0) (c .before .before .before .before .before .before .before .before .before .index .ensures) in
+    let es = sideExprs (a .user .now) (a .pairs .now) (a .run .start) (a .run .count) in
+    let long = trees.side-length (a .user .now) (a .pairs .now) (a .run .start) (a .run .count) in
+    let n = (c .before .before .before .before .before .before .before .before .before .before .index .result) in
+    let same = trees.side-nth (a .user .now) (a .pairs .now) (a .run .start) (a .run .count) (a .i) n (entry .pre .1 .1 .1 .0) (c .before .before .before .before .before .before .before .before .before .before .index .ensures) in
     let e = exprOf (a .user .now) n in
-    lists.end-from es (a .w) long (a .i) e same (c .before .before .before .before .if1 .left) (c .before .before .before .before .before .before .before .copy-expr .ensures) (c .before .before .list-end .ensures)
+    lists.end-from es (a .run .count) long (a .i) e same (c .before .before .before .before .if1 .left) (c .before .before .before .before .before .before .before .before .copy-expr .ensures) (c .before .before .list-end .ensures)
 
 pub +side-items-spec : {M : Type 1} → statement M
 +side-items-spec = close μ-side-items λ t. side-items-lts.spec (side-items-claims t)

@@ -20,42 +20,39 @@ add-h-2 c = search needs
 add-h-3 : tie.Need-add-h-3
 add-h-3 c = search needs
 
-query-side-requires : tie.Need-query-side-requires
-query-side-requires c κs = ((c .before .before .before .before .before .before .before .pre .0), (omega (arith, (c .before .before .before .before .before .before .before .pre .1 .1 .1 .0)), ((c .before .before .before .before .before .before .before .pre .1 .0 .few-user), omega (arith, (c .before .before .before .before .before .before .before .pre .1 .1 .1 .1)))))
+add-start : tie.Need-add-start
+add-start c = search needs
 
-add-side : tie.Need-add-side
-add-side c = search needs
+query-side-requires : tie.Need-query-side-requires
+query-side-requires c κs = ((c .before .before .before .before .before .before .before .before .pre .0), (omega (arith, (c .before .before .before .before .before .before .before .before .pre .1 .1 .1 .0)), ((c .before .before .before .before .before .before .before .before .pre .1 .0 .few-user), omega (arith, (c .before .before .before .before .before .before .before .before .pre .1 .1 .1 .1)))))
 
 side-requires : tie.Need-side-requires
 unfolding body
-side-requires c κs = ((c .before .before .before .before .before .before .before .before .before .before .before .pre .0), (omega (arith, (c .before .before .before .before .before .before .before .before .before .before .before .pre .1 .1 .1 .0)), ((c .before .before .before .before .before .before .before .before .before .before .before .pre .1 .0 .few-user), omega (arith, (c .before .before .before .before .before .before .before .before .before .before .before .pre .1 .1 .1 .1), (c .before .before .before .query-side .ensures .number)))))
+side-requires c κs = ((c .before .before .before .before .before .before .before .before .before .before .before .before .pre .0), (omega (arith, (c .before .before .before .before .before .before .before .before .before .before .before .before .pre .1 .1 .1 .0)), ((c .before .before .before .before .before .before .before .before .before .before .before .before .pre .1 .0 .few-user), omega (arith, (c .before .before .before .before .before .before .before .before .before .before .before .before .pre .1 .1 .1 .1), (c .before .before .before .query-side .ensures .number)))))
 
 product-requires : tie.Need-product-requires
 unfolding body
-product-requires c κs = omega (arith, (c .before .before .before .before .before .before .before .before .before .before .before .before .before .before .before .pre .1 .1 .1 .1), (c .before .before .before .before .before .before .before .query-side .ensures .number), (c .before .before .before .side .ensures .number))
-
-add-side-2 : tie.Need-add-side-2
-add-side-2 c = omega (arith, (c .before .before .before .before .before .before .before .before .before .before .before .before .before .before .before .before .before .before .before .pre .1 .1 .1 .0), (c .before .before .before .before .before .before .before .before .before .before .before .before .before .before .before .before .before .before .before .good .1 .0 .1))
+product-requires c κs = omega (arith, (c .before .before .before .before .before .before .before .before .before .before .before .before .before .before .before .before .pre .1 .1 .1 .1), (c .before .before .before .before .before .before .before .query-side .ensures .number), (c .before .before .before .side .ensures .number))
 
 side-requires-2 : tie.Need-side-requires-2
 unfolding body
-side-requires-2 c κs = ((c .before .before .before .before .before .before .before .before .before .before .before .before .before .before .before .before .before .before .before .pre .0), (omega (arith, (c .before .before .before .before .before .before .before .before .before .before .before .before .before .before .before .before .before .before .before .pre .1 .1 .1 .0)), ((c .before .before .before .before .before .before .before .before .before .before .before .before .before .before .before .before .before .before .before .pre .1 .0 .few-user), omega (arith, (c .before .before .before .before .before .before .before .before .before .before .before .before .before .before .before .before .before .before .before .pre .1 .1 .1 .1), (c .before .before .before .before .before .before .before .before .before .before .before .query-side .ensures .number), (c .before .before .before .before .before .before .before .side .ensures .number), (c .before .before .before .product .ensures .number)))))
+side-requires-2 c κs = ((c .before .before .before .before .before .before .before .before .before .before .before .before .before .before .before .before .before .before .before .before .pre .0), (omega (arith, (c .before .before .before .before .before .before .before .before .before .before .before .before .before .before .before .before .before .before .before .before .pre .1 .1 .1 .0)), ((c .before .before .before .before .before .before .before .before .before .before .before .before .before .before .before .before .before .before .before .before .pre .1 .0 .few-user), omega (arith, (c .before .before .before .before .before .before .before .before .before .before .before .before .before .before .before .before .before .before .before .before .pre .1 .1 .1 .1), (c .before .before .before .before .before .before .before .before .before .before .before .query-side .ensures .number), (c .before .before .before .before .before .before .before .side .ensures .number), (c .before .before .before .product .ensures .number)))))
 
 negated-requires : tie.Need-negated-requires
 unfolding body
-negated-requires c κs = omega (arith, (c .before .before .before .before .before .before .before .before .before .before .before .before .before .before .before .before .before .before .before .before .before .before .before .pre .1 .1 .1 .1), (c .before .before .before .before .before .before .before .before .before .before .before .before .before .before .before .query-side .ensures .number), (c .before .before .before .before .before .before .before .before .before .before .before .side .ensures .number), (c .before .before .before .before .before .before .before .product .ensures .number), (c .before .before .before .side2 .ensures .number))
+negated-requires c κs = omega (arith, (c .before .before .before .before .before .before .before .before .before .before .before .before .before .before .before .before .before .before .before .before .before .before .before .before .pre .1 .1 .1 .1), (c .before .before .before .before .before .before .before .before .before .before .before .before .before .before .before .query-side .ensures .number), (c .before .before .before .before .before .before .before .before .before .before .before .side .ensures .number), (c .before .before .before .before .before .before .before .product .ensures .number), (c .before .before .before .side2 .ensures .number))
 
 sum-requires : tie.Need-sum-requires
 unfolding body
-sum-requires c κs = omega (arith, (c .before .before .before .before .before .before .before .before .before .before .before .before .before .before .before .before .before .before .before .before .before .before .before .before .before .before .before .pre .1 .1 .1 .1), (c .before .before .before .before .before .before .before .before .before .before .before .before .before .before .before .before .before .before .before .query-side .ensures .number), (c .before .before .before .before .before .before .before .before .before .before .before .before .before .before .before .side .ensures .number), (c .before .before .before .before .before .before .before .before .before .before .before .product .ensures .number), (c .before .before .before .before .before .before .before .side2 .ensures .number), (c .before .before .before .negated .ensures .number))
+sum-requires c κs = omega (arith, (c .before .before .before .before .before .before .before .before .before .before .before .before .before .before .before .before .before .before .before .before .before .before .before .before .before .before .before .before .pre .1 .1 .1 .1), (c .before .before .before .before .before .before .before .before .before .before .before .before .before .before .before .before .before .before .before .query-side .ensures .number), (c .before .before .before .before .before .before .before .before .before .before .before .before .before .before .before .side .ensures .number), (c .before .before .before .before .before .before .before .before .before .before .before .product .ensures .number), (c .before .before .before .before .before .before .before .side2 .ensures .number), (c .before .before .before .negated .ensures .number))
 
 query-side-requires-2 : tie.Need-query-side-requires-2
 unfolding body
-query-side-requires-2 c κs = ((c .before .before .before .before .before .before .before .before .before .before .before .before .before .before .before .before .before .before .before .before .before .before .before .before .before .before .before .before .before .before .before .pre .0), (omega (arith, (c .before .before .before .before .before .before .before .before .before .before .before .before .before .before .before .before .before .before .before .before .before .before .before .before .before .before .before .before .before .before .before .pre .1 .1 .1 .0)), ((c .before .before .before .before .before .before .before .before .before .before .before .before .before .before .before .before .before .before .before .before .before .before .before .before .before .before .before .before .before .before .before .pre .1 .0 .few-user), omega (arith, (c .before .before .before .before .before .before .before .before .before .before .before .before .before .before .before .before .before .before .before .before .before .before .before .before .before .before .before .before .before .before .before .pre .1 .1 .1 .1), (c .before .before .before .before .before .before .before .before .before .before .before .before .before .before .before .before .before .before .before .before .before .before .before .query-side .ensures .number), (c .before .before .before .before .before .before .before .before .before .before .before .before .before .before .before .before .before .before .before .side .ensures .number), (c .before .before .before .before .before .before .before .before .before .before .before .before .before .before .before .product .ensures .number), (c .before .before .before .before .before .before .before .before .before .before .before .side2 .ensures .number), (c .before .before .before .before .before .before .before .negated .ensures .number), (c .before .before .before .sum .ensures .number)))))
+query-side-requires-2 c κs = ((c .before .before .before .before .before .before .before .before .before .before .before .before .before .before .before .before .before .before .before .before .before .before .before .before .before .before .before .before .before .before .before .before .pre .0), (omega (arith, (c .before .before .before .before .before .before .before .before .before .before .before .before .before .before .before .before .before .before .before .before .before .before .before .before .before .before .before .before .before .before .before .before .pre .1 .1 .1 .0)), ((c .before .before .before .before .before .before .before .before .before .before .before .before .before .before .before .before .before .before .before .before .before .before .before .before .before .before .before .before .before .before .before .before .pre .1 .0 .few-user), omega (arith, (c .before .before .before .before .before .before .before .before .before .before .before .before .before .before .before .before .before .before .before .before .before .before .before .before .before .before .before .before .before .before .before .before .pre .1 .1 .1 .1), (c .before .before .before .before .before .before .before .before .before .before .before .before .before .before .before .before .before .before .before .before .before .before .before .query-side .ensures .number), (c .before .before .before .before .before .before .before .before .before .before .before .before .before .before .before .before .before .before .before .side .ensures .number), (c .before .before .before .before .before .before .before .before .before .before .before .before .before .before .before .product .ensures .number), (c .before .before .before .before .before .before .before .before .before .before .before .side2 .ensures .number), (c .before .before .before .before .before .before .before .negated .ensures .number), (c .before .before .before .sum .ensures .number)))))
 
 sum-requires-2 : tie.Need-sum-requires-2
 unfolding body
-sum-requires-2 c κs = omega (arith, (c .before .before .before .before .before .before .before .before .before .before .before .before .before .before .before .before .before .before .before .before .before .before .before .before .before .before .before .before .before .before .before .before .before .before .before .pre .1 .1 .1 .1), (c .before .before .before .before .before .before .before .before .before .before .before .before .before .before .before .before .before .before .before .before .before .before .before .before .before .before .before .query-side .ensures .number), (c .before .before .before .before .before .before .before .before .before .before .before .before .before .before .before .before .before .before .before .before .before .before .before .side .ensures .number), (c .before .before .before .before .before .before .before .before .before .before .before .before .before .before .before .before .before .before .before .product .ensures .number), (c .before .before .before .before .before .before .before .before .before .before .before .before .before .before .before .side2 .ensures .number), (c .before .before .before .before .before .before .before .before .before .before .before .negated .ensures .number), (c .before .before .before .before .before .before .before .sum .ensures .number), (c .before .before .before .query-side2 .ensures .number))
+sum-requires-2 c κs = omega (arith, (c .before .before .before .before .before .before .before .before .before .before .before .before .before .before .before .before .before .before .before .before .before .before .before .before .before .before .before .before .before .before .before .before .before .before .before .before .pre .1 .1 .1 .1), (c .before .before .before .before .before .before .before .before .before .before .before .before .before .before .before .before .before .before .before .before .before .before .before .before .before .before .before .query-side .ensures .number), (c .before .before .before .before .before .before .before .before .before .before .before .before .before .before .before .before .before .before .before .before .before .before .before .side .ensures .number), (c .before .before .before .before .before .before .before .before .before .before .before .before .before .before .before .before .before .before .before .product .ensures .number), (c .before .before .before .before .before .before .before .before .before .before .before .before .before .before .before .side2 .ensures .number), (c .before .before .before .before .before .before .before .before .before .before .before .negated .ensures .number), (c .before .before .before .before .before .before .before .sum .ensures .number), (c .before .before .before .query-side2 .ensures .number))
 
 same-length : tie.Need-same-length
 same-length c = omega (arith, (c .before .before .before .before .before .before .before .before .before .before .before .before .before .before .before .before .before .before .before .before .before .before .before .before .before .before .before .before .before .out .given), (c .before .before .before .before .before .before .before .before .before .before .before .before .before .before .before .before .before .before .before .before .before .before .before .before .before .out2 .given), (c .before .before .before .before .before .before .before .before .before .before .before .before .before .before .before .before .before .before .before .before .before .out3 .given), (c .before .before .before .before .before .before .before .before .before .before .before .before .before .before .before .before .before .out4 .given), (c .before .before .before .before .before .before .before .before .before .before .before .before .before .out5 .given), (c .before .before .before .before .before .before .before .before .before .out6 .given), (c .before .before .before .before .before .out7 .given), (c .before .out8 .given))
@@ -72,11 +69,10 @@ lookup-constraint-spec =
     add-h
     add-h-2
     add-h-3
+    add-start
     query-side-requires
-    add-side
     side-requires
     product-requires
-    add-side-2
     side-requires-2
     negated-requires
     sum-requires

@@ -11,7 +11,7 @@ side-powers-requires : tie.Need-side-powers-requires
 side-powers-requires c κs =
     let entry = c .before .before .before .before in
     let a = (entry .args) in
-    let q = trees.side-size (a .user .now) (a .pairs .now) (a .beta) (a .s) (a .w) in
+    let q = trees.side-size (a .user .now) (a .pairs .now) (a .beta) (a .run .start) (a .run .count) in
     ((entry .pre .0), ((entry .pre .1 .0), omega (arith, (entry .pre .1 .1 .1))))
 
 add-challenge : tie.Need-add-challenge
@@ -21,7 +21,7 @@ challenge-requires : tie.Need-challenge-requires
 challenge-requires c κs =
     let entry = c .before .before .before .before .before .before .before .before in
     let a = (entry .args) in
-    let q = trees.side-size (a .user .now) (a .pairs .now) (a .beta) (a .s) (a .w) in
+    let q = trees.side-size (a .user .now) (a .pairs .now) (a .beta) (a .run .start) (a .run .count) in
     let x = (c .before .before .before .side-powers .ensures .number) in
     omega (arith, (entry .pre .1 .1 .1))
 
@@ -30,7 +30,7 @@ unfolding body
 sum-requires c κs =
     let entry = c .before .before .before .before .before .before .before .before .before .before .before .before in
     let a = (entry .args) in
-    let q = trees.side-size (a .user .now) (a .pairs .now) (a .beta) (a .s) (a .w) in
+    let q = trees.side-size (a .user .now) (a .pairs .now) (a .beta) (a .run .start) (a .run .count) in
     let x = (c .before .before .before .before .before .before .before .side-powers .ensures .number) in
     omega (arith, (entry .pre .1 .1 .1), (c .before .before .before .challenge .ensures .number))
 
