@@ -2,7 +2,8 @@
 use hyperplonk_build::build;
 use hyperplonk_row_sum::row_sum;
 ghost use mathlib.Core.Path.{_≡_};
-ghost use Rattle.hyperplonk_build_and_sum.specs.Call.{buildAndSumOf};
+ghost use Rattle.hyperplonk_spec.specs.Build.{lentBuild};
+ghost use Rattle.hyperplonk_build_and_sum.specs.Call.{Left, buildAndSumOf};
 ghost use Rattle.hyperplonk_build_and_sum.specs.Demand.{DemandThreeWhole};
 
 // What the call returns: the building call's number and sizes, and 0, if it was refused; else the row sum's number and sum, and those sizes.
@@ -25,8 +26,7 @@ pub fn build_and_sum<'a>(
     columns: &mut [u64],
     nodes: &mut [u64],
 ) -> Summed
-    ensures { λ r. ⌜ record { answer = r; columns = now (columns .exit); nodes = now (nodes .exit) } ≡ buildAndSumOf (now (circuit .entry)) (now (instance .entry)) (now (witness .entry)) (now (challenges .entry)) (now (y .entry)) (now (columns .entry)) (now (nodes .entry)) ⌝ }
-    ensures demanded { λ r. ⌜ DemandThreeWhole (now (circuit .entry)) (now (instance .entry)) (now (witness .entry)) (now (challenges .entry)) (now (y .entry)) (now (columns .entry)) (now (nodes .entry)) (record { answer = r; columns = now (columns .exit); nodes = now (nodes .exit) }) ⌝ }
+    ensures { λ r. ⌜ (let lent = lentBuild (now (circuit .entry)) (now (instance .entry)) (now (witness .entry)) (now (challenges .entry)) (now (columns .entry)) (now (nodes .entry)) in let left : Left = record { answer = r; columns = now (columns .exit); nodes = now (nodes .exit) } in (left ≡ buildAndSumOf lent (now (y .entry))) × DemandThreeWhole lent (now (y .entry)) left) ⌝ }
 {
     let mut count = challenges.len();
     if count > 0 {
