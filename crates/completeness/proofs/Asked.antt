@@ -16,8 +16,8 @@ use Rattle.backend.specs.Circuit.{circuitOf, rowsOf, numWitness, numUser}
 use Rattle.backend.specs.Questions.{circuitQuestions, small}
 use Rattle.backend.proofs.Passed.{numbered}
 use Rattle.preprocessor.specs.Compose.{composedWords}
-use Rattle.hyperplonk_spec.specs.Build.{Lent, buildQuestions, checkBuild, columnWords, q12, q13}
-use Rattle.hyperplonk_spec.specs.RowSum.{LentSum, sumQuestions, checkSum, q16}
+use Rattle.hyperplonk_spec.specs.Build.{Lent, buildQuestions, checkBuild, columnWords, q12, q13, lentBuild}
+use Rattle.hyperplonk_spec.specs.RowSum.{LentSum, sumQuestions, checkSum, q16, lentSum}
 
 -- ---- words below p
 pub smalls : (ws : List ℕ) → allOf small ws ≡ true → All (λ w. w < P) ws
@@ -36,7 +36,7 @@ pub record Lending (ws instances witness challenges : List ℕ) : Type 0 where
   pub witness-small : All (λ w. w < P) witness
   pub challenges-small : All (λ w. w < P) challenges
 
-pub lending : (ws instances witness challenges columns nodes : List ℕ) → checkBuild ws instances witness challenges columns nodes ≡ 0
+pub lending : (ws instances witness challenges columns nodes : List ℕ) → checkBuild (lentBuild ws instances witness challenges columns nodes) ≡ 0
     → Lending ws instances witness challenges
 unfolding checkBuild buildQuestions q12 q13
 lending ws instances witness challenges columns nodes e =
@@ -61,7 +61,7 @@ lending ws instances witness challenges columns nodes e =
 -- the row sum's questions are yes
 pub sum-yes : (ws instances witness challenges columns y : List ℕ) (α : ℕ) → Lending ws instances witness challenges
     → length columns ≡ columnWords (circuitOf ws) → All (λ w. w < P) columns → α < P → length y ≡ circuitOf ws .k → All (λ w. w < P) y
-    → checkSum ws witness columns (composedWords (circuitOf ws)) (challenges ++ (α ∷ [])) y ≡ 0
+    → checkSum (lentSum ws witness columns (composedWords (circuitOf ws)) (challenges ++ (α ∷ [])) y) ≡ 0
 unfolding checkSum sumQuestions q16 firstNo
 sum-yes ws instances witness challenges columns y α lent cl cs αs yl ys =
     first-append (map (askedOf (λ (l : LentSum). l .circuit)) circuitQuestions) _ _

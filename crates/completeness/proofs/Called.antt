@@ -15,8 +15,8 @@ use Rattle.preprocessor.specs.Compose.{composedWords}
 use Rattle.preprocessor.proofs.Composed.{composed-length}
 use Rattle.prover.specs.Log.{Log}
 use Rattle.prover.specs.Columns.{allCovered, writtenPolys}
-use Rattle.hyperplonk_spec.specs.Build.{Output, logOf, wordsOf, checkBuild, made, zeroed, buildOf}
-use Rattle.hyperplonk_spec.specs.RowSum.{rowSumOf}
+use Rattle.hyperplonk_spec.specs.Build.{Output, logOf, wordsOf, checkBuild, made, zeroed, buildOf, lentBuild}
+use Rattle.hyperplonk_spec.specs.RowSum.{rowSumOf, lentSum}
 use Rattle.hyperplonk_spec.specs.declared.RowSum.{RowSum}
 use Rattle.hyperplonk_spec.proofs.Building.{columns-length, refused-by, fifteen-by, built-by}
 use Rattle.hyperplonk_spec.specs.BuildAndSum.{beforeAlpha, alphaOf, Left, sized, sumOfBuilt, buildAndSumOf}
@@ -30,7 +30,7 @@ with-alpha challenges h =
 -- ---- a build that gives 0 has written the words that it says
 module _ (ws instances witness challenges columns nodes : List ℕ) where
   abbrev out : Output
-  out = buildOf ws instances witness challenges columns nodes
+  out = buildOf (lentBuild ws instances witness challenges columns nodes)
 
   pub record Fits (o : Output) : Type 0 where
     pub columns-fit : o .answer .«column_words» ≤ length (o .columns)
@@ -54,7 +54,7 @@ module _ (ws instances witness challenges columns nodes : List ℕ) where
   is-fifteen = refl
 
   fits : out .answer .number ≡ 0 → Fits out
-  fits z = go (checkBuild ws instances witness challenges columns nodes) refl (allCovered 𝔾 (logOf ws instances witness challenges)) refl
+  fits z = go (checkBuild (lentBuild ws instances witness challenges columns nodes)) refl (allCovered 𝔾 (logOf ws instances witness challenges)) refl
     where
       late : (n : ℕ) → n ≡ 15 → n ≡ 0 → ⊥
       late n a b = omega arith
@@ -62,7 +62,7 @@ module _ (ws instances witness challenges columns nodes : List ℕ) where
       early : (m n : ℕ) → m ≡ suc n → m ≡ 0 → ⊥
       early m n a b = omega arith
 
-      go : (n : ℕ) → checkBuild ws instances witness challenges columns nodes ≡ n → (t : Bool)
+      go : (n : ℕ) → checkBuild (lentBuild ws instances witness challenges columns nodes) ≡ n → (t : Bool)
           → allCovered 𝔾 (logOf ws instances witness challenges) ≡ t
           → Fits out
       go zero e true f = subst Fits (sym (built-by ws instances witness challenges columns nodes e f)) made-fits
@@ -78,15 +78,15 @@ module _ (ws instances witness challenges columns nodes : List ℕ) where
 -- ---- the call
 module _ (ws instances witness challenges y columns nodes : List ℕ) where
   abbrev built : Output
-  built = buildOf ws instances witness (beforeAlpha challenges) columns nodes
+  built = buildOf (lentBuild ws instances witness (beforeAlpha challenges) columns nodes)
 
   -- the build is lent as many challenges as stand before α
-  pub built-is : (n : ℕ) (o : Output) → n ≡ length challenges - 1 → o ≡ buildOf ws instances witness (take (n - 0) challenges) columns nodes
+  pub built-is : (n : ℕ) (o : Output) → n ≡ length challenges - 1 → o ≡ buildOf (lentBuild ws instances witness (take (n - 0) challenges) columns nodes)
       → o ≡ built
   unfolding beforeAlpha
   built-is n o e h =
       h
-      ∙ ap (λ (m : ℕ). buildOf ws instances witness (take m challenges) columns nodes) {x = n - 0} {y = length challenges - 1} (omega arith)
+      ∙ ap (λ (m : ℕ). buildOf (lentBuild ws instances witness (take m challenges) columns nodes)) {x = n - 0} {y = length challenges - 1} (omega arith)
 
   -- by what the build returned and left
   abbrev leftBy : Output → Left
@@ -99,7 +99,7 @@ module _ (ws instances witness challenges y columns nodes : List ℕ) where
         nodes = o .nodes;
       }
 
-  pub left-is : leftBy built ≡ buildAndSumOf ws instances witness challenges y columns nodes
+  pub left-is : leftBy built ≡ buildAndSumOf (lentBuild ws instances witness challenges columns nodes) y
   unfolding buildAndSumOf
   left-is = refl
 
@@ -111,7 +111,7 @@ module _ (ws instances witness challenges y columns nodes : List ℕ) where
         columns = o .columns;
         nodes = o .nodes;
       })
-      (buildAndSumOf ws instances witness challenges y columns nodes)
+      (buildAndSumOf (lentBuild ws instances witness challenges columns nodes) y)
   refused-left o e h =
       sym
       (ap
@@ -129,9 +129,9 @@ module _ (ws instances witness challenges y columns nodes : List ℕ) where
   -- the build gave 0, and the row sum answered
   pub summed-left : (o : Output) (s : RowSum) → o ≡ built → o .answer .number ≡ 0
       → s
-      ≡ rowSumOf ws witness (take (o .answer .«column_words») (o .columns)) (take (o .answer .nodes * 4) (o .nodes)) challenges y
+      ≡ rowSumOf (lentSum ws witness (take (o .answer .«column_words») (o .columns)) (take (o .answer .nodes * 4) (o .nodes)) challenges y)
       → _≡_ {A = Left} (record { answer = sized (o .answer) s; columns = o .columns; nodes = o .nodes })
-      (buildAndSumOf ws instances witness challenges y columns nodes)
+      (buildAndSumOf (lentBuild ws instances witness challenges columns nodes) y)
   unfolding sumOfBuilt
   summed-left o s e h r =
       ap (λ (s : RowSum). record { answer = sized (o .answer) s; columns = o .columns; nodes = o .nodes }) r
@@ -151,10 +151,10 @@ module _ (ws instances witness challenges y columns nodes : List ℕ) where
   -- the same, with the lengths as the code lends them
   pub summed-code : (o : Output) (s : RowSum) → o ≡ built → o .answer .number ≡ 0
       → s
-      ≡ rowSumOf ws witness (take (o .answer .«column_words» - 0) (o .columns)) (take (o .answer .nodes * 4 - 0) (o .nodes)) challenges y
+      ≡ rowSumOf (lentSum ws witness (take (o .answer .«column_words» - 0) (o .columns)) (take (o .answer .nodes * 4 - 0) (o .nodes)) challenges y)
       → _≡_ {A = Left} (record { answer = sized (o .answer) s; columns = o .columns; nodes = o .nodes })
-      (buildAndSumOf ws instances witness challenges y columns nodes)
+      (buildAndSumOf (lentBuild ws instances witness challenges columns nodes) y)
   summed-code o s e h r =
       let a : o .answer .«column_words» - 0 ≡ o .answer .«column_words» = omega arith in
       let b : o .answer .nodes * 4 - 0 ≡ o .answer .nodes * 4 = omega arith in
-      summed-left o s e h (r ∙ ap₂ (λ (m n : ℕ). rowSumOf ws witness (take m (o .columns)) (take n (o .nodes)) challenges y) a b)
+      summed-left o s e h (r ∙ ap₂ (λ (m n : ℕ). rowSumOf (lentSum ws witness (take m (o .columns)) (take n (o .nodes)) challenges y)) a b)

@@ -19,8 +19,8 @@ use Rattle.preprocessor.specs.Compose.{compose, composedWords, composedNodes}
 use Rattle.prover.specs.Log.{Log}
 use Rattle.prover.specs.Columns.{allCovered, writtenPolys, composedEnvironment}
 use Rattle.prover.proofs.Words.{words-small}
-use Rattle.hyperplonk_spec.specs.Build.{Output, logOf, wordsOf, checkBuild, buildOf, made, zeroed}
-use Rattle.hyperplonk_spec.specs.RowSum.{rowSumOf, sumOf, environmentFromWords}
+use Rattle.hyperplonk_spec.specs.Build.{Output, logOf, wordsOf, checkBuild, buildOf, made, zeroed, lentBuild}
+use Rattle.hyperplonk_spec.specs.RowSum.{rowSumOf, sumOf, environmentFromWords, lentSum}
 use Rattle.hyperplonk_spec.specs.Meaning.{Each, Admitted, Premises, Conclusions}
 use Rattle.hyperplonk_spec.specs.Demand.{Succeeds, Demand3, DemandThreeAt, DemandThree}
 use Rattle.field.proofs.Elements.{val-zero}
@@ -33,7 +33,7 @@ use Rattle.completeness.proofs.RowSumReads.{lent-value}
 use Rattle.completeness.proofs.DemandThreeOf.{demand-3-of, concluded}
 use Rattle.completeness.specs.Claims.{RowSumZero}
 
-module _ (ws instances witness challenges columns nodes : List ℕ) (asked : checkBuild ws instances witness challenges columns nodes ≡ 0) where
+module _ (ws instances witness challenges columns nodes : List ℕ) (asked : checkBuild (lentBuild ws instances witness challenges columns nodes) ≡ 0) where
   abbrev log : Log 𝔾
   log = logOf ws instances witness challenges
 
@@ -55,7 +55,7 @@ module _ (ws instances witness challenges columns nodes : List ℕ) (asked : che
       }
 
   abbrev out : Output
-  out = buildOf ws instances witness challenges columns nodes
+  out = buildOf (lentBuild ws instances witness challenges columns nodes)
 
   is-fifteen : allCovered 𝔾 log ≡ false → out .answer .number ≡ 15
   unfolding zeroed
@@ -86,7 +86,7 @@ module _ (ws instances witness challenges columns nodes : List ℕ) (asked : che
   lent = wordsOf (rowsOf (circuitOf ws)) (writtenPolys 𝔾 log)
 
   -- the row sum over what was written
-  sum-zero : Conclusions 𝔾 log → (α : ℕ) (y : List ℕ) → sumOf ws witness lent (composedWords (circuitOf ws)) (challenges ++ (α ∷ [])) y ≡ 𝔾 .zero
+  sum-zero : Conclusions 𝔾 log → (α : ℕ) (y : List ℕ) → sumOf (lentSum ws witness lent (composedWords (circuitOf ws)) (challenges ++ (α ∷ [])) y) ≡ 𝔾 .zero
   unfolding sumOf logOf
   sum-zero c α y =
       upTo-cong (𝔾 .add) (𝔾 .zero) _ (valueAt 𝔾 (composedEnvironment 𝔾 log (el α) (λ i. el (getD y i 0))) (compose (circuitOf ws))) (rowsOf (circuitOf ws))
@@ -96,7 +96,7 @@ module _ (ws instances witness challenges columns nodes : List ℕ) (asked : che
       ∙ c .composed-sum (el α) (λ i. el (getD y i 0))
 
   row-sum : Conclusions 𝔾 log → (α : ℕ) (y : List ℕ) → α < P → length y ≡ circuitOf ws .k → Each 0 y (λ v. v < P)
-      → rowSumOf ws witness lent (composedWords (circuitOf ws)) (challenges ++ (α ∷ [])) y ≡ record { number = 0; sum = 0 }
+      → rowSumOf (lentSum ws witness lent (composedWords (circuitOf ws)) (challenges ++ (α ∷ [])) y) ≡ record { number = 0; sum = 0 }
   unfolding rowSumOf logOf
   row-sum c α y a h s =
       rw (
@@ -114,7 +114,7 @@ module _ (ws instances witness challenges columns nodes : List ℕ) (asked : che
         nodes-read = ap (λ (ns : List ℕ). exprOf ns (composedNodes (circuitOf ws) - 1)) (w .nodes-written) ∙ reads-back ws;
         concluded = c;
         row-sum = λ α y a h s.
-            ap₂ (λ (cs ns : List ℕ). rowSumOf ws witness cs ns (challenges ++ (α ∷ [])) y) (w .columns-written) (w .nodes-written)
+            ap₂ (λ (cs ns : List ℕ). rowSumOf (lentSum ws witness cs ns (challenges ++ (α ∷ [])) y)) (w .columns-written) (w .nodes-written)
             ∙ row-sum c α y a h s;
       }
 
@@ -134,8 +134,8 @@ demand-three ws instances witness challenges columns nodes asked = demand-3 ws i
 
 -- of a call that returned and left what is defined
 pub demand-three-at : (ws instances witness challenges columns nodes : List ℕ) (output : Output)
-    → output ≡ buildOf ws instances witness challenges columns nodes
-    → DemandThreeAt ws instances witness challenges columns nodes output
+    → output ≡ buildOf (lentBuild ws instances witness challenges columns nodes)
+    → DemandThreeAt (lentBuild ws instances witness challenges columns nodes) output
 demand-three-at ws instances witness challenges columns nodes output e asked =
     subst (λ (o : Output). Demand3 ws instances witness challenges columns nodes o) (sym e)
     (demand-3 ws instances witness challenges columns nodes asked)

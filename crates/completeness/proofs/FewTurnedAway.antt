@@ -20,7 +20,7 @@ use Rattle.backend.specs.Questions.{largestK}
 use Rattle.backend.proofs.Sections.{body-length}
 use Rattle.backend.proofs.Passed.{Yes, yes-all}
 use Rattle.prover.specs.Log.{Log}
-use Rattle.hyperplonk_spec.specs.Build.{logOf, checkBuild}
+use Rattle.hyperplonk_spec.specs.Build.{logOf, checkBuild, lentBuild}
 use Rattle.hyperplonk_spec.specs.Meaning.{Premises}
 use Rattle.hyperplonk_spec.specs.Insurer.{drawn, denominators, Good, NoneZero, Passes, FewTurnedAway, OddsLimit}
 use Rattle.completeness.proofs.Asked.{lending}
@@ -66,7 +66,7 @@ module _ (ws instances witness user : List ℕ) (β : ℕ) where
     log-is = rw (user-same γ, user-same 0, β-same γ, β-same 0, γ-is)
 
   pub few-turned : (γ : ℕ) → All (λ u. γ ≢ u) (map val (unlucky 𝔾 (log 0))) → (columns nodes : List ℕ)
-      → checkBuild ws instances witness (words γ) columns nodes ≡ 0 → Good 𝔾 (log γ) → Passes ws instances witness (words γ) columns nodes
+      → checkBuild (lentBuild ws instances witness (words γ) columns nodes) ≡ 0 → Good 𝔾 (log γ) → Passes ws instances witness (words γ) columns nodes
   few-turned γ a columns nodes asked g =
       let l = lending ws instances witness (words γ) columns nodes asked in
       let e : length user ≡ numUser (circuitOf ws) = (let p = l .challenges-length in let q = length-append user (β ∷ γ ∷ []) in omega arith) in

@@ -17,7 +17,7 @@ use Rattle.backend.specs.Constraints.{inputsOf, tablesOf}
 use Rattle.prover.specs.Lookup.{covered}
 use Rattle.prover.specs.Log.{Log}
 use Rattle.prover.specs.Columns.{powerSum, instancePolys, preprocessPolys, witnessPolys, givenPolys, userEnvironment, compressedAt, inputAt, tableAt, allCovered}
-use Rattle.hyperplonk_spec.specs.Build.{Output, logOf, checkBuild, buildOf, made, zeroed}
+use Rattle.hyperplonk_spec.specs.Build.{Output, logOf, checkBuild, buildOf, made, zeroed, lentBuild}
 use Rattle.hyperplonk_spec.specs.Meaning.{Premises}
 use Rattle.hyperplonk_spec.specs.Insurer.{noPair, drawn, ReadingsStand, ReadingsCovered, SumsToZero, GoodLog, ZeroWhen}
 use Rattle.hyperplonk_spec.proofs.Building.{refused-by, fifteen-by, built-by}
@@ -65,27 +65,27 @@ module _ (ws instances witness challenges columns nodes : List ℕ) where
   log = logOf ws instances witness challenges
 
   abbrev out : Output
-  out = buildOf ws instances witness challenges columns nodes
+  out = buildOf (lentBuild ws instances witness challenges columns nodes)
 
-  pub zero-by : checkBuild ws instances witness challenges columns nodes ≡ 0 → allCovered 𝔾 log ≡ true → out .answer .number ≡ 0
+  pub zero-by : checkBuild (lentBuild ws instances witness challenges columns nodes) ≡ 0 → allCovered 𝔾 log ≡ true → out .answer .number ≡ 0
   unfolding made
   zero-by a e = ap (λ (o : Output). o .answer .number) (built-by ws instances witness challenges columns nodes a e)
 
-  fifteen-is : checkBuild ws instances witness challenges columns nodes ≡ 0 → allCovered 𝔾 log ≡ false → out .answer .number ≡ 15
+  fifteen-is : checkBuild (lentBuild ws instances witness challenges columns nodes) ≡ 0 → allCovered 𝔾 log ≡ false → out .answer .number ≡ 15
   unfolding zeroed
   fifteen-is a e = ap (λ (o : Output). o .answer .number) (fifteen-by ws instances witness challenges columns nodes a e)
 
-  pub asked-yes : out .answer .number ≡ 0 → checkBuild ws instances witness challenges columns nodes ≡ 0
-  asked-yes z = go (checkBuild ws instances witness challenges columns nodes) refl
+  pub asked-yes : out .answer .number ≡ 0 → checkBuild (lentBuild ws instances witness challenges columns nodes) ≡ 0
+  asked-yes z = go (checkBuild (lentBuild ws instances witness challenges columns nodes)) refl
     where
-      go : (n : ℕ) → checkBuild ws instances witness challenges columns nodes ≡ n → checkBuild ws instances witness challenges columns nodes ≡ 0
+      go : (n : ℕ) → checkBuild (lentBuild ws instances witness challenges columns nodes) ≡ n → checkBuild (lentBuild ws instances witness challenges columns nodes) ≡ 0
       go zero e = e
       go (suc n) e = absurd (bad (sym (ap (λ (o : Output). o .answer .number) (refused-by ws instances witness challenges columns nodes n e)) ∙ z))
         where
           bad : suc n ≡ 0 → ⊥
           bad q = omega arith
 
-  pub covered-yes : checkBuild ws instances witness challenges columns nodes ≡ 0 → out .answer .number ≢ 15 → allCovered 𝔾 log ≡ true
+  pub covered-yes : checkBuild (lentBuild ws instances witness challenges columns nodes) ≡ 0 → out .answer .number ≢ 15 → allCovered 𝔾 log ≡ true
   covered-yes a n = go (allCovered 𝔾 log) refl
     where
       go : (t : Bool) → allCovered 𝔾 log ≡ t → allCovered 𝔾 log ≡ true
@@ -95,10 +95,10 @@ module _ (ws instances witness challenges columns nodes : List ℕ) where
   not-15 : out .answer .number ≡ 0 → out .answer .number ≢ 15
   not-15 z q = omega arith
 
-  pub zero-when-at : (out .answer .number ≡ 0) ↔ ((checkBuild ws instances witness challenges columns nodes ≡ 0) × (out .answer .number ≢ 15))
+  pub zero-when-at : (out .answer .number ≡ 0) ↔ ((checkBuild (lentBuild ws instances witness challenges columns nodes) ≡ 0) × (out .answer .number ≢ 15))
   zero-when-at = (λ z. (asked-yes z, not-15 z), λ p. zero-by (p .0) (covered-yes (p .0) (p .1)))
 
-  pub passes-by : checkBuild ws instances witness challenges columns nodes ≡ 0 → out .answer .number ≡ 0 → Premises 𝔾 log
+  pub passes-by : checkBuild (lentBuild ws instances witness challenges columns nodes) ≡ 0 → out .answer .number ≡ 0 → Premises 𝔾 log
       → SumsToZero ws instances witness challenges columns nodes
   passes-by a z p = demand-three ws instances witness challenges columns nodes a .otherwise p (not-15 z) .row-sum
 

@@ -24,7 +24,7 @@ use Rattle.prover.specs.Log.{Log}
 use Rattle.prover.specs.Columns.{inputAt, tableAt, countAt, mAt, lookupHAt, allCovered, instancePolys, permutationPolys, compressedPolys, mPolys, hPolys, writtenPolys}
 use Rattle.prover.proofs.Words.{words-get, words-length}
 use Rattle.prover.proofs.Lengths.{instances-length, permutations-length, compressed-length, m-length, h-length, written-length}
-use Rattle.hyperplonk_spec.specs.Build.{Output, wordsOf, logOf, checkBuild, buildOf, made}
+use Rattle.hyperplonk_spec.specs.Build.{Output, wordsOf, logOf, checkBuild, buildOf, made, lentBuild}
 use Rattle.hyperplonk_spec.specs.Papers.{fraction, paperH}
 use Rattle.hyperplonk_spec.specs.Insurer.{mWord, hWord, CountsUnspoilt, RowListedTwice}
 use Rattle.hyperplonk_spec.proofs.Building.{built-by}
@@ -80,7 +80,7 @@ module _ (g : Log 𝔾) where
   unfolding countAt multiplicity
   count-small p b = subst (λ (n : ℕ). countAt 𝔾 g p b ≤ n) (column-length (λ (i : ℕ). i) rows) (count-le _ (below rows))
 
-module _ (ws instances witness challenges columns nodes : List ℕ) (z : buildOf ws instances witness challenges columns nodes .answer .number ≡ 0) where
+module _ (ws instances witness challenges columns nodes : List ℕ) (z : buildOf (lentBuild ws instances witness challenges columns nodes) .answer .number ≡ 0) where
   abbrev log : Log 𝔾
   log = logOf ws instances witness challenges
 
@@ -88,9 +88,9 @@ module _ (ws instances witness challenges columns nodes : List ℕ) (z : buildOf
   c = circuitOf ws
 
   abbrev left : List ℕ
-  left = buildOf ws instances witness challenges columns nodes .columns
+  left = buildOf (lentBuild ws instances witness challenges columns nodes) .columns
 
-  pub asked : checkBuild ws instances witness challenges columns nodes ≡ 0
+  pub asked : checkBuild (lentBuild ws instances witness challenges columns nodes) ≡ 0
   asked = asked-yes ws instances witness challenges columns nodes z
 
   all-covered : allCovered 𝔾 log ≡ true

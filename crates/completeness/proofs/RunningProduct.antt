@@ -35,7 +35,7 @@ use Rattle.prover.specs.Columns.{
   zAt,
 }
 use Rattle.prover.proofs.Lengths.{instances-length, permutations-length, compressed-length, m-length, h-length, written-length}
-use Rattle.hyperplonk_spec.specs.Build.{logOf, buildOf}
+use Rattle.hyperplonk_spec.specs.Build.{logOf, buildOf, lentBuild}
 use Rattle.hyperplonk_spec.specs.Meaning.{Admitted}
 use Rattle.hyperplonk_spec.specs.Copies.{copiedCell, σ, wholeRunning, paperZ, cellsBefore}
 use Rattle.hyperplonk_spec.specs.RunningProduct.{zWord, ProductCloses, RunningProduct}
@@ -94,7 +94,7 @@ module _ (g : Log 𝔾) where
           less : (rows : ℕ) → suc (suc t) ≡ rows → suc t ≡ rows - 1
           less rows m = omega arith
 
-module _ (ws instances witness challenges columns nodes : List ℕ) (z : buildOf ws instances witness challenges columns nodes .answer .number ≡ 0) where
+module _ (ws instances witness challenges columns nodes : List ℕ) (z : buildOf (lentBuild ws instances witness challenges columns nodes) .answer .number ≡ 0) where
   abbrev log : Log 𝔾
   log = logOf ws instances witness challenges
 
@@ -102,7 +102,7 @@ module _ (ws instances witness challenges columns nodes : List ℕ) (z : buildOf
   c = circuitOf ws
 
   abbrev left : List ℕ
-  left = buildOf ws instances witness challenges columns nodes .columns
+  left = buildOf (lentBuild ws instances witness challenges columns nodes) .columns
 
   ad : Admitted 𝔾 log
   ad = admitted ws instances witness challenges columns nodes (asked ws instances witness challenges columns nodes z)

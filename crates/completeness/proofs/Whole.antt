@@ -15,8 +15,8 @@ use Rattle.backend.specs.Circuit.{Circuit, circuitOf}
 use Rattle.backend.specs.Questions.{circuitQuestions}
 use Rattle.preprocessor.specs.Compose.{composedNodes}
 use Rattle.prover.specs.Log.{Log}
-use Rattle.hyperplonk_spec.specs.Build.{Output, logOf, columnWords, checkBuild, success, buildOf}
-use Rattle.hyperplonk_spec.specs.RowSum.{q16, LentSum, sumQuestions, checkSum, rowSumOf}
+use Rattle.hyperplonk_spec.specs.Build.{Output, logOf, columnWords, checkBuild, success, buildOf, lentBuild}
+use Rattle.hyperplonk_spec.specs.RowSum.{q16, LentSum, sumQuestions, checkSum, rowSumOf, lentSum}
 use Rattle.hyperplonk_spec.specs.declared.Built.{Built}
 use Rattle.hyperplonk_spec.specs.declared.RowSum.{RowSum}
 use Rattle.hyperplonk_spec.specs.Meaning.{Premises}
@@ -34,7 +34,7 @@ module _ (ws witness columns nodes challenges y : List ℕ) (accepted : firstNo 
   lent = record { circuit = ws; witness = witness; columns = columns; nodes = nodes; challenges = challenges; y = y }
 
   abbrev number : ℕ
-  number = checkSum ws witness columns nodes challenges y
+  number = checkSum (lentSum ws witness columns nodes challenges y)
 
   -- question 16 alone
   abbrev last : List (Asked LentSum)
@@ -58,26 +58,26 @@ module _ (ws witness columns nodes challenges y : List ℕ) (accepted : firstNo 
       sixteen : _≡_ {A = ℕ} 16 15 → ⊥
       sixteen e = omega arith
 
-  number-is : rowSumOf ws witness columns nodes challenges y .number ≡ number
+  number-is : rowSumOf (lentSum ws witness columns nodes challenges y) .number ≡ number
   unfolding rowSumOf
   number-is = go (ℕ-discrete number 0)
     where
-      go : Dec (number ≡ 0) → rowSumOf ws witness columns nodes challenges y .number ≡ number
+      go : Dec (number ≡ 0) → rowSumOf (lentSum ws witness columns nodes challenges y) .number ≡ number
       go (yes e) = rw e
       go (no h) = rw (ne-eqb number 0 h)
 
-  pub no-fifteen : rowSumOf ws witness columns nodes challenges y .number ≢ 15
+  pub no-fifteen : rowSumOf (lentSum ws witness columns nodes challenges y) .number ≢ 15
   no-fifteen e = asked-16 (q16 (circuitOf ws) witness columns nodes challenges y) refl (sym number-is ∙ e)
 
-module _ (ws instances witness challenges y columns nodes : List ℕ) (asked : checkBuild ws instances witness (beforeAlpha challenges) columns nodes ≡ 0) where
+module _ (ws instances witness challenges y columns nodes : List ℕ) (asked : checkBuild (lentBuild ws instances witness (beforeAlpha challenges) columns nodes) ≡ 0) where
   abbrev log : Log 𝔾
   log = logOf ws instances witness (beforeAlpha challenges)
 
   abbrev built : Output
-  built = buildOf ws instances witness (beforeAlpha challenges) columns nodes
+  built = buildOf (lentBuild ws instances witness (beforeAlpha challenges) columns nodes)
 
   abbrev after : Left
-  after = buildAndSumOf ws instances witness challenges y columns nodes
+  after = buildAndSumOf (lentBuild ws instances witness challenges columns nodes) y
 
   l : Lending ws instances witness (beforeAlpha challenges)
   l = lending ws instances witness (beforeAlpha challenges) columns nodes asked
@@ -120,16 +120,16 @@ module _ (ws instances witness challenges y columns nodes : List ℕ) (asked : c
     circuit = circuitOf ws
 
     lent-alike : (r : RowSum) (b : Built) (vs : List ℕ) → b ≡ success circuit → vs ≡ challenges
-        → rowSumOf ws witness (take (columnWords circuit) (built .columns)) (take (composedNodes circuit * 4) (built .nodes)) vs y ≡ r
-        → r ≡ rowSumOf ws witness (take (b .«column_words») (built .columns)) (take (b .nodes * 4) (built .nodes)) challenges y
+        → rowSumOf (lentSum ws witness (take (columnWords circuit) (built .columns)) (take (composedNodes circuit * 4) (built .nodes)) vs y) ≡ r
+        → r ≡ rowSumOf (lentSum ws witness (take (b .«column_words») (built .columns)) (take (b .nodes * 4) (built .nodes)) challenges y)
     lent-alike r b vs e c h =
         sym h
-        ∙ ap (λ (v : List ℕ). rowSumOf ws witness (take (columnWords circuit) (built .columns)) (take (composedNodes circuit * 4) (built .nodes)) v y) c
-        ∙ sym (ap (λ (b : Built). rowSumOf ws witness (take (b .«column_words») (built .columns)) (take (b .nodes * 4) (built .nodes)) challenges y) e)
+        ∙ ap (λ (v : List ℕ). rowSumOf (lentSum ws witness (take (columnWords circuit) (built .columns)) (take (composedNodes circuit * 4) (built .nodes)) v y)) c
+        ∙ sym (ap (λ (b : Built). rowSumOf (lentSum ws witness (take (b .«column_words») (built .columns)) (take (b .nodes * 4) (built .nodes)) challenges y)) e)
 
-    left-zero : rowSumOf ws witness (take (columnWords circuit) (built .columns)) (take (composedNodes circuit * 4) (built .nodes))
+    left-zero : rowSumOf (lentSum ws witness (take (columnWords circuit) (built .columns)) (take (composedNodes circuit * 4) (built .nodes))
         (beforeAlpha challenges ++ (alphaOf challenges ∷ []))
-        y
+        y)
         ≡ record { number = 0; sum = 0 }
         → _≡_ {A = Left}
         (record { answer = sized (success circuit) (record { number = 0; sum = 0 }); columns = built .columns; nodes = built .nodes })
@@ -145,10 +145,10 @@ module _ (ws instances witness challenges y columns nodes : List ℕ) (asked : c
         → _≡_ {A = Left}
         (record { answer = sized (success circuit) (record { number = 0; sum = 0 }); columns = built .columns; nodes = built .nodes })
         x
-        → Concluded ws instances witness challenges y columns nodes x
+        → Concluded (lentBuild ws instances witness challenges columns nodes) y x
     unfolding logOf
     concluded x e =
-        subst (λ (x : Left). Concluded ws instances witness challenges y columns nodes x) e
+        subst (λ (x : Left). Concluded (lentBuild ws instances witness challenges columns nodes) y x) e
         (record {
           number = refl;
           sum = refl;
@@ -166,7 +166,7 @@ module _ (ws instances witness challenges y columns nodes : List ℕ) (asked : c
           composed-sum = s .concluded .composed-sum;
         })
 
-  demanded : Demanded ws instances witness challenges y columns nodes after
+  demanded : Demanded (lentBuild ws instances witness challenges columns nodes) y after
   unfolding logOf
   demanded =
       record {
@@ -188,8 +188,8 @@ module _ (ws instances witness challenges y columns nodes : List ℕ) (asked : c
 
 -- of a call that returned and left what is defined
 pub both : (ws instances witness challenges y columns nodes : List ℕ) (left : Left)
-    → left ≡ buildAndSumOf ws instances witness challenges y columns nodes
-    → (left ≡ buildAndSumOf ws instances witness challenges y columns nodes)
-    × DemandThreeWhole ws instances witness challenges y columns nodes left
+    → left ≡ buildAndSumOf (lentBuild ws instances witness challenges columns nodes) y
+    → (left ≡ buildAndSumOf (lentBuild ws instances witness challenges columns nodes) y)
+    × DemandThreeWhole (lentBuild ws instances witness challenges columns nodes) y left
 both ws instances witness challenges y columns nodes left e =
-    (e, λ asked. subst (λ (x : Left). Demanded ws instances witness challenges y columns nodes x) (sym e) (demanded ws instances witness challenges y columns nodes asked))
+    (e, λ asked. subst (λ (x : Left). Demanded (lentBuild ws instances witness challenges columns nodes) y x) (sym e) (demanded ws instances witness challenges y columns nodes asked))

@@ -16,8 +16,8 @@ use Rattle.backend.specs.Questions.{PassedIsWellFormed}
 use Rattle.preprocessor.specs.Compose.{numZ, constraintCut, zCut, composedWords}
 use Rattle.prover.specs.Log.{Log}
 use Rattle.prover.specs.Columns.{allCovered, writtenPolys, userEnvironment, composedEnvironment}
-use Rattle.hyperplonk_spec.specs.Build.{logOf, wordsOf, checkBuild}
-use Rattle.hyperplonk_spec.specs.RowSum.{rowSumOf}
+use Rattle.hyperplonk_spec.specs.Build.{logOf, wordsOf, checkBuild, lentBuild}
+use Rattle.hyperplonk_spec.specs.RowSum.{rowSumOf, lentSum}
 use Rattle.hyperplonk_spec.specs.Meaning.{Each, Admitted, NoCounts, Conclusions, DemandThreeOf}
 use Rattle.hyperplonk_spec.specs.Demand.{DemandThree}
 use Rattle.hyperplonk_spec.specs.Composed.{
@@ -82,13 +82,13 @@ PartsAlike =
 -- "and the row sum, given what that build wrote, answers so"
 abbrev pub RowSumZero : Type 0
 RowSumZero =
-    (ws instances witness challenges columns nodes : List ℕ) → checkBuild ws instances witness challenges columns nodes ≡ 0
+    (ws instances witness challenges columns nodes : List ℕ) → checkBuild (lentBuild ws instances witness challenges columns nodes) ≡ 0
     → Conclusions 𝔾 (logOf ws instances witness challenges)
     → (α : ℕ) (y : List ℕ) → α < P → length y ≡ circuitOf ws .k → Each 0 y (λ v. v < P)
-    → rowSumOf ws witness (wordsOf (rowsOf (circuitOf ws)) (writtenPolys 𝔾 (logOf ws instances witness challenges)))
+    → rowSumOf (lentSum ws witness (wordsOf (rowsOf (circuitOf ws)) (writtenPolys 𝔾 (logOf ws instances witness challenges)))
     (composedWords (circuitOf ws))
     (challenges ++ (α ∷ []))
-    y
+    y)
     ≡ record { number = 0; sum = 0 }
 
 pub record Claims : Type 1 where

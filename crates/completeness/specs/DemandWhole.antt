@@ -14,7 +14,7 @@ use Rattle.preprocessor.specs.Compose.{CutsAlike, numZ, compose, composedConstr
 use Rattle.prover.specs.Lookup.{sumRows, sumCounts}
 use Rattle.prover.specs.Log.{Log}
 use Rattle.prover.specs.Columns.{countAt, lookupHAt, composedEnvironment, writtenPolys}
-use Rattle.hyperplonk_spec.specs.Build.{logOf, wordsOf, columnWords, checkBuild}
+use Rattle.hyperplonk_spec.specs.Build.{Lent, logOf, wordsOf, columnWords, checkBuild}
 use Rattle.hyperplonk_spec.specs.Meaning.{
   Each,
   EachRow,
@@ -26,16 +26,16 @@ use Rattle.hyperplonk_spec.specs.Meaning.{
   NoZeroTable,
   NoZeroFactor,
 }
-use Rattle.hyperplonk_spec.specs.BuildAndSum.{beforeAlpha, alphaOf, Left}
+use Rattle.hyperplonk_spec.specs.BuildAndSum.{beforeAlpha, alphaOf, beforeSum, Left}
 
 -- a call that was lent these words and buffers, and what it returned and left
-module _ (ws instances witness challenges y columns nodes : List ℕ) (left : Left) where
+module _ (lent : Lent) (y : List ℕ) (left : Left) where
   abbrev circuit : Circuit
-  circuit = circuitOf ws
+  circuit = circuitOf (lent .circuit)
 
   -- the log of the build: all words but α and y
   abbrev log : Log 𝔾
-  log = logOf ws instances witness (beforeAlpha challenges)
+  log = logOf (lent .circuit) (lent .instances) (lent .witness) (beforeAlpha (lent .challenges))
 
   pub record Concluded : Type 0 where
     -- "the number is 0"; and "the row sum, given what that build wrote, answers so": "its number and its sum are both 0"
@@ -47,9 +47,9 @@ module _ (ws instances witness challenges y columns nodes : List ℕ) (left : Le
     pub z-columns : left .answer .«z_columns» ≡ numZ circuit
     -- "the columns and nodes written are those document 01 defines"; "Words past those written stay untouched"
     pub columns-written : take (columnWords circuit) (left .columns) ≡ wordsOf (rowsOf circuit) (writtenPolys 𝔾 log)
-    pub columns-past : drop (columnWords circuit) (left .columns) ≡ drop (columnWords circuit) columns
+    pub columns-past : drop (columnWords circuit) (left .columns) ≡ drop (columnWords circuit) (lent .columns)
     pub nodes-written : take (composedNodes circuit * 4) (left .nodes) ≡ composedWords circuit
-    pub nodes-past : drop (composedNodes circuit * 4) (left .nodes) ≡ drop (composedNodes circuit * 4) nodes
+    pub nodes-past : drop (composedNodes circuit * 4) (left .nodes) ≡ drop (composedNodes circuit * 4) (lent .nodes)
     -- "at each row that value is the one `compose` above gives": the nodes written are read as that tree
     pub nodes-read : exprOf (take (composedNodes circuit * 4) (left .nodes)) (composedNodes circuit - 1) ≡ compose circuit
     -- "every composed constraint is zero on every row"
@@ -80,11 +80,11 @@ module _ (ws instances witness challenges y columns nodes : List ℕ) (left : Le
         -- "Then, unless 15 is given, …"
         → left .answer .number ≢ 15
         -- "for every alpha and every y": "any α and any k values y of the field"
-        → alphaOf challenges < P
+        → alphaOf (lent .challenges) < P
         → length y ≡ circuit .k
         → Each 0 y (λ v. v < P)
         → Concluded
 
   -- "Let the building call be lent any words and buffers for which questions 1 to 14 are yes."
   abbrev pub DemandThreeWhole : Type 0
-  DemandThreeWhole = checkBuild ws instances witness (beforeAlpha challenges) columns nodes ≡ 0 → Demanded
+  DemandThreeWhole = checkBuild (beforeSum lent) ≡ 0 → Demanded

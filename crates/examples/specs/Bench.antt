@@ -13,8 +13,8 @@ use Rattle.lists.specs.Lists.{column, firstNo}
 use Rattle.backend.specs.Questions.{q10, circuitQuestions, goodK}
 use Rattle.preprocessor.specs.Compose.{constraintCut, zCut, CutsAlike, composedWords}
 use Rattle.preprocessor.specs.Permutation.{label}
-use Rattle.hyperplonk_spec.specs.Build.{checkBuild, buildOf}
-use Rattle.hyperplonk_spec.specs.RowSum.{checkSum}
+use Rattle.hyperplonk_spec.specs.Build.{checkBuild, buildOf, lentBuild}
+use Rattle.hyperplonk_spec.specs.RowSum.{checkSum, lentSum}
 use Rattle.hyperplonk_spec.specs.Stages.{mOf}
 use Rattle.field.specs.Prime.{P}
 use Rattle.field.specs.Parse.{Among, parsed, numberOf}
@@ -110,7 +110,7 @@ inverse-0 = refl
 abbrev pub single : ℕ → List ℕ
 single row = 1 ∷ 0 ∷ 20 ∷ 0 ∷ 20 ∷ 0 ∷ 20 ∷ 1 ∷ 22 ∷ 0 ∷ 22 ∷ 0 ∷ 22 ∷ 0 ∷ 22 ∷ 0 ∷ 22 ∷ 1 ∷ 23 ∷ 1 ∷ 1 ∷ 0 ∷ 1 ∷ 0 ∷ row ∷ []
 
-pub z-single : take 4 (buildOf (single 1) [] (3 ∷ 4 ∷ []) (5 ∷ 7 ∷ []) (four 9 9 9 9) (replicate 200 9) .columns) ≡ four 0 1 0 1
+pub z-single : take 4 (buildOf (lentBuild (single 1) [] (3 ∷ 4 ∷ []) (5 ∷ 7 ∷ []) (four 9 9 9 9) (replicate 200 9)) .columns) ≡ four 0 1 0 1
 unfolding everything
 z-single = refl
 
@@ -153,16 +153,16 @@ unfolding everything
 row-0 = refl
 
 -- Value p − 1 passes, p gives 13.
-pub value-last : checkBuild (single 1) [] (3 ∷ (P - 1) ∷ []) (5 ∷ 7 ∷ []) (four 9 9 9 9) (replicate 200 9) ≡ 0
+pub value-last : checkBuild (lentBuild (single 1) [] (3 ∷ (P - 1) ∷ []) (5 ∷ 7 ∷ []) (four 9 9 9 9) (replicate 200 9)) ≡ 0
 unfolding everything
 value-last = refl
 
-pub value-p : checkBuild (single 1) [] (3 ∷ P ∷ []) (5 ∷ 7 ∷ []) (four 9 9 9 9) (replicate 200 9) ≡ 13
+pub value-p : checkBuild (lentBuild (single 1) [] (3 ∷ P ∷ []) (5 ∷ 7 ∷ []) (four 9 9 9 9) (replicate 200 9)) ≡ 13
 unfolding everything
 value-p = refl
 
 -- the number of `TooLarge` where the word p stands: among the words of a call, of the circuit, of a row sum
-pub value-p-told : checkBuild (single 1) [] (3 ∷ P ∷ []) (5 ∷ 7 ∷ []) (four 9 9 9 9) (replicate 200 9) ≡ numberOf Among.callWords (parsed P)
+pub value-p-told : checkBuild (lentBuild (single 1) [] (3 ∷ P ∷ []) (5 ∷ 7 ∷ []) (four 9 9 9 9) (replicate 200 9)) ≡ numberOf Among.callWords (parsed P)
 unfolding everything
 value-p-told = refl
 
@@ -172,7 +172,7 @@ pub preprocess-p-told : firstNo circuitQuestions
 unfolding everything
 preprocess-p-told = refl
 
-pub summed-p-told : checkSum (single 1) (3 ∷ P ∷ []) (four 0 0 0 0) (composedWords (circuitOf (single 1))) (5 ∷ 7 ∷ 2 ∷ []) (1 ∷ [])
+pub summed-p-told : checkSum (lentSum (single 1) (3 ∷ P ∷ []) (four 0 0 0 0) (composedWords (circuitOf (single 1))) (5 ∷ 7 ∷ 2 ∷ []) (1 ∷ []))
     ≡ numberOf Among.sumWords (parsed P)
 unfolding everything
 summed-p-told = refl

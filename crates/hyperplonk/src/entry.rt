@@ -7,8 +7,8 @@ use hyperplonk_stages::lookup_m_poly;
 ghost use mathlib.Core.Path.{_≡_};
 ghost use mathlib.Core.List.{[], _∷_};
 ghost use Rattle.hyperplonk_spec.specs.Stages.{mOf, hOf, eqOf};
-ghost use Rattle.hyperplonk_spec.specs.Build.{buildOf};
-ghost use Rattle.hyperplonk_spec.specs.RowSum.{rowSumOf};
+ghost use Rattle.hyperplonk_spec.specs.Build.{buildOf, lentBuild};
+ghost use Rattle.hyperplonk_spec.specs.RowSum.{rowSumOf, lentSum};
 ghost use Rattle.hyperplonk_spec.specs.Entries.{answered, buildEntry, sumEntry};
 
 #[no_mangle]
@@ -74,7 +74,7 @@ pub extern "C" fn hyperplonk_build<'a>(
     nodes: &mut [u64],
     answer: &mut [u64],
 ) -> u64
-    ensures { λ r. ⌜ record { number = r; columns = now (columns .exit); nodes = now (nodes .exit); answer = now (answer .exit) } ≡ buildEntry (buildOf (now (circuit .entry)) (now (instance .entry)) (now (witness .entry)) (now (challenges .entry)) (now (columns .entry)) (now (nodes .entry))) (now (answer .entry)) ⌝ }
+    ensures { λ r. ⌜ record { number = r; columns = now (columns .exit); nodes = now (nodes .exit); answer = now (answer .exit) } ≡ buildEntry (buildOf (lentBuild (now (circuit .entry)) (now (instance .entry)) (now (witness .entry)) (now (challenges .entry)) (now (columns .entry)) (now (nodes .entry)))) (now (answer .entry)) ⌝ }
 {
     let b = build(circuit, instance, witness, challenges, columns, nodes);
     answer_three(
@@ -96,7 +96,7 @@ pub extern "C" fn hyperplonk_row_sum<'a>(
     y: &[u64],
     answer: &mut [u64],
 ) -> u64
-    ensures { λ r. ⌜ record { number = r; answer = now (answer .exit) } ≡ sumEntry (rowSumOf (now (circuit .entry)) (now (witness .entry)) (now (columns .entry)) (now (nodes .entry)) (now (challenges .entry)) (now (y .entry))) (now (answer .entry)) ⌝ }
+    ensures { λ r. ⌜ record { number = r; answer = now (answer .exit) } ≡ sumEntry (rowSumOf (lentSum (now (circuit .entry)) (now (witness .entry)) (now (columns .entry)) (now (nodes .entry)) (now (challenges .entry)) (now (y .entry)))) (now (answer .entry)) ⌝ }
 {
     let s = row_sum(circuit, witness, columns, nodes, challenges, y);
     answer_one(answer, s.sum);

@@ -8,9 +8,9 @@ pub use hyperplonk_stages::eq_xy;
 pub use hyperplonk_stages::lookup_h_poly;
 pub use hyperplonk_stages::lookup_m_poly;
 ghost use mathlib.Core.Path.{_≡_};
-ghost use Rattle.hyperplonk_spec.specs.Build.{Output, buildOf};
+ghost use Rattle.hyperplonk_spec.specs.Build.{Output, buildOf, lentBuild};
 ghost use Rattle.hyperplonk_spec.specs.Demand.{DemandThreeAt};
-ghost use Rattle.hyperplonk_spec.specs.RowSum.{rowSumOf};
+ghost use Rattle.hyperplonk_spec.specs.RowSum.{rowSumOf, lentSum};
 ghost use Rattle.hyperplonk_spec.specs.RowSumClaim.{RowSumClaim};
 
 // The building call.
@@ -22,8 +22,7 @@ pub fn build<'a>(
     columns: &mut [u64],
     nodes: &mut [u64],
 ) -> Built
-    ensures { λ r. ⌜ record { answer = r; columns = now (columns .exit); nodes = now (nodes .exit) } ≡ buildOf (now (circuit .entry)) (now (instance .entry)) (now (witness .entry)) (now (challenges .entry)) (now (columns .entry)) (now (nodes .entry)) ⌝ }
-    ensures { λ r. ⌜ DemandThreeAt (now (circuit .entry)) (now (instance .entry)) (now (witness .entry)) (now (challenges .entry)) (now (columns .entry)) (now (nodes .entry)) (record { answer = r; columns = now (columns .exit); nodes = now (nodes .exit) }) ⌝ }
+    ensures { λ r. ⌜ (let lent = lentBuild (now (circuit .entry)) (now (instance .entry)) (now (witness .entry)) (now (challenges .entry)) (now (columns .entry)) (now (nodes .entry)) in let left : Output = record { answer = r; columns = now (columns .exit); nodes = now (nodes .exit) } in (left ≡ buildOf lent) × DemandThreeAt lent left) ⌝ }
 {
     hyperplonk_build::build(circuit, instance, witness, challenges, columns, nodes)
 }
@@ -37,8 +36,7 @@ pub fn row_sum<'a>(
     challenges: &'a [u64],
     y: &[u64],
 ) -> RowSum
-    ensures { λ r. ⌜ r ≡ rowSumOf (now (circuit .entry)) (now (witness .entry)) (now (columns .entry)) (now (nodes .entry)) (now (challenges .entry)) (now (y .entry)) ⌝ }
-    ensures told { λ r. ⌜ RowSumClaim (now (circuit .entry)) (now (witness .entry)) (now (columns .entry)) (now (nodes .entry)) (now (challenges .entry)) (now (y .entry)) r ⌝ }
+    ensures { λ r. ⌜ (let lent = lentSum (now (circuit .entry)) (now (witness .entry)) (now (columns .entry)) (now (nodes .entry)) (now (challenges .entry)) (now (y .entry)) in (r ≡ rowSumOf lent) × RowSumClaim lent r) ⌝ }
 {
     hyperplonk_row_sum::row_sum(circuit, witness, columns, nodes, challenges, y)
 }

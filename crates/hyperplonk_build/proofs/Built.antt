@@ -18,23 +18,23 @@ use Rattle.preprocessor.specs.declared.CircuitParams.{CircuitParams}
 use Rattle.preprocessor.proofs.Composed.{composed-over}
 use Rattle.prover.specs.Columns.{allCovered, writtenPolys}
 use Rattle.prover.specs.Words.{wordsOf}
-use Rattle.hyperplonk_spec.specs.Build.{Output, logOf, columnWords, q14, checkBuild, refused, made, zeroed, buildLog, buildOf}
+use Rattle.hyperplonk_spec.specs.Build.{Output, logOf, columnWords, q14, checkBuild, refused, made, zeroed, buildLog, buildOf, lentBuild}
 use Rattle.hyperplonk_spec.specs.declared.Built.{Built}
 use Rattle.hyperplonk_spec.proofs.Building.{refused-by}
 use Rattle.hyperplonk_prepare.specs.Prepared.{Prepared}
 
 module _ (ws instances witness challenges columns nodes : List ℕ) where
   -- a refusal by questions 1 to 14
-  pub refuses : (r : Built) (n : ℕ) → r ≡ refused n → (n ≡ 0 → ⊥) → checkBuild ws instances witness challenges columns nodes ≡ n
-      → _≡_ {A = Output} (record { answer = r; columns = columns; nodes = nodes }) (buildOf ws instances witness challenges columns nodes)
+  pub refuses : (r : Built) (n : ℕ) → r ≡ refused n → (n ≡ 0 → ⊥) → checkBuild (lentBuild ws instances witness challenges columns nodes) ≡ n
+      → _≡_ {A = Output} (record { answer = r; columns = columns; nodes = nodes }) (buildOf (lentBuild ws instances witness challenges columns nodes))
   refuses r n e h q =
       let s : n ≡ suc (n - 1) = omega arith in
       ap (λ (b : Built). record { answer = b; columns = columns; nodes = nodes }) (e ∙ ap (λ (m : ℕ). refused m) s)
       ∙ sym (refused-by ws instances witness challenges columns nodes (n - 1) (q ∙ s))
 
   -- question 15 and after
-  pub checked : checkBuild ws instances witness challenges columns nodes ≡ 0
-      → buildOf ws instances witness challenges columns nodes ≡ buildLog (logOf ws instances witness challenges) columns nodes
+  pub checked : checkBuild (lentBuild ws instances witness challenges columns nodes) ≡ 0
+      → buildOf (lentBuild ws instances witness challenges columns nodes) ≡ buildLog (logOf ws instances witness challenges) columns nodes
   unfolding buildOf
   checked e = rw e
 

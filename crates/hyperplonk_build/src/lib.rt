@@ -16,7 +16,7 @@ ghost use Prim.Native.Nat.{_≤_};
 ghost use lib.ListN.{take};
 ghost use Rattle.backend.specs.Circuit.{circuitOf, copied};
 ghost use Rattle.hyperplonk_prepare.specs.Prepared.{Accepted, Prepared};
-ghost use Rattle.hyperplonk_spec.specs.Build.{Output, logOf, q12, q13, q14, refused as refusedBy, buildLog, buildOf};
+ghost use Rattle.hyperplonk_spec.specs.Build.{Output, logOf, q12, q13, q14, refused as refusedBy, buildLog, buildOf, lentBuild};
 ghost use Rattle.hyperplonk_spec.specs.Demand.{DemandThreeAt};
 
 // "a refusal returns three zeros after its number"
@@ -79,7 +79,7 @@ fn build_named<'a>(
     count: usize,
 ) -> Built
     requires { ⌜ Accepted (now circuit) × (q12 (circuitOf (now circuit)) (now instance) (now witness) (now challenges) ≡ true) × (q13 (now instance) (now witness) (now challenges) ≡ true) × (count ≤ 72) × (take count (now names) ≡ copied (circuitOf (now circuit))) ⌝ }
-    ensures { λ r. ⌜ record { answer = r; columns = now (columns .exit); nodes = now (nodes .exit) } ≡ buildOf (now (circuit .entry)) (now (instance .entry)) (now (witness .entry)) (now (challenges .entry)) (now (columns .entry)) (now (nodes .entry)) ⌝ }
+    ensures { λ r. ⌜ record { answer = r; columns = now (columns .exit); nodes = now (nodes .exit) } ≡ buildOf (lentBuild (now (circuit .entry)) (now (instance .entry)) (now (witness .entry)) (now (challenges .entry)) (now (columns .entry)) (now (nodes .entry))) ⌝ }
 {
     let all = &names[..];
     let params = circuit_params(circuit, count);
@@ -107,8 +107,7 @@ pub fn build<'a>(
     columns: &mut [u64],
     nodes: &mut [u64],
 ) -> Built
-    ensures { λ r. ⌜ record { answer = r; columns = now (columns .exit); nodes = now (nodes .exit) } ≡ buildOf (now (circuit .entry)) (now (instance .entry)) (now (witness .entry)) (now (challenges .entry)) (now (columns .entry)) (now (nodes .entry)) ⌝ }
-    ensures { λ r. ⌜ DemandThreeAt (now (circuit .entry)) (now (instance .entry)) (now (witness .entry)) (now (challenges .entry)) (now (columns .entry)) (now (nodes .entry)) (record { answer = r; columns = now (columns .exit); nodes = now (nodes .exit) }) ⌝ }
+    ensures { λ r. ⌜ (let lent = lentBuild (now (circuit .entry)) (now (instance .entry)) (now (witness .entry)) (now (challenges .entry)) (now (columns .entry)) (now (nodes .entry)) in let left : Output = record { answer = r; columns = now (columns .exit); nodes = now (nodes .exit) } in (left ≡ buildOf lent) × DemandThreeAt lent left) ⌝ }
 {
     let no = first_no(circuit);
     if no != 0 {

@@ -3,7 +3,8 @@ use hyperplonk_build::build;
 use hyperplonk_row_sum::row_sum;
 use hyperplonk_spec::Summed;
 ghost use mathlib.Core.Path.{_≡_};
-ghost use Rattle.hyperplonk_spec.specs.BuildAndSum.{buildAndSumOf};
+ghost use Rattle.hyperplonk_spec.specs.Build.{lentBuild};
+ghost use Rattle.hyperplonk_spec.specs.BuildAndSum.{Left, buildAndSumOf};
 ghost use Rattle.completeness.specs.DemandWhole.{DemandThreeWhole};
 
 // Builds with all challenges but the last, α, and then sums what was written over the rows, with all challenges and y. What it returns and
@@ -17,8 +18,7 @@ pub fn build_and_sum<'a>(
     columns: &mut [u64],
     nodes: &mut [u64],
 ) -> Summed
-    ensures { λ r. ⌜ record { answer = r; columns = now (columns .exit); nodes = now (nodes .exit) } ≡ buildAndSumOf (now (circuit .entry)) (now (instance .entry)) (now (witness .entry)) (now (challenges .entry)) (now (y .entry)) (now (columns .entry)) (now (nodes .entry)) ⌝ }
-    ensures demanded { λ r. ⌜ DemandThreeWhole (now (circuit .entry)) (now (instance .entry)) (now (witness .entry)) (now (challenges .entry)) (now (y .entry)) (now (columns .entry)) (now (nodes .entry)) (record { answer = r; columns = now (columns .exit); nodes = now (nodes .exit) }) ⌝ }
+    ensures { λ r. ⌜ (let lent = lentBuild (now (circuit .entry)) (now (instance .entry)) (now (witness .entry)) (now (challenges .entry)) (now (columns .entry)) (now (nodes .entry)) in let left : Left = record { answer = r; columns = now (columns .exit); nodes = now (nodes .exit) } in (left ≡ buildAndSumOf lent (now (y .entry))) × DemandThreeWhole lent (now (y .entry)) left) ⌝ }
 {
     let mut count = challenges.len();
     if count > 0 {

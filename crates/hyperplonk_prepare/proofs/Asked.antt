@@ -9,7 +9,7 @@ use Rattle.lists.proofs.First.{first-none, first-next, first-number, first-appe
 use Rattle.backend.specs.Circuit.{circuitOf}
 use Rattle.backend.specs.Questions.{circuitQuestions}
 use Rattle.backend.proofs.Passed.{numbered}
-use Rattle.hyperplonk_spec.specs.Build.{Lent, q12, q13, q14, buildQuestions, checkBuild}
+use Rattle.hyperplonk_spec.specs.Build.{Lent, q12, q13, q14, buildQuestions, checkBuild, lentBuild}
 use Rattle.hyperplonk_prepare.specs.Prepared.{Accepted}
 
 module _ (ws instances witness challenges columns nodes : List ℕ) where
@@ -34,7 +34,7 @@ module _ (ws instances witness challenges columns nodes : List ℕ) where
       ∷ asked 14 (λ (l : Lent). q14 (circuitOf (l .circuit)) (l .columns) (l .nodes))
       ∷ []
 
-  check-is : checkBuild ws instances witness challenges columns nodes ≡ firstNo (first ++ last) lent
+  check-is : checkBuild (lentBuild ws instances witness challenges columns nodes) ≡ firstNo (first ++ last) lent
   unfolding checkBuild buildQuestions
   check-is = refl
 
@@ -42,30 +42,30 @@ module _ (ws instances witness challenges columns nodes : List ℕ) where
   first-is = first-of (λ (l : Lent). l .circuit) circuitQuestions lent
 
   -- a no among 1 to 11
-  pub circuit-no : (n : ℕ) → firstNo circuitQuestions ws ≡ suc n → checkBuild ws instances witness challenges columns nodes ≡ suc n
+  pub circuit-no : (n : ℕ) → firstNo circuitQuestions ws ≡ suc n → checkBuild (lentBuild ws instances witness challenges columns nodes) ≡ suc n
   circuit-no n e = check-is ∙ first-refused first last lent n (first-is ∙ e)
 
   pub circuit-refused : (r : ℕ) → r ≡ firstNo circuitQuestions ws → (r ≡ 0 → ⊥)
-      → checkBuild ws instances witness challenges columns nodes ≡ r
+      → checkBuild (lentBuild ws instances witness challenges columns nodes) ≡ r
   circuit-refused r e h = let s : r ≡ suc (r - 1) = omega arith in circuit-no (r - 1) (sym e ∙ s) ∙ sym s
 
   module _ (a : Accepted ws) where
-    then-12 : checkBuild ws instances witness challenges columns nodes ≡ firstNo last lent
+    then-12 : checkBuild (lentBuild ws instances witness challenges columns nodes) ≡ firstNo last lent
     then-12 =
         check-is
         ∙ first-append first last lent (first-is ∙ a) (numbered-of (λ (l : Lent). l .circuit) circuitQuestions numbered)
 
-    pub no-12 : q12 (circuitOf ws) instances witness challenges ≡ false → checkBuild ws instances witness challenges columns nodes ≡ 12
+    pub no-12 : q12 (circuitOf ws) instances witness challenges ≡ false → checkBuild (lentBuild ws instances witness challenges columns nodes) ≡ 12
     no-12 h = then-12 ∙ first-number _ _ lent h
 
     module _ (twelve : q12 (circuitOf ws) instances witness challenges ≡ true) where
-      pub no-13 : q13 instances witness challenges ≡ false → checkBuild ws instances witness challenges columns nodes ≡ 13
+      pub no-13 : q13 instances witness challenges ≡ false → checkBuild (lentBuild ws instances witness challenges columns nodes) ≡ 13
       no-13 h = then-12 ∙ first-next _ _ lent twelve ∙ first-number _ _ lent h
 
       module _ (thirteen : q13 instances witness challenges ≡ true) where
-        pub no-14 : q14 (circuitOf ws) columns nodes ≡ false → checkBuild ws instances witness challenges columns nodes ≡ 14
+        pub no-14 : q14 (circuitOf ws) columns nodes ≡ false → checkBuild (lentBuild ws instances witness challenges columns nodes) ≡ 14
         no-14 h = then-12 ∙ first-next _ _ lent twelve ∙ first-next _ _ lent thirteen ∙ first-number _ _ lent h
 
-        pub no-none : q14 (circuitOf ws) columns nodes ≡ true → checkBuild ws instances witness challenges columns nodes ≡ 0
+        pub no-none : q14 (circuitOf ws) columns nodes ≡ true → checkBuild (lentBuild ws instances witness challenges columns nodes) ≡ 0
         no-none h =
             then-12 ∙ first-next _ _ lent twelve ∙ first-next _ _ lent thirteen ∙ first-next _ _ lent h ∙ first-none lent

@@ -17,7 +17,7 @@ use Rattle.backend.specs.Questions.{circuitQuestions}
 use Rattle.backend.proofs.Answers.{says-no, says-yes}
 use Rattle.preprocessor.specs.Compose.{paramsOf}
 use Rattle.preprocessor.specs.declared.CircuitParams.{CircuitParams}
-use Rattle.hyperplonk_spec.specs.RowSum.{q16, LentSum, sumQuestions, checkSum, sumOf, rowSumOf}
+use Rattle.hyperplonk_spec.specs.RowSum.{q16, LentSum, sumQuestions, checkSum, sumOf, rowSumOf, lentSum}
 use Rattle.hyperplonk_spec.specs.declared.RowSum.{RowSum}
 use Rattle.backend.proofs.Passed.{numbered}
 use Rattle.hyperplonk_prepare.specs.Prepared.{Accepted, Prepared}
@@ -33,17 +33,17 @@ module _ (ws witness columns nodes challenges y : List ℕ) where
   sixteen = q16 (circuitOf ws) witness columns nodes challenges y
 
   abbrev number : ℕ
-  number = checkSum ws witness columns nodes challenges y
+  number = checkSum (lentSum ws witness columns nodes challenges y)
 
   pub by-number : (n : ℕ) → number ≡ n
-      → rowSumOf ws witness columns nodes challenges y
-      ≡ cond (eqb n 0) (record { number = 0; sum = val (sumOf ws witness columns nodes challenges y) }) (record { number = n; sum = 0 })
+      → rowSumOf (lentSum ws witness columns nodes challenges y)
+      ≡ cond (eqb n 0) (record { number = 0; sum = val (sumOf (lentSum ws witness columns nodes challenges y)) }) (record { number = n; sum = 0 })
   unfolding rowSumOf
   by-number n e =
-      ap (λ (n : ℕ). cond (eqb n 0) (record { number = 0; sum = val (sumOf ws witness columns nodes challenges y) }) (record { number = n; sum = 0 })) e
+      ap (λ (n : ℕ). cond (eqb n 0) (record { number = 0; sum = val (sumOf (lentSum ws witness columns nodes challenges y)) }) (record { number = n; sum = 0 })) e
 
   pub refused-early : (n : ℕ) → n ≡ firstNo circuitQuestions ws → (n ≡ 0 → ⊥)
-      → _≡_ {A = RowSum} (record { number = n; sum = 0 }) (rowSumOf ws witness columns nodes challenges y)
+      → _≡_ {A = RowSum} (record { number = n; sum = 0 }) (rowSumOf (lentSum ws witness columns nodes challenges y))
   unfolding checkSum sumQuestions
   refused-early n e h =
       let s : n ≡ suc (n - 1) = omega arith in
@@ -54,7 +54,7 @@ module _ (ws witness columns nodes challenges y : List ℕ) where
       in
       sym
       (by-number n told
-      ∙ ap (λ (t : Bool). cond t (record { number = 0; sum = val (sumOf ws witness columns nodes challenges y) }) (record { number = n; sum = 0 }))
+      ∙ ap (λ (t : Bool). cond t (record { number = 0; sum = val (sumOf (lentSum ws witness columns nodes challenges y)) }) (record { number = n; sum = 0 }))
       (ne-eqb n 0 h))
 
   none-asked : firstNo [] lent ≡ 0
@@ -63,7 +63,7 @@ module _ (ws witness columns nodes challenges y : List ℕ) where
 
   module _ (a : Accepted ws) where
     pub refused-late : (r : Bool) → r ≡ sixteen → not r ≡ true
-        → _≡_ {A = RowSum} (record { number = 16; sum = 0 }) (rowSumOf ws witness columns nodes challenges y)
+        → _≡_ {A = RowSum} (record { number = 16; sum = 0 }) (rowSumOf (lentSum ws witness columns nodes challenges y))
     unfolding checkSum sumQuestions
     refused-late r e h =
         let told : number ≡ 16 =
@@ -89,8 +89,8 @@ module _ (ws witness columns nodes challenges y : List ℕ) where
             values-are = p .0 ∙ known.k-is ws a ∙ sym m;
           }
 
-      pub answered : (s : ℕ) → s ≡ val (sumOf ws witness columns nodes challenges y)
-          → _≡_ {A = RowSum} (record { number = 0; sum = s }) (rowSumOf ws witness columns nodes challenges y)
+      pub answered : (s : ℕ) → s ≡ val (sumOf (lentSum ws witness columns nodes challenges y))
+          → _≡_ {A = RowSum} (record { number = 0; sum = s }) (rowSumOf (lentSum ws witness columns nodes challenges y))
       unfolding checkSum sumQuestions
       answered s q =
           let told : number ≡ 0 =

@@ -15,7 +15,7 @@ use Rattle.backend.specs.Circuit.{circuitOf, rowsOf}
 use Rattle.backend.specs.Questions.{circuitQuestions}
 use Rattle.preprocessor.specs.Compose.{compose, composedWords, composedNodes}
 use Rattle.prover.specs.Lookup.{sumRows}
-use Rattle.hyperplonk_spec.specs.RowSum.{q16, LentSum, sumQuestions, checkSum, environmentFromWords, sumOf, rowSumOf}
+use Rattle.hyperplonk_spec.specs.RowSum.{q16, LentSum, sumQuestions, checkSum, environmentFromWords, sumOf, rowSumOf, lentSum}
 use Rattle.hyperplonk_spec.specs.declared.RowSum.{RowSum}
 use Rattle.hyperplonk_spec.proofs.ReadsBack.{reads-back}
 use Rattle.backend.proofs.Passed.{numbered}
@@ -26,10 +26,10 @@ use Rattle.hyperplonk_row_sum.proofs.Answer.{by-number}
 
 module _ (ws witness columns nodes challenges y : List ℕ) where
   abbrev answer : RowSum
-  answer = rowSumOf ws witness columns nodes challenges y
+  answer = rowSumOf (lentSum ws witness columns nodes challenges y)
 
   abbrev number : ℕ
-  number = checkSum ws witness columns nodes challenges y
+  number = checkSum (lentSum ws witness columns nodes challenges y)
 
   abbrev lent : LentSum
   lent = record { circuit = ws; witness = witness; columns = columns; nodes = nodes; challenges = challenges; y = y }
@@ -43,7 +43,7 @@ module _ (ws witness columns nodes challenges y : List ℕ) where
       go (no h) =
           ap (λ (a : RowSum). a .number)
           (by-number ws witness columns nodes challenges y number refl
-          ∙ ap (λ (t : Bool). cond t (record { number = 0; sum = val (sumOf ws witness columns nodes challenges y) }) (record { number = number; sum = 0 }))
+          ∙ ap (λ (t : Bool). cond t (record { number = 0; sum = val (sumOf (lentSum ws witness columns nodes challenges y)) }) (record { number = number; sum = 0 }))
           (ne-eqb number 0 h))
 
   yes-16 : number ≡ 0 → q16 (circuitOf ws) witness columns nodes challenges y ≡ true
@@ -57,20 +57,20 @@ module _ (ws witness columns nodes challenges y : List ℕ) where
 
   -- the nodes are read as the composed expression
   sum-composed : nodes ≡ composedWords (circuitOf ws)
-      → sumOf ws witness columns nodes challenges y
+      → sumOf (lentSum ws witness columns nodes challenges y)
       ≡ sumRows 𝔾 (rowsOf (circuitOf ws)) (valueAt 𝔾 (environmentFromWords ws witness columns challenges y) (compose (circuitOf ws)))
   unfolding sumOf
   sum-composed e =
       ap (λ (x : Expr). sumRows 𝔾 (rowsOf (circuitOf ws)) (valueAt 𝔾 (environmentFromWords ws witness columns challenges y) x))
       (ap (λ (ns : List ℕ). exprOf ns (composedNodes (circuitOf ws) - 1)) e ∙ reads-back ws)
 
-  same-lent : (cs cs' ns ns' vs vs' : List ℕ) → cs ≡ cs' → ns ≡ ns' → vs ≡ vs' → rowSumOf ws witness cs ns vs y ≡ rowSumOf ws witness cs' ns' vs' y
+  same-lent : (cs cs' ns ns' vs vs' : List ℕ) → cs ≡ cs' → ns ≡ ns' → vs ≡ vs' → rowSumOf (lentSum ws witness cs ns vs y) ≡ rowSumOf (lentSum ws witness cs' ns' vs' y)
   same-lent cs cs' ns ns' vs vs' p q r =
-      ap (λ (xs : List ℕ). rowSumOf ws witness xs ns vs y) p
-      ∙ ap (λ (xs : List ℕ). rowSumOf ws witness cs' xs vs y) q
-      ∙ ap (λ (xs : List ℕ). rowSumOf ws witness cs' ns' xs y) r
+      ap (λ (xs : List ℕ). rowSumOf (lentSum ws witness xs ns vs y)) p
+      ∙ ap (λ (xs : List ℕ). rowSumOf (lentSum ws witness cs' xs vs y)) q
+      ∙ ap (λ (xs : List ℕ). rowSumOf (lentSum ws witness cs' ns' xs y)) r
 
-  pub claimed : (r : RowSum) → r ≡ answer → RowSumClaim ws witness columns nodes challenges y r
+  pub claimed : (r : RowSum) → r ≡ answer → RowSumClaim (lentSum ws witness columns nodes challenges y) r
   claimed r e =
       record {
         summed = λ z.
@@ -85,5 +85,5 @@ module _ (ws witness columns nodes challenges y : List ℕ) where
       }
 
   -- both of the answer's contracts
-  pub both : (r : RowSum) → r ≡ answer → (r ≡ answer) × RowSumClaim ws witness columns nodes challenges y r
+  pub both : (r : RowSum) → r ≡ answer → (r ≡ answer) × RowSumClaim (lentSum ws witness columns nodes challenges y) r
   both r e = (e, claimed r e)

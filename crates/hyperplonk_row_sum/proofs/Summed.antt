@@ -17,7 +17,7 @@ use Rattle.multilinear.specs.EqXY.{eqAt}
 use Rattle.backend.specs.Circuit.{circuitOf, wordK}
 use Rattle.preprocessor.specs.Compose.{composedNodes}
 use Rattle.prover.specs.Lookup.{sumRows}
-use Rattle.hyperplonk_spec.specs.RowSum.{environmentFromWords, sumOf}
+use Rattle.hyperplonk_spec.specs.RowSum.{environmentFromWords, sumOf, lentSum}
 use Rattle.hyperplonk_prepare.specs.Prepared.{Accepted}
 use Rattle.hyperplonk_prepare.proofs.Accepted as known
 use Rattle.hyperplonk_row_sum.specs.Sum.{sumLayout, Summable}
@@ -97,7 +97,7 @@ module _ (ws nodes y : List ℕ) (l : Layout) (k : ℕ) (s : Summable ws nodes y
         (exprOf nodes (length nodes / 4 - 1))
         ∙ ap (λ (n : ℕ). valueAt 𝔾 (environmentFromWords ws witness columns challenges y) (exprOf nodes n) (p .row)) root-is
 
-    pub sum-is : (sum : 𝔾 .F) (t : ℕ) → Added k rootValue sum t → t ≡ 2 ^ k → sum ≡ sumOf ws witness columns nodes challenges y
+    pub sum-is : (sum : 𝔾 .F) (t : ℕ) → Added k rootValue sum t → t ≡ 2 ^ k → sum ≡ sumOf (lentSum ws witness columns nodes challenges y)
     unfolding sumOf
     sum-is sum t a e =
         added-all k rootValue k-low k-high sum t a e ∙ ap (λ (k : ℕ). sumRows 𝔾 (2 ^ k) rootValue) (s .k-is)

@@ -25,7 +25,7 @@ ghost use lib.ListN.{take};
 ghost use Rattle.field.specs.Element.{elem};
 ghost use Rattle.backend.specs.Circuit.{circuitOf, copied};
 ghost use Rattle.preprocessor.specs.Compose.{paramsOf};
-ghost use Rattle.hyperplonk_spec.specs.RowSum.{q16, sumOf, rowSumOf};
+ghost use Rattle.hyperplonk_spec.specs.RowSum.{q16, sumOf, rowSumOf, lentSum};
 ghost use Rattle.hyperplonk_prepare.specs.Prepared.{Accepted, Prepared};
 ghost use Rattle.hyperplonk_row_sum.specs.Sum.{lengthsRight, valuesSmall, sumLayout, Summable};
 ghost use Rattle.hyperplonk_spec.specs.RowSumClaim.{RowSumClaim};
@@ -128,7 +128,7 @@ fn sum_rows<'a>(
     k: usize,
 ) -> Goldilocks
     requires { ⌜ Summable (now circuit) (now nodes) (now y) layout k ⌝ }
-    ensures { λ r. ⌜ elem r ≡ sumOf (now (circuit .entry)) (now (witness .entry)) (now (columns .entry)) (now (nodes .entry)) (now (challenges .entry)) (now (y .entry)) ⌝ }
+    ensures { λ r. ⌜ elem r ≡ sumOf (lentSum (now (circuit .entry)) (now (witness .entry)) (now (columns .entry)) (now (nodes .entry)) (now (challenges .entry)) (now (y .entry))) ⌝ }
 {
     let rows = rows_of(k);
     let root = nodes.len() / 4 - 1;
@@ -171,7 +171,7 @@ fn sum_prepared<'a>(
     params: CircuitParams,
 ) -> RowSum
     requires { ⌜ Prepared (now circuit) (now copied) params ⌝ }
-    ensures { λ r. ⌜ r ≡ rowSumOf (now (circuit .entry)) (now (witness .entry)) (now (columns .entry)) (now (nodes .entry)) (now (challenges .entry)) (now (y .entry)) ⌝ }
+    ensures { λ r. ⌜ r ≡ rowSumOf (lentSum (now (circuit .entry)) (now (witness .entry)) (now (columns .entry)) (now (nodes .entry)) (now (challenges .entry)) (now (y .entry))) ⌝ }
 {
     if !question_16(
         circuit,
@@ -206,7 +206,7 @@ fn sum_named<'a>(
     count: usize,
 ) -> RowSum
     requires { ⌜ Accepted (now circuit) × ((count ≤ 72) × (take count (now of) ≡ copied (circuitOf (now circuit)))) ⌝ }
-    ensures { λ r. ⌜ r ≡ rowSumOf (now (circuit .entry)) (now (witness .entry)) (now (columns .entry)) (now (nodes .entry)) (now (challenges .entry)) (now (y .entry)) ⌝ }
+    ensures { λ r. ⌜ r ≡ rowSumOf (lentSum (now (circuit .entry)) (now (witness .entry)) (now (columns .entry)) (now (nodes .entry)) (now (challenges .entry)) (now (y .entry))) ⌝ }
 {
     let all = &of[..];
     let params = circuit_params(circuit, count);
@@ -231,8 +231,7 @@ pub fn row_sum<'a>(
     challenges: &'a [u64],
     y: &[u64],
 ) -> RowSum
-    ensures { λ r. ⌜ r ≡ rowSumOf (now (circuit .entry)) (now (witness .entry)) (now (columns .entry)) (now (nodes .entry)) (now (challenges .entry)) (now (y .entry)) ⌝ }
-    ensures told { λ r. ⌜ RowSumClaim (now (circuit .entry)) (now (witness .entry)) (now (columns .entry)) (now (nodes .entry)) (now (challenges .entry)) (now (y .entry)) r ⌝ }
+    ensures { λ r. ⌜ (let lent = lentSum (now (circuit .entry)) (now (witness .entry)) (now (columns .entry)) (now (nodes .entry)) (now (challenges .entry)) (now (y .entry)) in (r ≡ rowSumOf lent) × RowSumClaim lent r) ⌝ }
 {
     let no = first_no(circuit);
     if no != 0 {

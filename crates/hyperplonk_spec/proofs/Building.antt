@@ -16,7 +16,7 @@ use Rattle.prover.specs.Columns.{allCovered, writtenPolys}
 use Rattle.preprocessor.proofs.Composed.{composed-length}
 use Rattle.prover.proofs.Words.{words-length}
 use Rattle.prover.proofs.Lengths.{written-length}
-use Rattle.hyperplonk_spec.specs.Build.{Output, logOf, wordsOf, columnWords, checkBuild, refusal, made, zeroed, buildLog, buildOf}
+use Rattle.hyperplonk_spec.specs.Build.{Output, logOf, wordsOf, columnWords, checkBuild, refusal, made, zeroed, buildLog, buildOf, lentBuild}
 use Rattle.hyperplonk_spec.specs.Demand.{Written}
 
 module _ (g : Log 𝔾) where
@@ -29,28 +29,28 @@ module _ (g : Log 𝔾) where
 
 module _ (ws instances witness challenges columns nodes : List ℕ) where
   -- "Refusals write nothing"
-  pub refused-by : (n : ℕ) → checkBuild ws instances witness challenges columns nodes ≡ suc n
-      → buildOf ws instances witness challenges columns nodes ≡ refusal (suc n) columns nodes
+  pub refused-by : (n : ℕ) → checkBuild (lentBuild ws instances witness challenges columns nodes) ≡ suc n
+      → buildOf (lentBuild ws instances witness challenges columns nodes) ≡ refusal (suc n) columns nodes
   unfolding buildOf
   refused-by n e = rw (e, eqb·suc-zero n)
 
   -- "except 15"
-  pub fifteen-by : checkBuild ws instances witness challenges columns nodes ≡ 0
+  pub fifteen-by : checkBuild (lentBuild ws instances witness challenges columns nodes) ≡ 0
       → allCovered 𝔾 (logOf ws instances witness challenges) ≡ false
-      → buildOf ws instances witness challenges columns nodes ≡ zeroed (logOf ws instances witness challenges .circuit) columns nodes
+      → buildOf (lentBuild ws instances witness challenges columns nodes) ≡ zeroed (logOf ws instances witness challenges .circuit) columns nodes
   unfolding buildOf buildLog
   fifteen-by e f = rw (e, f)
 
-  pub built-by : checkBuild ws instances witness challenges columns nodes ≡ 0
+  pub built-by : checkBuild (lentBuild ws instances witness challenges columns nodes) ≡ 0
       → allCovered 𝔾 (logOf ws instances witness challenges) ≡ true
-      → buildOf ws instances witness challenges columns nodes ≡ made (logOf ws instances witness challenges) columns nodes
+      → buildOf (lentBuild ws instances witness challenges columns nodes) ≡ made (logOf ws instances witness challenges) columns nodes
   unfolding buildOf buildLog
   built-by e f = rw (e, f)
 
   -- "the columns and nodes written are those document 01 defines"
-  pub written-by : checkBuild ws instances witness challenges columns nodes ≡ 0
+  pub written-by : checkBuild (lentBuild ws instances witness challenges columns nodes) ≡ 0
       → allCovered 𝔾 (logOf ws instances witness challenges) ≡ true
-      → Written ws instances witness challenges columns nodes (buildOf ws instances witness challenges columns nodes)
+      → Written ws instances witness challenges columns nodes (buildOf (lentBuild ws instances witness challenges columns nodes))
   unfolding made logOf
   written-by e f =
       let g : Log 𝔾 = logOf ws instances witness challenges in

@@ -54,6 +54,17 @@ pub record Lent : Type 0 where
   pub columns : List ℕ
   pub nodes : List ℕ
 
+abbrev pub lentBuild : List ℕ → List ℕ → List ℕ → List ℕ → List ℕ → List ℕ → Lent
+lentBuild circuit instances witness challenges columns nodes =
+    record {
+      circuit = circuit;
+      instances = instances;
+      witness = witness;
+      challenges = challenges;
+      columns = columns;
+      nodes = nodes;
+    }
+
 -- questions 1 to 14
 unfoldable pub buildQuestions : List (Asked Lent)
 buildQuestions =
@@ -64,17 +75,8 @@ buildQuestions =
     ∷ [])
 
 -- the number that they give, 0 when all are yes
-unfoldable pub checkBuild : List ℕ → List ℕ → List ℕ → List ℕ → List ℕ → List ℕ → ℕ
-checkBuild ws instances witness challenges columns nodes =
-    firstNo buildQuestions
-    (record {
-      circuit = ws;
-      instances = instances;
-      witness = witness;
-      challenges = challenges;
-      columns = columns;
-      nodes = nodes;
-    })
+unfoldable pub checkBuild : Lent → ℕ
+checkBuild l = firstNo buildQuestions l
 
 -- what the call returns, and what both buffers hold then
 pub record Output : Type 0 where
@@ -113,8 +115,8 @@ buildLog g columns nodes =
     cond (allCovered 𝔾 g) yes-15 no-15
 
 -- the building call
-unfoldable pub buildOf : List ℕ → List ℕ → List ℕ → List ℕ → List ℕ → List ℕ → Output
-buildOf ws instances witness challenges columns nodes =
-    let number = checkBuild ws instances witness challenges columns nodes in
-    let built = buildLog (logOf ws instances witness challenges) columns nodes in
-    cond (eqb number 0) built (refusal number columns nodes)
+unfoldable pub buildOf : Lent → Output
+buildOf l =
+    let number = checkBuild l in
+    let built = buildLog (logOf (l .circuit) (l .instances) (l .witness) (l .challenges)) (l .columns) (l .nodes) in
+    cond (eqb number 0) built (refusal number (l .columns) (l .nodes))

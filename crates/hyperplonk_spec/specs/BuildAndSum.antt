@@ -4,8 +4,8 @@ use mathlib.Core.List.{List}
 use Prim.Native.Nat.{ℕ, _-_, _*_}
 use lib.ListN.{length, getD, take}
 use lib.Dec.{eqb}
-use Rattle.hyperplonk_spec.specs.Build.{Output, buildOf}
-use Rattle.hyperplonk_spec.specs.RowSum.{rowSumOf}
+use Rattle.hyperplonk_spec.specs.Build.{Lent, Output, buildOf, lentBuild}
+use Rattle.hyperplonk_spec.specs.RowSum.{rowSumOf, lentSum}
 use Rattle.hyperplonk_spec.specs.declared.Built.{Built}
 use Rattle.hyperplonk_spec.specs.declared.RowSum.{RowSum}
 use Rattle.hyperplonk_spec.specs.declared.Summed.{Summed}
@@ -38,16 +38,21 @@ sized b s =
 -- node words as written"
 unfoldable pub sumOfBuilt : List ℕ → List ℕ → List ℕ → List ℕ → Output → RowSum
 sumOfBuilt ws witness challenges y built =
-    rowSumOf ws witness (take (built .answer .«column_words») (built .columns)) (take (built .answer .nodes * 4) (built .nodes))
+    rowSumOf (lentSum ws witness (take (built .answer .«column_words») (built .columns)) (take (built .answer .nodes * 4) (built .nodes))
     challenges
-    y
+    y)
+
+-- what the build is lent: all challenges but α
+abbrev pub beforeSum : Lent → Lent
+beforeSum l =
+    lentBuild (l .circuit) (l .instances) (l .witness) (beforeAlpha (l .challenges)) (l .columns) (l .nodes)
 
 -- the call: the build's number and a sum of 0 if the build is refused, else the row sum's number and sum; the sizes and the buffers are the
 -- build's, since the row sum "writes nothing"
-unfoldable pub buildAndSumOf : List ℕ → List ℕ → List ℕ → List ℕ → List ℕ → List ℕ → List ℕ → Left
-buildAndSumOf ws instances witness challenges y columns nodes =
-    let built : Output = buildOf ws instances witness (beforeAlpha challenges) columns nodes in
-    let summed : RowSum = sumOfBuilt ws witness challenges y built in
+unfoldable pub buildAndSumOf : Lent → List ℕ → Left
+buildAndSumOf l y =
+    let built : Output = buildOf (beforeSum l) in
+    let summed : RowSum = sumOfBuilt (l .circuit) (l .witness) (l .challenges) y built in
     let refused : RowSum = record { number = built .answer .number; sum = 0 } in
     record {
       answer = sized (built .answer) (cond (eqb (built .answer .number) 0) summed refused);

@@ -10,8 +10,8 @@ use Rattle.expression.specs.Nodes.{exprOf}
 use Rattle.backend.specs.Circuit.{circuitOf, rowsOf}
 use Rattle.preprocessor.specs.Compose.{compose, composedWords, composedNodes}
 use Rattle.prover.specs.Columns.{writtenPolys}
-use Rattle.hyperplonk_spec.specs.Build.{Output, logOf, wordsOf, columnWords, checkBuild, success, buildOf}
-use Rattle.hyperplonk_spec.specs.RowSum.{rowSumOf}
+use Rattle.hyperplonk_spec.specs.Build.{Lent, Output, logOf, wordsOf, columnWords, lentBuild, checkBuild, success, buildOf}
+use Rattle.hyperplonk_spec.specs.RowSum.{rowSumOf, lentSum}
 use Rattle.hyperplonk_spec.specs.Meaning.{Each, NoCounts, Premises, Conclusions}
 
 -- what a building call that was lent these words and buffers returned, and what both buffers then held
@@ -37,10 +37,10 @@ module _ (ws instances witness challenges columns nodes : List ℕ) (output : Ou
     pub concluded : Conclusions 𝔾 (logOf ws instances witness challenges)
     -- "and the row sum, given what that build wrote, answers so"
     pub row-sum : (α : ℕ) (y : List ℕ) → α < P → length y ≡ circuitOf ws .k → Each 0 y (λ v. v < P)
-        → rowSumOf ws witness (take (columnWords (circuitOf ws)) (output .columns))
+        → rowSumOf (lentSum ws witness (take (columnWords (circuitOf ws)) (output .columns))
         (take (composedNodes (circuitOf ws) * 4) (output .nodes))
         (challenges ++ (α ∷ []))
-        y
+        y)
         ≡ record { number = 0; sum = 0 }
 
   pub record Demand3 : Type 0 where
@@ -50,11 +50,13 @@ module _ (ws instances witness challenges columns nodes : List ℕ) (output : Ou
     pub otherwise : Premises 𝔾 (logOf ws instances witness challenges) → output .answer .number ≢ 15 → Succeeds
 
 -- "Let the building call be lent any words and buffers for which questions 1 to 14 are yes."
-abbrev pub DemandThreeAt : List ℕ → List ℕ → List ℕ → List ℕ → List ℕ → List ℕ → Output → Type 0
-DemandThreeAt ws instances witness challenges columns nodes output =
-    checkBuild ws instances witness challenges columns nodes ≡ 0 → Demand3 ws instances witness challenges columns nodes output
+abbrev pub DemandThreeAt : Lent → Output → Type 0
+DemandThreeAt l output =
+    checkBuild l ≡ 0
+    → Demand3 (l .circuit) (l .instances) (l .witness) (l .challenges) (l .columns) (l .nodes) output
 
 abbrev pub DemandThree : Type 0
 DemandThree =
     (ws instances witness challenges columns nodes : List ℕ)
-    → DemandThreeAt ws instances witness challenges columns nodes (buildOf ws instances witness challenges columns nodes)
+    → DemandThreeAt (lentBuild ws instances witness challenges columns nodes)
+    (buildOf (lentBuild ws instances witness challenges columns nodes))

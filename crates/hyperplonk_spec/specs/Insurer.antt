@@ -18,8 +18,8 @@ use Rattle.preprocessor.specs.Compose.{CutsAlike, composedNodes}
 use Rattle.prover.specs.Lookup.{Turns, sumRows, sumCounts}
 use Rattle.prover.specs.Log.{Log}
 use Rattle.prover.specs.Columns.{userEnvironment, inputAt, tableAt, countAt, lookupHAt, permutationFactorAt, allCovered}
-use Rattle.hyperplonk_spec.specs.Build.{logOf, columnWords, checkBuild, buildOf}
-use Rattle.hyperplonk_spec.specs.RowSum.{rowSumOf}
+use Rattle.hyperplonk_spec.specs.Build.{logOf, columnWords, checkBuild, buildOf, lentBuild}
+use Rattle.hyperplonk_spec.specs.RowSum.{rowSumOf, lentSum}
 use Rattle.hyperplonk_spec.specs.Meaning.{Each, EachRow, EachLookup, ZeroConstraints, EqualCells, NoZeroInput, NoZeroTable, NoZeroFactor, Premises}
 use Rattle.hyperplonk_spec.specs.Papers.{fraction, paperH, normalizedMultiplicity, totalOf, SharedHolds}
 
@@ -110,15 +110,15 @@ module _ (ws instances witness challenges columns nodes : List ℕ) where
   abbrev pub SumsToZero : Type 0
   SumsToZero =
       (α : ℕ) (y : List ℕ) → α < P → length y ≡ circuitOf ws .k → Each 0 y (λ v. v < P)
-      → rowSumOf ws witness (take (columnWords (circuitOf ws)) (buildOf ws instances witness challenges columns nodes .columns))
-      (take (composedNodes (circuitOf ws) * 4) (buildOf ws instances witness challenges columns nodes .nodes))
+      → rowSumOf (lentSum ws witness (take (columnWords (circuitOf ws)) (buildOf (lentBuild ws instances witness challenges columns nodes) .columns))
+      (take (composedNodes (circuitOf ws) * 4) (buildOf (lentBuild ws instances witness challenges columns nodes) .nodes))
       (challenges ++ (α ∷ []))
-      y
+      y)
       ≡ record { number = 0; sum = 0 }
 
   -- the log is not turned away, neither by a number nor by the sum
   pub record Passes : Type 0 where
-    pub number : buildOf ws instances witness challenges columns nodes .answer .number ≡ 0
+    pub number : buildOf (lentBuild ws instances witness challenges columns nodes) .answer .number ≡ 0
     pub row-sum : SumsToZero
 
 -- of a log, lookup j, and the columns buffer as a call left it: what does not go wrong where a table row is listed twice
@@ -167,9 +167,9 @@ module _ (g : Log 𝔾) (left : List ℕ) (j : ℕ) where
 -- the other premises of demand 3, the row sum of what was written answers 0 and 0
 abbrev pub GoodLog : Type 0
 GoodLog =
-    (ws instances witness challenges columns nodes : List ℕ) → checkBuild ws instances witness challenges columns nodes ≡ 0
+    (ws instances witness challenges columns nodes : List ℕ) → checkBuild (lentBuild ws instances witness challenges columns nodes) ≡ 0
     → ReadingsStand 𝔾 (logOf ws instances witness challenges)
-    → (buildOf ws instances witness challenges columns nodes .answer .number ≡ 0)
+    → (buildOf (lentBuild ws instances witness challenges columns nodes) .answer .number ≡ 0)
     × (Premises 𝔾 (logOf ws instances witness challenges) → SumsToZero ws instances witness challenges columns nodes)
 
 -- by no β, and by few γ: for any words but γ there is a list of at most as many words as there are denominators, and with a γ that is
@@ -180,7 +180,7 @@ FewTurnedAway =
     → (unlucky : List ℕ)
     × (length unlucky ≤ denominators (circuitOf ws))
     × ((γ : ℕ) → All (λ u. γ ≢ u) unlucky → (columns nodes : List ℕ)
-    → checkBuild ws instances witness (user ++ (β ∷ γ ∷ [])) columns nodes ≡ 0
+    → checkBuild (lentBuild ws instances witness (user ++ (β ∷ γ ∷ [])) columns nodes) ≡ 0
     → Good 𝔾 (logOf ws instances witness (user ++ (β ∷ γ ∷ [])))
     → Passes ws instances witness (user ++ (β ∷ γ ∷ [])) columns nodes)
 
@@ -188,14 +188,14 @@ FewTurnedAway =
 abbrev pub RowListedTwice : Type 0
 RowListedTwice =
     (ws instances witness challenges columns nodes : List ℕ)
-    → buildOf ws instances witness challenges columns nodes .answer .number ≡ 0
+    → buildOf (lentBuild ws instances witness challenges columns nodes) .answer .number ≡ 0
     → (j : ℕ) → j < numLookups (circuitOf ws)
-    → CountsUnspoilt (logOf ws instances witness challenges) (buildOf ws instances witness challenges columns nodes .columns) j
+    → CountsUnspoilt (logOf ws instances witness challenges) (buildOf (lentBuild ws instances witness challenges columns nodes) .columns) j
 
 -- which it is exactly when questions 1 to 14 are yes and 15 is not given
 abbrev pub ZeroWhen : Type 0
 ZeroWhen =
     (ws instances witness challenges columns nodes : List ℕ)
-    → (buildOf ws instances witness challenges columns nodes .answer .number ≡ 0)
-    ↔ ((checkBuild ws instances witness challenges columns nodes ≡ 0)
-    × (buildOf ws instances witness challenges columns nodes .answer .number ≢ 15))
+    → (buildOf (lentBuild ws instances witness challenges columns nodes) .answer .number ≡ 0)
+    ↔ ((checkBuild (lentBuild ws instances witness challenges columns nodes) ≡ 0)
+    × (buildOf (lentBuild ws instances witness challenges columns nodes) .answer .number ≢ 15))

@@ -54,12 +54,6 @@ environmentFromWords ws witness columns challenges y =
       eq = eqAt 𝔾 (circuitOf ws .k) (λ i. el (getD y i 0));
     }
 
--- "adds the value of the nodes written over all rows": that of the last node, which is the root
-unfoldable pub sumOf : List ℕ → List ℕ → List ℕ → List ℕ → List ℕ → List ℕ → 𝔾 .F
-sumOf ws witness columns nodes challenges y =
-    sumRows 𝔾 (rowsOf (circuitOf ws))
-    (valueAt 𝔾 (environmentFromWords ws witness columns challenges y) (exprOf nodes (composedNodes (circuitOf ws) - 1)))
-
 -- what the row sum is lent
 pub record LentSum : Type 0 where
   pub circuit : List ℕ
@@ -69,6 +63,17 @@ pub record LentSum : Type 0 where
   pub challenges : List ℕ
   pub y : List ℕ
 
+abbrev pub lentSum : List ℕ → List ℕ → List ℕ → List ℕ → List ℕ → List ℕ → LentSum
+lentSum circuit witness columns nodes challenges y =
+    record { circuit = circuit; witness = witness; columns = columns; nodes = nodes; challenges = challenges; y = y }
+
+-- "adds the value of the nodes written over all rows": that of the last node, which is the root
+unfoldable pub sumOf : LentSum → 𝔾 .F
+sumOf l =
+    sumRows 𝔾 (rowsOf (circuitOf (l .circuit)))
+    (valueAt 𝔾 (environmentFromWords (l .circuit) (l .witness) (l .columns) (l .challenges) (l .y))
+    (exprOf (l .nodes) (composedNodes (circuitOf (l .circuit)) - 1)))
+
 -- "The row sum meets 1 to 11, then 16"
 unfoldable pub sumQuestions : List (Asked LentSum)
 sumQuestions =
@@ -77,14 +82,12 @@ sumQuestions =
     (λ (l : LentSum). q16 (circuitOf (l .circuit)) (l .witness) (l .columns) (l .nodes) (l .challenges) (l .y))
     ∷ [])
 
-unfoldable pub checkSum : List ℕ → List ℕ → List ℕ → List ℕ → List ℕ → List ℕ → ℕ
-checkSum ws witness columns nodes challenges y =
-    firstNo sumQuestions
-    (record { circuit = ws; witness = witness; columns = columns; nodes = nodes; challenges = challenges; y = y })
+unfoldable pub checkSum : LentSum → ℕ
+checkSum l = firstNo sumQuestions l
 
 -- "it returns the number and the sum, 0 when refused, and writes nothing"
-unfoldable pub rowSumOf : List ℕ → List ℕ → List ℕ → List ℕ → List ℕ → List ℕ → RowSum
-rowSumOf ws witness columns nodes challenges y =
-    let number : ℕ = checkSum ws witness columns nodes challenges y in
-    let summed : RowSum = record { number = 0; sum = val (sumOf ws witness columns nodes challenges y) } in
+unfoldable pub rowSumOf : LentSum → RowSum
+rowSumOf l =
+    let number : ℕ = checkSum l in
+    let summed : RowSum = record { number = 0; sum = val (sumOf l) } in
     cond (eqb number 0) summed (record { number = number; sum = 0 })

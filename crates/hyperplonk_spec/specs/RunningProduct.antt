@@ -10,7 +10,7 @@ use Rattle.preprocessor.specs.Compose.{numZ, zCut}
 use Rattle.preprocessor.specs.Permutation.{firstLabel}
 use Rattle.prover.specs.Log.{Log}
 use Rattle.prover.specs.Columns.{partAt}
-use Rattle.hyperplonk_spec.specs.Build.{logOf, buildOf}
+use Rattle.hyperplonk_spec.specs.Build.{logOf, buildOf, lentBuild}
 use Rattle.hyperplonk_spec.specs.Meaning.{Admitted, EqualCells, NoZeroFactor}
 use Rattle.hyperplonk_spec.specs.Copies.{copiedCell, σ, wholeRunning, Closed, paperZ}
 
@@ -47,5 +47,5 @@ module _ (g : Log 𝔾) (left : List ℕ) where
 abbrev pub RunningProduct : Type 0
 RunningProduct =
     (ws instances witness challenges columns nodes : List ℕ)
-    → buildOf ws instances witness challenges columns nodes .answer .number ≡ 0
-    → ProductCloses (logOf ws instances witness challenges) (buildOf ws instances witness challenges columns nodes .columns)
+    → buildOf (lentBuild ws instances witness challenges columns nodes) .answer .number ≡ 0
+    → ProductCloses (logOf ws instances witness challenges) (buildOf (lentBuild ws instances witness challenges columns nodes) .columns)

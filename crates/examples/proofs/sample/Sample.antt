@@ -17,7 +17,7 @@ use Rattle.backend.specs.Circuit.{Pair, rowsOf, numCopied, numLookups}
 use Rattle.preprocessor.specs.Compose.{CutsAlike, numZ}
 use Rattle.prover.specs.Log.{Log}
 use Rattle.prover.specs.Columns.{userEnvironment, inputAt, tableAt, lookupHAt, permutationFactorAt, zAt}
-use Rattle.hyperplonk_spec.specs.Build.{Output, logOf, checkBuild, buildOf}
+use Rattle.hyperplonk_spec.specs.Build.{Output, logOf, checkBuild, buildOf, lentBuild}
 use Rattle.hyperplonk_spec.specs.Meaning.{Each, Premises, cellValue, noCell}
 use Rattle.hyperplonk_spec.specs.Demand.{Succeeds}
 use Rattle.hyperplonk_spec.specs.Insurer.{Good, Passes, CountsUnspoilt, noPair, mWord}
@@ -80,7 +80,7 @@ abbrev log : Log 𝔾
 log = logOf circuit sheet witness challenges
 
 abbrev build : Output
-build = buildOf circuit sheet witness challenges (replicate 80 9) (replicate 548 9)
+build = buildOf (lentBuild circuit sheet witness challenges (replicate 80 9) (replicate 548 9))
 
 -- ---- from a test that is computed to a fact
 
@@ -191,7 +191,7 @@ good =
 -- ---- the building call
 
 -- questions 1 to 14 are yes, and 15 is not given
-asked : checkBuild circuit sheet witness challenges (replicate 80 9) (replicate 548 9) ≡ 0
+asked : checkBuild (lentBuild circuit sheet witness challenges (replicate 80 9) (replicate 548 9)) ≡ 0
 unfolding everything
 asked = refl
 

@@ -5,7 +5,7 @@ use Prim.Native.Nat.{ℕ}
 use native.Mathlib.Omega.{arith}
 use borrow.Author.Needs.{needs}
 use Rattle.backend.proofs.Answers.{says-no, says-yes}
-use Rattle.hyperplonk_spec.specs.Build.{Output, buildOf}
+use Rattle.hyperplonk_spec.specs.Build.{Output, buildOf, lentBuild}
 use Rattle.hyperplonk_spec.specs.Demand.{DemandThreeAt}
 use Rattle.completeness.proofs.DemandThree.{demand-three-at}
 use Rattle.hyperplonk_prepare.proofs.Asked.{circuit-refused, no-12, no-13}
@@ -15,8 +15,8 @@ use Rattle.hyperplonk_build.proofs.build.Tie as tie
 
 -- the equation, and demand 3 by it
 both : (ws instances witness challenges columns nodes : List ℕ) (o : Output)
-    → o ≡ buildOf ws instances witness challenges columns nodes
-    → (o ≡ buildOf ws instances witness challenges columns nodes) × DemandThreeAt ws instances witness challenges columns nodes o
+    → o ≡ buildOf (lentBuild ws instances witness challenges columns nodes)
+    → (o ≡ buildOf (lentBuild ws instances witness challenges columns nodes)) × DemandThreeAt (lentBuild ws instances witness challenges columns nodes) o
 both ws instances witness challenges columns nodes o e = (e, demand-three-at ws instances witness challenges columns nodes o e)
 
 twelve : _≡_ {A = ℕ} 12 0 → ⊥
