@@ -2,7 +2,7 @@
 use mathlib.Core.Path.{_≡_, refl, sym, ap, ap₂, _∙_}
 use mathlib.Core.Bool.{Bool, true, false, not}
 use mathlib.Core.List.{List, _++_, map}
-use Prim.Native.Nat.{ℕ, suc, _-_, _/_, _^_}
+use Prim.Native.Nat.{ℕ, suc, _-_, _/_, _^_, min}
 use native.Mathlib.Nat.{mul-div-cancel}
 use native.Mathlib.Omega.{arith}
 use lib.ListN.{length, getD, drop}
@@ -13,7 +13,7 @@ use Rattle.expression.specs.Nodes.{exprOf}
 use Rattle.backend.specs.Circuit.{Section, wordK, entries, bodyOf, pairsOf, cellAt, cellsOf, statedOf, circuitOf, numPoly, numUser}
 use Rattle.backend.specs.Layout.{laidOut, nodesInRange}
 use Rattle.backend.specs.Questions.{q1, q2, q3, q4, q3-bodies, q4-bodies, q5, q6, q7, q8, q9, q10, cyclesGood, q11, layoutQuestions, bodyQuestions, circuitQuestions}
-use Rattle.backend.specs.Degrees.{degreesFit}
+use Rattle.backend.specs.Degrees.{degreeOf, lookupsDegree, degreesFit}
 use Rattle.backend.specs.Laid.{Laid, Counted}
 use Rattle.backend.proofs.Sections.{body-length, laid}
 use Rattle.backend.proofs.Numbers.{counted}
@@ -109,10 +109,20 @@ pair-count ws a = ap (λ (n : ℕ). n / 2) (body-length ws a Section.pairs) ∙ 
 pub pairs-enough : (ws w p : List ℕ) → Laid ws → Counted ws → w ≡ bodyOf ws Section.widths → p ≡ bodyOf ws Section.pairs → total w ≡ length p / 2
 pairs-enough ws w p a k d e = ap total d ∙ sym (k .pairs-are) ∙ sym (ap (λ (ns : List ℕ). length ns / 2) e ∙ pair-count ws a)
 
-pub ten : (ws n c w p : List ℕ) → Laid ws → n ≡ bodyOf ws Section.nodes → c ≡ bodyOf ws Section.constraints → w ≡ bodyOf ws Section.widths
-    → p ≡ bodyOf ws Section.pairs → (s : ℕ) → s ≡ getD ws 1 0 → (r : Bool) → r ≡ degreesFit (statedOf s) (map (exprOf n) c) (split w (pairsOf n p)) → r ≡ q10 (circuitOf ws)
+-- the degrees, of the sections' expressions
+pub user-degree-of : (ws n c : List ℕ) → n ≡ bodyOf ws Section.nodes → c ≡ bodyOf ws Section.constraints → (u : ℕ)
+    → u ≡ min 1025 (degreeOf (map (exprOf n) c)) → u ≡ min 1025 (degreeOf (circuitOf ws .constraints))
 unfolding circuitOf
-ten ws n c w p a x y z q s t r e = e ∙ rw (x, y, z, q, t, pair-count ws a) (sym (ten-is (circuitOf ws)))
+user-degree-of ws n c x y u e = e ∙ rw (x, y)
+
+pub lookups-degree-of : (ws n w p : List ℕ) → Laid ws → n ≡ bodyOf ws Section.nodes → w ≡ bodyOf ws Section.widths → p ≡ bodyOf ws Section.pairs → (u : ℕ)
+    → u ≡ min 1025 (lookupsDegree (split w (pairsOf n p))) → u ≡ min 1025 (lookupsDegree (circuitOf ws .lookups))
+unfolding circuitOf
+lookups-degree-of ws n w p a x z q u e = e ∙ rw (x, z, q, pair-count ws a)
+
+pub ten : (ws : List ℕ) (s : ℕ) → s ≡ getD ws 1 0 → (r : Bool) → r ≡ degreesFit (statedOf s) (circuitOf ws .constraints) (circuitOf ws .lookups) → r ≡ q10 (circuitOf ws)
+unfolding circuitOf
+ten ws s t r e = e ∙ rw t (sym (ten-is (circuitOf ws)))
 
 -- ---- 5 to 11, in their order
 

@@ -1,15 +1,23 @@
 // Question 10 and D: the degrees of the user and lookup constraints, each 1025 where it is more.
+use backend_sections::reader::constraints_of;
+use backend_sections::reader::nodes_of;
+use backend_sections::reader::pairs_of;
+use backend_sections::reader::stated_of;
+use backend_sections::reader::widths_of;
 use expression_degree::degree_of;
 ghost use mathlib.Core.Path.{_≡_};
 ghost use mathlib.Core.Bool.{true};
-ghost use mathlib.Core.List.{_++_, map};
+ghost use mathlib.Core.List.{List, map};
 ghost use Prim.Native.Nat.{_+_, _/_, _<_, _≤_, min, max};
-ghost use lib.ListN.{length};
+ghost use lib.ListN.{length, getD};
 ghost use Rattle.lists.specs.Lists.{allOf, largest, split, total};
+ghost use Rattle.expression.specs.Expr.{Expr};
 ghost use Rattle.expression.specs.Nodes.{exprOf};
-ghost use Rattle.backend.specs.Circuit.{pairsOf, statedOf};
-ghost use Rattle.backend.specs.Layout.{isRoot, laidOut};
+ghost use Rattle.backend.specs.Circuit.{Pair, circuitOf, pairsOf, statedOf};
+ghost use Rattle.backend.specs.Layout.{isRoot};
 ghost use Rattle.backend.specs.Degrees as def;
+ghost use Rattle.backend.specs.Questions.{q7};
+ghost use Rattle.backend.specs.Laid.{Laid, Counted};
 
 // The larger of two.
 fn most(a: u64, b: u64) -> u64
@@ -77,44 +85,54 @@ fn lookups_degree(nodes: &[u64], widths: &[u64], pairs: &[u64]) -> u64
     degree
 }
 
-// Question 10: is the degree of each user and lookup constraint at most 1024, and, if a maximum degree stands, does no user
-// constraint exceed it? `stated` is word 1 of the circuit words.
-pub fn degrees_fit(
-    nodes: &[u64],
-    constraints: &[u64],
-    widths: &[u64],
-    pairs: &[u64],
-    stated: u64,
-) -> bool
-    requires { ⌜ (laidOut (now nodes) (now constraints ++ now pairs) ≡ true) × (total (now widths) ≡ length (now pairs) / 2) ⌝ }
-    ensures { λ r. ⌜ r ≡ def.degreesFit (statedOf stated) (map (exprOf (now (nodes .entry))) (now (constraints .entry))) (split (now (widths .entry)) (pairsOf (now (nodes .entry)) (now (pairs .entry)))) ⌝ }
+// What question 10 and D are read from: word 1 of the circuit words, and the largest degree of the user and of the lookup constraints.
+pub struct Degrees {
+    pub stated: u64,
+    pub user: u64,
+    pub lookups: u64,
+}
+
+// The degrees of the constraints of circuit words, once 7 has been answered yes.
+pub fn degrees_of(circuit: &[u64]) -> Degrees
+    requires { ⌜ Laid (now circuit) × (Counted (now circuit) × (q7 (circuitOf (now circuit)) ≡ true)) ⌝ }
+    ensures { λ r. ⌜ (r .stated ≡ getD (now (circuit .entry)) 1 0) × ((r .user ≡ min 1025 (def.degreeOf (circuitOf (now (circuit .entry)) .constraints))) × (r .lookups ≡ min 1025 (def.lookupsDegree (circuitOf (now (circuit .entry)) .lookups)))) ⌝ }
 {
-    let user = user_degree(nodes, constraints);
-    if 1024 < user {
+    let stated = stated_of(circuit);
+    let nodes = nodes_of(circuit);
+    let users = constraints_of(circuit);
+    let widths = widths_of(circuit);
+    let pairs = pairs_of(circuit);
+    let user = user_degree(nodes, users);
+    let lookups = lookups_degree(nodes, widths, pairs);
+    Degrees {
+        stated,
+        user,
+        lookups,
+    }
+}
+
+// Question 10: is the degree of each user and lookup constraint at most 1024, and, if a maximum degree stands, does no user
+// constraint exceed it?
+pub fn degrees_fit(d: Degrees) -> bool
+    ensures { λ r. ⌜ ((constraints : List Expr) (lookups : List (List Pair)) → d .user ≡ min 1025 (def.degreeOf constraints) → d .lookups ≡ min 1025 (def.lookupsDegree lookups) → r ≡ def.degreesFit (statedOf (d .stated)) constraints lookups) ⌝ }
+{
+    if 1024 < d.user {
         return false;
     }
-    if 1024 < lookups_degree(nodes, widths, pairs) {
+    if 1024 < d.lookups {
         return false;
     }
-    (stated == 0) | (user < stated)
+    (d.stated == 0) | (d.user < d.stated)
 }
 
 // Rust `max_degree`, D: the largest of 2, the stated maximum and all user and lookup constraint degrees.
-pub fn max_degree(
-    nodes: &[u64],
-    constraints: &[u64],
-    widths: &[u64],
-    pairs: &[u64],
-    stated: u64,
-) -> u64
-    requires { ⌜ (laidOut (now nodes) (now constraints ++ now pairs) ≡ true) × ((total (now widths) ≡ length (now pairs) / 2) × (def.degreesFit (statedOf stated) (map (exprOf (now nodes)) (now constraints)) (split (now widths) (pairsOf (now nodes) (now pairs))) ≡ true)) ⌝ }
-    ensures { λ r. ⌜ r ≡ def.largestDegree (statedOf stated) (map (exprOf (now (nodes .entry))) (now (constraints .entry))) (split (now (widths .entry)) (pairsOf (now (nodes .entry)) (now (pairs .entry)))) ⌝ }
+pub fn max_degree(d: Degrees) -> u64
+    ensures { λ r. ⌜ ((constraints : List Expr) (lookups : List (List Pair)) → d .user ≡ min 1025 (def.degreeOf constraints) → d .lookups ≡ min 1025 (def.lookupsDegree lookups) → def.degreesFit (statedOf (d .stated)) constraints lookups ≡ true → r ≡ def.largestDegree (statedOf (d .stated)) constraints lookups) ⌝ }
 {
+    let stated = d.stated;
     let mut least: u64 = 2;
     if 3 < stated {
         least = stated - 1;
     }
-    let user = user_degree(nodes, constraints);
-    let lookups = lookups_degree(nodes, widths, pairs);
-    most(least, most(user, lookups))
+    most(least, most(d.user, d.lookups))
 }

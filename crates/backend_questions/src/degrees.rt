@@ -1,10 +1,6 @@
-// Question 10, the limits of the degrees, put to the sections of circuit words.
+// Question 10, the limits of the degrees, put to circuit words.
 use backend_nodes::degrees::degrees_fit;
-use backend_sections::reader::constraints_of;
-use backend_sections::reader::nodes_of;
-use backend_sections::reader::pairs_of;
-use backend_sections::reader::stated_of;
-use backend_sections::reader::widths_of;
+use backend_nodes::degrees::degrees_of;
 ghost use mathlib.Core.Path.{_≡_};
 ghost use mathlib.Core.Bool.{true};
 ghost use Rattle.backend.specs.Circuit.{circuitOf};
@@ -16,10 +12,6 @@ pub fn question_10(circuit: &[u64]) -> bool
     requires { ⌜ Laid (now circuit) × (Counted (now circuit) × (q7 (circuitOf (now circuit)) ≡ true)) ⌝ }
     ensures { λ r. ⌜ r ≡ q10 (circuitOf (now (circuit .entry))) ⌝ }
 {
-    let stated = stated_of(circuit);
-    let nodes = nodes_of(circuit);
-    let users = constraints_of(circuit);
-    let widths = widths_of(circuit);
-    let pairs = pairs_of(circuit);
-    degrees_fit(nodes, users, widths, pairs, stated)
+    let d = degrees_of(circuit);
+    degrees_fit(d)
 }

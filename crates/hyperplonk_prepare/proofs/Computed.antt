@@ -1,7 +1,7 @@
 -- What the functions compute from accepted circuit words is what the definitions say. Assumes nothing.
 use mathlib.Core.Path.{_≡_, sym, ap, ap₂, _∙_}
 use mathlib.Core.Bool.{Bool, true, _&&_}
-use mathlib.Core.List.{List, [], _∷_, _++_, map}
+use mathlib.Core.List.{List, [], _∷_, _++_}
 use Prim.Native.Nat.{ℕ, _+_, _-_, _*_, _/_, _^_, _≤_, _<_, min}
 use native.Mathlib.Omega.{arith}
 use native.Mathlib.Nat.{mul-le-mul}
@@ -10,17 +10,14 @@ use lib.Dec.{eqb, leb, ltb}
 use lib.Seq.{take-all}
 use borrow.Author.Tests.{le-leb, leb-true}
 use Rattle.field.specs.Prime.{P}
-use Rattle.lists.specs.Lists.{allOf, total, concat, split, All}
+use Rattle.lists.specs.Lists.{allOf, total, concat, All}
 use Rattle.lists.proofs.All.{all-from}
 use Rattle.lists.proofs.Columns.{column-length}
 use Rattle.lists.proofs.Once.{same-tests}
 use Rattle.lists.proofs.Parts.{concat-split}
-use Rattle.expression.specs.Nodes.{exprOf}
-use Rattle.backend.specs.Circuit.{Section, wordK, bodyOf, wordEach, cellAt, cellsOf, pairsOf, statedOf, circuitOf, rowsOf, numWitness, numUser, numPoly, numLookups, copiedIn, copied, numCopied}
+use Rattle.backend.specs.Circuit.{Section, wordK, bodyOf, wordEach, cellAt, cellsOf, statedOf, circuitOf, rowsOf, numWitness, numUser, numPoly, numLookups, copiedIn, copied, numCopied}
 use Rattle.backend.specs.Constraints.{maxDegree}
 use Rattle.backend.specs.Degrees.{largestDegree, degreesFit}
-use Rattle.backend.specs.Layout.{laidOut}
-use Rattle.backend.specs.Questions.{q7}
 use Rattle.backend.proofs.Numbers.{each-one, not-past}
 use Rattle.backend.proofs.Degree.{ten-is, d-is}
 use Rattle.preprocessor.specs.Compose.{numZ, composedNodes, paramsOf}
@@ -65,27 +62,19 @@ module _ (ws : List ℕ) (a : Accepted ws) where
       ap₂ (λ (n : ℕ) (body : List ℕ). copiedIn n (cellsOf body)) e q ∙ ap (copiedIn (numPoly (circuitOf ws))) (sym cells-all)
 
   -- ---- D
+  pub degrees-fit : (s : ℕ) → s ≡ getD ws 1 0 → degreesFit (statedOf s) (circuitOf ws .constraints) (circuitOf ws .lookups) ≡ true
+  unfolding circuitOf
+  degrees-fit s t = rw t (sym (ten-is (circuitOf ws)) ∙ known.answers ws a .ten)
+
+  pub degree-from : (s : ℕ) → s ≡ getD ws 1 0 → (r : ℕ) → r ≡ largestDegree (statedOf s) (circuitOf ws .constraints) (circuitOf ws .lookups)
+      → r ≡ maxDegree (circuitOf ws)
+  unfolding circuitOf
+  degree-from s t r e = e ∙ rw t (sym (d-is (circuitOf ws)))
+
+  -- ---- the words that are handed on
   module _ (nodes roots widths pairs : List ℕ) (x : nodes ≡ bodyOf ws Section.nodes) (y : roots ≡ bodyOf ws Section.constraints)
       (z : widths ≡ bodyOf ws Section.widths)
       (q : pairs ≡ bodyOf ws Section.pairs) where
-    pub degree-asked : (s : ℕ) → s ≡ getD ws 1 0 → (laidOut nodes (roots ++ pairs) ≡ true)
-        × ((total widths ≡ length pairs / 2)
-        × (degreesFit (statedOf s) (map (exprOf nodes) roots) (split widths (pairsOf nodes pairs)) ≡ true))
-    unfolding q7 circuitOf
-    degree-asked s t = (
-      rw (x, y, q) (known.answers ws a .seven),
-      (
-        rw (z, q) (known.pairs-total ws a ∙ sym (known.pairs-half ws a)),
-        rw (x, y, z, q, t, known.pairs-half ws a) (sym (ten-is (circuitOf ws)) ∙ known.answers ws a .ten),
-      ),
-    )
-
-    pub degree-from : (s : ℕ) → s ≡ getD ws 1 0 → (r : ℕ) → r ≡ largestDegree (statedOf s) (map (exprOf nodes) roots) (split widths (pairsOf nodes pairs))
-        → r ≡ maxDegree (circuitOf ws)
-    unfolding circuitOf
-    degree-from s t r e = e ∙ rw (x, y, z, q, t, known.pairs-half ws a) (sym (d-is (circuitOf ws)))
-
-    -- ---- the words that are handed on
     module _ (v : CircuitParams) (e : v ≡ paramsOf (circuitOf ws)) where
       pub words-from : Words v nodes roots widths pairs
       words-from = rw (e, x, y, z, q) (known.words ws a)

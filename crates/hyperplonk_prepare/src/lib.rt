@@ -3,6 +3,7 @@
 pub mod inputs;
 pub mod needed;
 
+use backend_nodes::degrees::degrees_of;
 use backend_nodes::degrees::max_degree;
 use backend_sections::bodies::num_poly;
 use backend_sections::bodies::num_user;
@@ -11,11 +12,6 @@ use backend_sections::contents::WIDTH_COUNT;
 use backend_sections::copied::Copied;
 use backend_sections::copied::copied_columns;
 use backend_sections::reader::cells_of;
-use backend_sections::reader::constraints_of;
-use backend_sections::reader::nodes_of;
-use backend_sections::reader::pairs_of;
-use backend_sections::reader::stated_of;
-use backend_sections::reader::widths_of;
 use preprocessor::CircuitParams;
 ghost use mathlib.Core.Path.{_≡_};
 ghost use mathlib.Core.List.{_++_};
@@ -42,12 +38,8 @@ pub fn degree_of(circuit: &[u64]) -> usize
     requires { ⌜ Accepted (now circuit) ⌝ }
     ensures { λ r. ⌜ r ≡ maxDegree (circuitOf (now (circuit .entry))) ⌝ }
 {
-    let stated = stated_of(circuit);
-    let nodes = nodes_of(circuit);
-    let users = constraints_of(circuit);
-    let widths = widths_of(circuit);
-    let lookups = pairs_of(circuit);
-    let degree = max_degree(nodes, users, widths, lookups, stated);
+    let d = degrees_of(circuit);
+    let degree = max_degree(d);
     degree as usize
 }
 
