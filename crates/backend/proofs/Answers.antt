@@ -7,14 +7,14 @@ use native.Mathlib.Nat.{mul-div-cancel}
 use native.Mathlib.Omega.{arith}
 use lib.ListN.{length, getD, drop}
 use borrow.Author.Tests.{not-true, not-false}
-use Rattle.lists.specs.Lists.{column, total, split, firstNo}
+use Rattle.lists.specs.Lists.{tabulate, total, split, firstNo}
 use Rattle.lists.proofs.First.{first-none, first-next, first-number, first-yes, first-append, first-refused}
 use Rattle.expression.specs.Nodes.{exprOf}
-use Rattle.backend.specs.Circuit.{Section, wordK, entries, bodyOf, pairsOf, cellAt, cellsOf, statedOf, circuitOf, numPoly, numUser}
+use Rattle.backend.specs.Circuit.{Section, wordK, entries, bodyOf, pairsOf, cellAt, cellsOf, statedOf, circuitOf, numPoly, numChallenges}
 use Rattle.backend.specs.Layout.{laidOut, nodesInRange}
 use Rattle.backend.specs.Questions.{q1, q2, q3, q4, q3-bodies, q4-bodies, q5, q6, q7, q8, q9, q10, cyclesGood, q11, layoutQuestions, bodyQuestions, circuitQuestions}
 use Rattle.backend.specs.Degrees.{degreeOf, lookupsDegree, degreesFit}
-use Rattle.backend.specs.Laid.{Laid, Counted}
+use Rattle.backend.specs.Laid.{ContentsValid, BodiesValid}
 use Rattle.backend.proofs.Sections.{body-length, laid}
 use Rattle.backend.proofs.Numbers.{counted}
 use Rattle.backend.proofs.Degree.{ten-is}
@@ -62,7 +62,7 @@ module _ (ws : List ℕ) where
                 ∙ first-none ws)
 
 -- what none tells
-pub all-laid : (ws : List ℕ) → firstNo layoutQuestions ws ≡ 0 → Laid ws × Counted ws
+pub all-laid : (ws : List ℕ) → firstNo layoutQuestions ws ≡ 0 → ContentsValid ws × BodiesValid ws
 all-laid ws h =
     let a = first-yes _ _ ws 0 refl h in
     let b = first-yes _ _ ws 1 refl (a .1) in
@@ -79,34 +79,34 @@ pub seven : (ws n c p : List ℕ) → n ≡ bodyOf ws Section.nodes → c ≡ bo
 unfolding q7 circuitOf
 seven ws n c p a b d r e = e ∙ ap₂ laidOut a (ap₂ _++_ b d)
 
-pub eight : (ws n : List ℕ) → n ≡ bodyOf ws Section.nodes → (polys user k : ℕ) (r : Bool) → polys ≡ numPoly (circuitOf ws) → user ≡ numUser (circuitOf ws)
+pub eight : (ws n : List ℕ) → n ≡ bodyOf ws Section.nodes → (polys user k : ℕ) (r : Bool) → polys ≡ numPoly (circuitOf ws) → user ≡ numChallenges (circuitOf ws)
     → k ≡ wordK ws → r ≡ nodesInRange polys user k n → r ≡ q8 (circuitOf ws)
 unfolding q8 circuitOf
 eight ws n a polys user k r p u h e = rw (sym p, sym u, sym a, sym h) e
 
-cell-count : (ws : List ℕ) → Laid ws → length (bodyOf ws Section.cells) / 2 ≡ entries ws Section.cells
+cell-count : (ws : List ℕ) → ContentsValid ws → length (bodyOf ws Section.cells) / 2 ≡ entries ws Section.cells
 cell-count ws a = ap (λ (n : ℕ). n / 2) (body-length ws a Section.cells) ∙ mul-div-cancel (entries ws Section.cells) (omega arith)
 
 -- the cells are as many as the lengths sum to
-pub cells-enough : (ws l c : List ℕ) → Laid ws → Counted ws → l ≡ bodyOf ws Section.lengths → c ≡ bodyOf ws Section.cells → total l ≡ length c / 2
+pub cells-enough : (ws l c : List ℕ) → ContentsValid ws → BodiesValid ws → l ≡ bodyOf ws Section.lengths → c ≡ bodyOf ws Section.cells → total l ≡ length c / 2
 cells-enough ws l c a k p q = ap total p ∙ sym (k .cells-are) ∙ sym (ap (λ (ns : List ℕ). length ns / 2) q ∙ cell-count ws a)
 
-pub eleven : (ws l c : List ℕ) → Laid ws → l ≡ bodyOf ws Section.lengths → c ≡ bodyOf ws Section.cells → (polys rows : ℕ) (r : Bool)
+pub eleven : (ws l c : List ℕ) → ContentsValid ws → l ≡ bodyOf ws Section.lengths → c ≡ bodyOf ws Section.cells → (polys rows : ℕ) (r : Bool)
     → polys ≡ numPoly (circuitOf ws) → rows ≡ 2 ^ wordK ws → r ≡ cyclesGood polys rows (split l (cellsOf c)) → r ≡ q11 (circuitOf ws)
 unfolding q11 circuitOf
 eleven ws l c a p q polys rows r m n e =
     e ∙ ap₂ (λ (lengths : List ℕ) (cells : List ℕ). cyclesGood polys rows (split lengths (cellsOf cells))) p q
     ∙ ap₂ (λ (polys : ℕ) (rows : ℕ). cyclesGood polys rows (split (bodyOf ws Section.lengths) (cellsOf (bodyOf ws Section.cells)))) m n
-    ∙ ap (λ (n : ℕ). cyclesGood (numPoly (circuitOf ws)) (2 ^ wordK ws) (split (bodyOf ws Section.lengths) (column (cellAt (bodyOf ws Section.cells)) n)))
+    ∙ ap (λ (n : ℕ). cyclesGood (numPoly (circuitOf ws)) (2 ^ wordK ws) (split (bodyOf ws Section.lengths) (tabulate (cellAt (bodyOf ws Section.cells)) n)))
     (cell-count ws a)
 
 -- ---- 10
 
-pair-count : (ws : List ℕ) → Laid ws → length (bodyOf ws Section.pairs) / 2 ≡ entries ws Section.pairs
+pair-count : (ws : List ℕ) → ContentsValid ws → length (bodyOf ws Section.pairs) / 2 ≡ entries ws Section.pairs
 pair-count ws a = ap (λ (n : ℕ). n / 2) (body-length ws a Section.pairs) ∙ mul-div-cancel (entries ws Section.pairs) (omega arith)
 
 -- the pairs are as many as the widths sum to
-pub pairs-enough : (ws w p : List ℕ) → Laid ws → Counted ws → w ≡ bodyOf ws Section.widths → p ≡ bodyOf ws Section.pairs → total w ≡ length p / 2
+pub pairs-enough : (ws w p : List ℕ) → ContentsValid ws → BodiesValid ws → w ≡ bodyOf ws Section.widths → p ≡ bodyOf ws Section.pairs → total w ≡ length p / 2
 pairs-enough ws w p a k d e = ap total d ∙ sym (k .pairs-are) ∙ sym (ap (λ (ns : List ℕ). length ns / 2) e ∙ pair-count ws a)
 
 -- the degrees, of the sections' expressions
@@ -115,7 +115,7 @@ pub user-degree-of : (ws n c : List ℕ) → n ≡ bodyOf ws Section.nodes → c
 unfolding circuitOf
 user-degree-of ws n c x y u e = e ∙ rw (x, y)
 
-pub lookups-degree-of : (ws n w p : List ℕ) → Laid ws → n ≡ bodyOf ws Section.nodes → w ≡ bodyOf ws Section.widths → p ≡ bodyOf ws Section.pairs → (u : ℕ)
+pub lookups-degree-of : (ws n w p : List ℕ) → ContentsValid ws → n ≡ bodyOf ws Section.nodes → w ≡ bodyOf ws Section.widths → p ≡ bodyOf ws Section.pairs → (u : ℕ)
     → u ≡ min 1025 (lookupsDegree (split w (pairsOf n p))) → u ≡ min 1025 (lookupsDegree (circuitOf ws .lookups))
 unfolding circuitOf
 lookups-degree-of ws n w p a x z q u e = e ∙ rw (x, z, q, pair-count ws a)

@@ -10,16 +10,16 @@ use native.Mathlib.Omega.{arith}
 use lib.Dec.{eqb, leb, ltb, eqb·suc-zero, leb·zero, leb·suc-suc}
 use lib.ListN.{length, getD, take, drop, drop-of-length-le}
 use borrow.Author.Tests.{leb-true, le-leb, lt-leb, ltb-true}
-use Rattle.lists.specs.Lists.{column, allOf, largest, split, total}
+use Rattle.lists.specs.Lists.{tabulate, allOf, maximum, split, total}
 use Rattle.lists.proofs.Tests.{all-append, all-each, and-left, and-right, and-both}
 use Rattle.lists.proofs.Columns.{map-column, column-suc, column-cong, column-of}
 use Rattle.lists.proofs.Totals.{largest-append}
 use Rattle.lists.proofs.Walks.{all-map}
 use Rattle.lists.proofs.Searches.{column-part, total-drop, split-drop}
 use Rattle.lists.proofs.Once.{same-tests}
-use Rattle.expression.specs.Expr.{Expr, Exprs, degree, evaluate, spread, values, running, degreeOps, exprsOf, distributePowers}
+use Rattle.expression.specs.Expr.{Expr, Exprs, degree, evaluate, powersFirst, values, running, degreeOps, exprsOf, distributePowers}
 use Rattle.expression.specs.Nodes.{exprOf}
-use Rattle.backend.specs.Circuit.{Circuit, Pair, word, pairAt, pairsOf, statedOf, numUser}
+use Rattle.backend.specs.Circuit.{Circuit, Pair, word, pairAt, pairsOf, statedOf, numChallenges}
 use Rattle.backend.specs.Layout.{nodeCount, nodesHold, kindIs, inPlace, isRoot, once, laidOut}
 use Rattle.backend.specs.Constraints.{inputsOf, tablesOf, betaOf, lookupConstraint, lookupConstraints, leastD, maxDegree}
 use Rattle.backend.specs.Questions.{atMost, q10}
@@ -29,11 +29,11 @@ max-assoc : (a b d : ℕ) → max (max a b) d ≡ max a (max b d)
 max-assoc a b d = omega arith
 
 -- a base of degree 0 leaves the largest
-running-zero : (acc : ℕ) (ns : List ℕ) → running degreeOps 0 0 acc ns ≡ max acc (largest ns)
-unfolding running degreeOps largest
+running-zero : (acc : ℕ) (ns : List ℕ) → running degreeOps 0 0 acc ns ≡ max acc (maximum ns)
+unfolding running degreeOps maximum
 running-zero acc [] = sym (max-zero acc)
 running-zero acc (n ∷ ns) =
-    ap (λ (m : ℕ). running degreeOps 0 0 (max acc m) ns) (zero-add n) ∙ running-zero (max acc n) ns ∙ max-assoc acc n (largest ns)
+    ap (λ (m : ℕ). running degreeOps 0 0 (max acc m) ns) (zero-add n) ∙ running-zero (max acc n) ns ∙ max-assoc acc n (maximum ns)
 
 degrees-of : (e : Expr) (es : List Expr) → values degreeOps (exprsOf e es) ≡ map degree (e ∷ es)
 unfolding evaluate exprsOf degree
@@ -41,7 +41,7 @@ degrees-of e [] = refl
 degrees-of e (f ∷ es) = ap (λ (ns : List ℕ). degree e ∷ ns) (degrees-of f es)
 
 pub powers-degree : (es : List Expr) (i : ℕ) → degree (distributePowers es (Expr.challenge i)) ≡ degreeOf es
-unfolding evaluate exprsOf degree distributePowers largest degreeOps
+unfolding evaluate exprsOf degree distributePowers maximum degreeOps
 powers-degree [] i = refl
 powers-degree (e ∷ []) i = sym (max-zero (degree e))
 powers-degree (e ∷ (f ∷ es)) i =
@@ -56,8 +56,8 @@ module _ (c : Circuit) where
   constraint-degree j =
       let l : List Pair = getD (c .lookups) j [] in
       ap₂ (λ (i t : ℕ). max (max (1 + max i 0 + max t 0) (max t 0)) (1 + max i 0))
-      (powers-degree (inputsOf l) (numUser c))
-      (powers-degree (tablesOf l) (numUser c))
+      (powers-degree (inputsOf l) (numChallenges c))
+      (powers-degree (tablesOf l) (numChallenges c))
       ∙ constraint-of (degreeOf (inputsOf l)) (degreeOf (tablesOf l))
 
   lookup-degrees : map degree (lookupConstraints c) ≡ map lookupDegree (c .lookups)
@@ -80,14 +80,14 @@ module _ (c : Circuit) where
   pub d-is : maxDegree c ≡ largestDegree (c .stated) (c .constraints) (c .lookups)
   unfolding maxDegree largestDegree
   d-is =
-      ap (λ (ns : List ℕ). largest (leastD (c .stated) ∷ ns))
+      ap (λ (ns : List ℕ). maximum (leastD (c .stated) ∷ ns))
       (map-append degree (c .constraints) (lookupConstraints c) ∙ ap (λ (ns : List ℕ). map degree (c .constraints) ++ ns) lookup-degrees)
 
 -- ---- by the largest degree, 1025 where it is more
-all-largest : (d : ℕ) (ns : List ℕ) → allOf (λ n. leb n d) ns ≡ leb (largest ns) d
-unfolding allOf largest
+all-largest : (d : ℕ) (ns : List ℕ) → allOf (λ n. leb n d) ns ≡ leb (maximum ns) d
+unfolding allOf maximum
 all-largest d [] = sym (leb·zero d)
-all-largest d (n ∷ ns) = ap (λ (t : Bool). leb n d && t) (all-largest d ns) ∙ both n (largest ns)
+all-largest d (n ∷ ns) = ap (λ (t : Bool). leb n d && t) (all-largest d ns) ∙ both n (maximum ns)
   where
     both : (m k : ℕ) → (leb m d && leb k d) ≡ leb (max m k) d
     both m k =
@@ -98,7 +98,7 @@ all-largest d (n ∷ ns) = ap (λ (t : Bool). leb n d && t) (all-largest d ns) �
         le-leb (max m k) d (omega arith))
         (λ e. let x = leb-true (max m k) d e in and-both (leb m d) (leb k d) (le-leb m d (omega arith)) (le-leb k d (omega arith)))
 
-pub all-most : {A : Type 0} (f : A → ℕ) (d : ℕ) (xs : List A) → allOf (λ x. leb (f x) d) xs ≡ leb (largest (map f xs)) d
+pub all-most : {A : Type 0} (f : A → ℕ) (d : ℕ) (xs : List A) → allOf (λ x. leb (f x) d) xs ≡ leb (maximum (map f xs)) d
 all-most f d xs = sym (all-map (λ n. leb n d) f xs) ∙ all-largest d (map f xs)
 
 module _ (stated : ℕ) (constraints : List Expr) (lookups : List (List Pair)) where
@@ -106,7 +106,7 @@ module _ (stated : ℕ) (constraints : List Expr) (lookups : List (List Pair)) w
   users = degreeOf constraints
 
   abbrev pub looks : ℕ
-  looks = largest (map lookupDegree lookups)
+  looks = maximum (map lookupDegree lookups)
 
   pub users-high : (u : ℕ) → u ≡ min 1025 users → 1024 < u → false ≡ degreesFit (statedOf stated) constraints lookups
   unfolding degreesFit
@@ -155,28 +155,28 @@ cap-more x a b = ap (max x) (sym (cap-max a b)) ∙ sym (max-assoc x (min 1025 a
 -- ---- the largest of a column of degrees, 1025 where it is more
 pub record Most (g : ℕ → ℕ) (n d i : ℕ) : Type 0 where
   pub upto : i ≤ n
-  pub so-far : d ≡ min 1025 (largest (column g i))
+  pub so-far : d ≡ min 1025 (maximum (tabulate g i))
 
 module _ (g : ℕ → ℕ) (n : ℕ) where
   pub most-none : Most g n 0 0
-  unfolding column largest
+  unfolding tabulate maximum
   most-none = record { upto = omega arith; so-far = refl }
 
-  largest-next : (i : ℕ) → largest (column g (i + 1)) ≡ max (largest (column g i)) (g i)
-  unfolding largest
+  largest-next : (i : ℕ) → maximum (tabulate g (i + 1)) ≡ max (maximum (tabulate g i)) (g i)
+  unfolding maximum
   largest-next i =
-      ap (λ (m : ℕ). largest (column g m)) (add-one i) ∙ ap largest (column-suc g i) ∙ largest-append (column g i) (g i ∷ [])
-      ∙ ap (max (largest (column g i))) (max-zero (g i))
+      ap (λ (m : ℕ). maximum (tabulate g m)) (add-one i) ∙ ap maximum (column-suc g i) ∙ largest-append (tabulate g i) (g i ∷ [])
+      ∙ ap (max (maximum (tabulate g i))) (max-zero (g i))
 
   pub most-more : (d i e m : ℕ) → Most g n d i → i < n → e ≡ min 1025 (g i) → m ≡ max d e → Most g n m (i + 1)
   most-more d i e m v l p q =
-      record { upto = omega arith; so-far = q ∙ ap₂ max (v .so-far) p ∙ cap-max (largest (column g i)) (g i) ∙ ap (min 1025) (sym (largest-next i)) }
+      record { upto = omega arith; so-far = q ∙ ap₂ max (v .so-far) p ∙ cap-max (maximum (tabulate g i)) (g i) ∙ ap (min 1025) (sym (largest-next i)) }
 
-  pub most-all : (d i : ℕ) → Most g n d i → n ≤ i → d ≡ min 1025 (largest (column g n))
+  pub most-all : (d i : ℕ) → Most g n d i → n ≤ i → d ≡ min 1025 (maximum (tabulate g n))
   most-all d i v l =
       let u = v .upto in
       let e : i ≡ n = omega arith in
-      v .so-far ∙ ap (λ (j : ℕ). min 1025 (largest (column g j))) e
+      v .so-far ∙ ap (λ (j : ℕ). min 1025 (maximum (tabulate g j))) e
 
 -- ---- roots
 module _ (nodes : List ℕ) where
@@ -199,9 +199,9 @@ module _ (nodes : List ℕ) where
     pub right-roots : allOf (isRoot nodes) ys ≡ true
     right-roots = and-right (allOf (isRoot nodes) xs) (allOf (isRoot nodes) ys) (sym (all-append (isRoot nodes) xs ys) ∙ all-roots)
 
-  pub roots-degree : (roots : List ℕ) → largest (column (λ i. degree (exprOf nodes (getD roots i 0))) (length roots)) ≡ degreeOf (map (exprOf nodes) roots)
+  pub roots-degree : (roots : List ℕ) → maximum (tabulate (λ i. degree (exprOf nodes (getD roots i 0))) (length roots)) ≡ degreeOf (map (exprOf nodes) roots)
   roots-degree roots =
-      ap largest
+      ap maximum
       (sym (map-column (λ r. degree (exprOf nodes r)) (λ i. getD roots i 0) (length roots)) ∙ ap (map (λ r. degree (exprOf nodes r))) (column-of roots 0)
       ∙ sym (map-map degree (exprOf nodes) roots))
 
@@ -209,16 +209,16 @@ module _ (nodes : List ℕ) where
   module _ (body : List ℕ) where
     inputs-degree : (start n : ℕ) → degreeOf (inputsOf (lookupFrom nodes body start n)) ≡ sideDegree nodes body start 0 n
     inputs-degree start n =
-        ap (λ (es : List Expr). largest (map degree es)) (map-column (λ (p : Pair). p .input) (λ i. pairAt nodes body (start + i)) n)
-        ∙ ap largest
+        ap (λ (es : List Expr). maximum (map degree es)) (map-column (λ (p : Pair). p .input) (λ i. pairAt nodes body (start + i)) n)
+        ∙ ap maximum
         (map-column degree (λ i. exprOf nodes (word body ((start + i) * 2))) n
         ∙ column-cong (λ i. degree (exprOf nodes (word body ((start + i) * 2)))) (λ i. degree (exprOf nodes (word body ((start + i) * 2 + 0)))) n
         (λ i l. ap (λ (j : ℕ). degree (exprOf nodes (word body j))) (sym (add-zero ((start + i) * 2)))))
 
     tables-degree : (start n : ℕ) → degreeOf (tablesOf (lookupFrom nodes body start n)) ≡ sideDegree nodes body start 1 n
     tables-degree start n =
-        ap (λ (es : List Expr). largest (map degree es)) (map-column (λ (p : Pair). p .table) (λ i. pairAt nodes body (start + i)) n)
-        ∙ ap largest (map-column degree (λ i. exprOf nodes (word body ((start + i) * 2 + 1))) n)
+        ap (λ (es : List Expr). maximum (map degree es)) (map-column (λ (p : Pair). p .table) (λ i. pairAt nodes body (start + i)) n)
+        ∙ ap maximum (map-column degree (λ i. exprOf nodes (word body ((start + i) * 2 + 1))) n)
 
     module _ (start n i t : ℕ) (p : i ≡ min 1025 (sideDegree nodes body start 0 n)) (q : t ≡ min 1025 (sideDegree nodes body start 1 n)) where
       both-sides : min 1025 (1 + i + t) ≡ min 1025 (lookupDegree (lookupFrom nodes body start n))
@@ -251,7 +251,7 @@ module _ (nodes : List ℕ) where
 
         pub looked-more : (e m : ℕ) → e ≡ min 1025 (lookupDegree (lookupFrom nodes body start (getD widths i 0))) → m ≡ max d e
             → Looked m (start + getD widths i 0) (i + 1)
-        unfolding largest
+        unfolding maximum
         looked-more e m p q =
             record {
               upto = omega arith;
@@ -273,7 +273,7 @@ module _ (nodes : List ℕ) where
             }
 
       pub looked-all : (d start i : ℕ) → Looked d start i → length widths ≤ i → d ≡ min 1025 (lookupsDegree (split widths (pairsOf nodes body)))
-      unfolding split largest
+      unfolding split maximum
       looked-all d start i v l =
           sym
           (v .same
@@ -282,10 +282,10 @@ module _ (nodes : List ℕ) where
 
 -- ---- D, where question 10 is answered yes
 module _ (stated : ℕ) (constraints : List Expr) (lookups : List (List Pair)) (h : degreesFit (statedOf stated) constraints lookups ≡ true) where
-  fit-users : largest (map degree constraints) ≤ 1024
+  fit-users : maximum (map degree constraints) ≤ 1024
   unfolding degreesFit
   fit-users =
-      leb-true (largest (map degree constraints)) 1024
+      leb-true (maximum (map degree constraints)) 1024
       (sym (all-most degree 1024 constraints)
       ∙ and-left (allOf (λ e. leb (degree e) 1024) constraints) (allOf (λ l. leb (lookupDegree l) 1024) lookups)
       (and-left (allOf (λ e. leb (degree e) 1024) constraints && allOf (λ l. leb (lookupDegree l) 1024) lookups)
@@ -306,7 +306,7 @@ module _ (stated : ℕ) (constraints : List Expr) (lookups : List (List Pair)) (
       → m ≡ max u k
       → r ≡ max least m
       → r ≡ largestDegree (statedOf stated) constraints lookups
-  unfolding largestDegree largest
+  unfolding largestDegree maximum
   d-of least u k m r p q s t w =
       w ∙ ap₂ max p (t ∙ ap₂ max (q ∙ exact (degreeOf constraints) fit-users) (s ∙ exact (lookupsDegree lookups) fit-looks))
       ∙ ap (max (leastD (statedOf stated))) (sym (largest-append (map degree constraints) (map lookupDegree lookups)))

@@ -11,7 +11,7 @@ use lib.Dec.{eqb, leb, ltb, leb·suc-suc}
 use lib.Pow.{pow-pos}
 use borrow.Author.Tests.{not-true, not-false, lt-leb, leb-true, eqb-true, ne-eqb}
 use Rattle.field.specs.Prime.{P}
-use Rattle.lists.specs.Lists.{column, allOf, total, split}
+use Rattle.lists.specs.Lists.{tabulate, allOf, total, split}
 use Rattle.lists.proofs.Tests.{false-true, and-left, and-right, all-true}
 use Rattle.lists.proofs.All.{all-weaken}
 use Rattle.lists.proofs.Lists.{split-length}
@@ -19,16 +19,16 @@ use Rattle.lists.proofs.Columns.{column-length, column-cong, column-of, map-col
 use Rattle.lists.proofs.Runs.{take-column}
 use Rattle.lists.proofs.Walks.{all-map, all-same, all-parts}
 use Rattle.expression.specs.Nodes.{wordOf, exprOf}
-use Rattle.backend.specs.Circuit.{Section, entry, entries, wordK, bodyOf, word, wordEach, Round, roundAt, Pair, pairAt, circuitOf, numWitness, numUser, numPoly}
+use Rattle.backend.specs.Circuit.{Section, entry, entries, wordK, bodyOf, word, wordEach, Round, roundAt, Pair, pairAt, circuitOf, numWitness, numChallenges, numPoly}
 use Rattle.backend.specs.Layout.{kindIs}
 use Rattle.backend.specs.Questions.{q3-bodies, q4-bodies, roundsGood, small, smallValue, valuesSmall, q5, q6, q9}
-use Rattle.backend.specs.Laid.{Laid, Counted}
+use Rattle.backend.specs.Laid.{ContentsValid, BodiesValid}
 use Rattle.backend.proofs.Sections.{body-length}
 
 -- ---- a section's words, entry by entry
 
 -- the first word of each entry
-each-first : (body : List ℕ) (size n : ℕ) → wordEach body size 0 n ≡ column (λ i. word body (i * size)) n
+each-first : (body : List ℕ) (size n : ℕ) → wordEach body size 0 n ≡ tabulate (λ i. word body (i * size)) n
 each-first body size n = column-cong _ _ n (λ i _. ap (word body) (add-zero (i * size)))
 
 -- entries of one word
@@ -44,7 +44,7 @@ pub single-sum : (body words : List ℕ) → words ≡ body → (limit r : ℕ) 
 single-sum body words is limit r e = e ∙ ap (λ (ns : List ℕ). min (total ns) limit) (each-one words ∙ is)
 
 -- the words of the rounds, two a round
-module _ (ws : List ℕ) (l : Laid ws) (words : List ℕ) (is : words ≡ bodyOf ws Section.rounds) where
+module _ (ws : List ℕ) (l : ContentsValid ws) (words : List ℕ) (is : words ≡ bodyOf ws Section.rounds) where
   round-count : length words / 2 ≡ entries ws Section.rounds
   round-count =
       ap (λ (ns : List ℕ). length ns / 2) is ∙ ap (λ (n : ℕ). n / 2) (body-length ws l Section.rounds)
@@ -66,8 +66,8 @@ module _ (ws : List ℕ) (l : Laid ws) (words : List ℕ) (is : words ≡ bodyOf
       (of-rounds (λ body n. wordEach body 2 0 n) ∙ each-first (bodyOf ws Section.rounds) 2 (entries ws Section.rounds)
       ∙ sym (map-column (λ (r : Round). r .witness) (roundAt (bodyOf ws Section.rounds)) (entries ws Section.rounds)))
 
-  pub user-sum : (limit r : ℕ) → r ≡ min (total (wordEach words 2 1 (length words / 2))) limit → r ≡ min (numUser (circuitOf ws)) limit
-  unfolding numUser circuitOf
+  pub user-sum : (limit r : ℕ) → r ≡ min (total (wordEach words 2 1 (length words / 2))) limit → r ≡ min (numChallenges (circuitOf ws)) limit
+  unfolding numChallenges circuitOf
   user-sum limit r e =
       e
       ∙ ap (λ (ns : List ℕ). min (total ns) limit)
@@ -75,7 +75,7 @@ module _ (ws : List ℕ) (l : Laid ws) (words : List ℕ) (is : words ≡ bodyOf
       ∙ sym (map-column (λ (r : Round). r .challenges) (roundAt (bodyOf ws Section.rounds)) (entries ws Section.rounds)))
 
 -- as many words as entries
-single-length : (ws : List ℕ) → Laid ws → (s : Section) → entry (wordK ws) s ≡ 1 → length (bodyOf ws s) ≡ entries ws s
+single-length : (ws : List ℕ) → ContentsValid ws → (s : Section) → entry (wordK ws) s ≡ 1 → length (bodyOf ws s) ≡ entries ws s
 single-length ws l s e = body-length ws l s ∙ ap (λ (e : ℕ). entries ws s * e) e ∙ mul-one (entries ws s)
 
 -- ---- tests
@@ -100,7 +100,7 @@ eqb-min n m =
     min-cases n (m + 1) (eqb m (min n (m + 1)) ≡ eqb m n) (λ _ e. ap (eqb m) e)
     (λ h e. ne-eqb m (min n (m + 1)) (λ q. omega arith) ∙ sym (ne-eqb m n (λ q. omega arith)))
 
-pub three-bodies : (ws : List ℕ) (w u s : ℕ) (n : Bool) → w ≡ min (numWitness (circuitOf ws)) 33 → u ≡ min (numUser (circuitOf ws)) 17
+pub three-bodies : (ws : List ℕ) (w u s : ℕ) (n : Bool) → w ≡ min (numWitness (circuitOf ws)) 33 → u ≡ min (numChallenges (circuitOf ws)) 17
     → n ≡ allOf (λ w. leb w 8) (bodyOf ws Section.widths) → s ≡ min (total (bodyOf ws Section.lengths)) 4097
     → (leb w 32 && leb u 16 && n && leb s 4096) ≡ q3-bodies ws
 unfolding q3-bodies
@@ -108,7 +108,7 @@ three-bodies ws w u s n a b c d =
     ap₂ _&&_
     (ap₂ _&&_
     (ap₂ _&&_ (ap (λ (x : ℕ). leb x 32) a ∙ leb-min (numWitness (circuitOf ws)) 32)
-    (ap (λ (x : ℕ). leb x 16) b ∙ leb-min (numUser (circuitOf ws)) 16))
+    (ap (λ (x : ℕ). leb x 16) b ∙ leb-min (numChallenges (circuitOf ws)) 16))
     c)
     (ap (λ (x : ℕ). leb x 4096) d ∙ leb-min (total (bodyOf ws Section.lengths)) 4096)
 
@@ -120,18 +120,18 @@ four-bodies ws w l a b =
     (ap (eqb (getD ws 19 0)) b ∙ eqb-min (total (bodyOf ws Section.lengths)) (getD ws 19 0))
 
 -- yes to both
-pub counted : (ws : List ℕ) → q3-bodies ws ≡ true → q4-bodies ws ≡ true → Counted ws
+pub counted : (ws : List ℕ) → q3-bodies ws ≡ true → q4-bodies ws ≡ true → BodiesValid ws
 unfolding q3-bodies q4-bodies
 counted ws three four =
     let w : Bool = leb (numWitness (circuitOf ws)) 32 in
-    let u : Bool = leb (numUser (circuitOf ws)) 16 in
+    let u : Bool = leb (numChallenges (circuitOf ws)) 16 in
     let n : Bool = allOf (λ (w : ℕ). leb w 8) (bodyOf ws Section.widths) in
     let s : Bool = leb (total (bodyOf ws Section.lengths)) 4096 in
     let p : Bool = eqb (entries ws Section.pairs) (total (bodyOf ws Section.widths)) in
     let c : Bool = eqb (entries ws Section.cells) (total (bodyOf ws Section.lengths)) in
     record {
       few-witness = leb-true (numWitness (circuitOf ws)) 32 (and-left w u (and-left (w && u) n (and-left (w && u && n) s three)));
-      few-user = leb-true (numUser (circuitOf ws)) 16 (and-right w u (and-left (w && u) n (and-left (w && u && n) s three)));
+      few-user = leb-true (numChallenges (circuitOf ws)) 16 (and-right w u (and-left (w && u) n (and-left (w && u && n) s three)));
       narrow =
           all-weaken (λ (w : ℕ). leb w 8 ≡ true) (λ (w : ℕ). w ≤ 8) (λ w e. leb-true w 8 e) (bodyOf ws Section.widths)
           (all-true (λ (w : ℕ). leb w 8) (bodyOf ws Section.widths) (and-right (w && u) n (and-left (w && u && n) s three)));
@@ -142,7 +142,7 @@ counted ws three four =
 
 -- ---- 5
 
-pub rounds-tested : (ws : List ℕ) → Laid ws → (words : List ℕ) → words ≡ bodyOf ws Section.rounds → (w u : Bool)
+pub rounds-tested : (ws : List ℕ) → ContentsValid ws → (words : List ℕ) → words ≡ bodyOf ws Section.rounds → (w u : Bool)
     → w ≡ allOf (ltb 0) (wordEach words 2 0 (length words / 2)) → u ≡ allOf (ltb 0) (wordEach words 2 1 (length words / 2 - 1))
     → (w && u) ≡ roundsGood (circuitOf ws .rounds)
 unfolding circuitOf
@@ -153,13 +153,13 @@ rounds-tested ws l words is w u a b =
     (a
     ∙ ap (allOf (ltb 0))
     (of-rounds ws l words is (λ body n. wordEach body 2 0 n) ∙ each-first body 2 n ∙ sym (map-column (λ (r : Round). r .witness) (roundAt body) n))
-    ∙ all-map (ltb 0) (λ (r : Round). r .witness) (column (roundAt body) n))
+    ∙ all-map (ltb 0) (λ (r : Round). r .witness) (tabulate (roundAt body) n))
     (b
     ∙ ap (allOf (ltb 0))
     (of-rounds ws l words is (λ body n. wordEach body 2 1 (n - 1)) ∙ sym (map-column (λ (r : Round). r .challenges) (roundAt body) (n - 1)))
-    ∙ all-map (ltb 0) (λ (r : Round). r .challenges) (column (roundAt body) (n - 1))
+    ∙ all-map (ltb 0) (λ (r : Round). r .challenges) (tabulate (roundAt body) (n - 1))
     ∙ ap (allOf (λ (r : Round). ltb 0 (r .challenges)))
-    (sym (ap (λ (m : ℕ). take (m - 1) (column (roundAt body) n)) (column-length (roundAt body) n) ∙ take-column (roundAt body) (n - 1) n (omega arith))))
+    (sym (ap (λ (m : ℕ). take (m - 1) (tabulate (roundAt body) n)) (column-length (roundAt body) n) ∙ take-column (roundAt body) (n - 1) n (omega arith))))
 
 below-rows : (n rows : ℕ) → 0 < rows → ltb n rows ≡ leb n (rows - 1)
 below-rows n rows h = let e : rows ≡ suc (rows - 1) = omega arith in ap (ltb n) e ∙ leb·suc-suc n (rows - 1)
@@ -196,7 +196,7 @@ module _ (nodes : List ℕ) (i : ℕ) (r : Bool) (q : r ≡ ltb (getD nodes (i *
   pub value-small : ((eqb (getD nodes (i * 4) 0) 1 || eqb (getD nodes (i * 4) 0) 10) && not r) ≡ false → smallValue nodes i ≡ true
   value-small e = small-or-none (kindIs nodes 1 i) (kindIs nodes 10 i) r (small (wordOf nodes i 3)) q (rw kind-of at e)
 
-pub six : (ws : List ℕ) → Laid ws → (preprocess nodes : List ℕ) → preprocess ≡ bodyOf ws Section.preprocess → nodes ≡ bodyOf ws Section.nodes
+pub six : (ws : List ℕ) → ContentsValid ws → (preprocess nodes : List ℕ) → preprocess ≡ bodyOf ws Section.preprocess → nodes ≡ bodyOf ws Section.nodes
     → (given values : Bool) → given ≡ allOf small preprocess → values ≡ valuesSmall nodes → (given && values) ≡ q6 (circuitOf ws)
 unfolding q6 circuitOf
 six ws l preprocess nodes p n given values a b =
@@ -217,13 +217,13 @@ part-lengths (n ∷ ns) xs h =
     ap₂ (λ (m : ℕ) (ms : List ℕ). m ∷ ms) (length-take-le n xs (omega arith))
     (part-lengths ns (drop n xs) (let d = length-drop n xs in omega arith))
 
-pub nine : (ws : List ℕ) → Laid ws → Counted ws → (words : List ℕ) → words ≡ bodyOf ws Section.widths → (wide : Bool)
+pub nine : (ws : List ℕ) → ContentsValid ws → BodiesValid ws → (words : List ℕ) → words ≡ bodyOf ws Section.widths → (wide : Bool)
     → wide ≡ allOf (ltb 0) (wordEach words 1 0 (length words))
     → (wide && (ltb 0 (getD ws 11 0) || ltb 0 (getD ws 13 0) || ltb 0 (getD ws 17 0))) ≡ q9 (circuitOf ws)
 unfolding q9 circuitOf
 nine ws l k words is wide a =
     let widths : List ℕ = bodyOf ws Section.widths in
-    let pairs : List Pair = column (pairAt (bodyOf ws Section.nodes) (bodyOf ws Section.pairs)) (entries ws Section.pairs) in
+    let pairs : List Pair = tabulate (pairAt (bodyOf ws Section.nodes) (bodyOf ws Section.pairs)) (entries ws Section.pairs) in
     let enough : total widths ≤ length pairs =
     (let e = column-length (pairAt (bodyOf ws Section.nodes) (bodyOf ws Section.pairs)) (entries ws Section.pairs) in
     let w = k .pairs-are in
@@ -242,7 +242,7 @@ nine ws l k words is wide a =
 pub not-past : (n limit r : ℕ) → r ≡ min n limit → n ≤ limit → r ≡ n
 not-past n limit r e h = e ∙ min-eq-left h
 
-pub polys : (ws : List ℕ) (w : ℕ) → Laid ws → w ≡ numWitness (circuitOf ws) → getD ws 3 0 + getD ws 5 0 + w ≡ numPoly (circuitOf ws)
+pub polys : (ws : List ℕ) (w : ℕ) → ContentsValid ws → w ≡ numWitness (circuitOf ws) → getD ws 3 0 + getD ws 5 0 + w ≡ numPoly (circuitOf ws)
 unfolding numPoly circuitOf
 polys ws w l e =
     ap₂ _+_

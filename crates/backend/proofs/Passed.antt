@@ -8,7 +8,7 @@ use Rattle.lists.specs.Lists.{firstNo, All}
 use Rattle.lists.proofs.First.{Numbered, first-yes, first-both}
 use Rattle.backend.specs.Circuit.{circuitOf}
 use Rattle.backend.specs.Questions.{q5, q7, q8, q10, q11, layoutQuestions, bodyQuestions, circuitQuestions}
-use Rattle.backend.specs.Laid.{Laid, Counted}
+use Rattle.backend.specs.Laid.{ContentsValid, BodiesValid}
 use Rattle.backend.proofs.Answers.{all-laid}
 
 pub numbered : All Numbered circuitQuestions
@@ -16,8 +16,8 @@ unfolding circuitQuestions
 numbered = omega arith
 
 pub record Yes (ws : List ℕ) : Type 0 where
-  pub laid : Laid ws
-  pub counted : Counted ws
+  pub laid : ContentsValid ws
+  pub counted : BodiesValid ws
   pub five : q5 (circuitOf ws) ≡ true
   pub seven : q7 (circuitOf ws) ≡ true
   pub eight : q8 (circuitOf ws) ≡ true

@@ -15,7 +15,7 @@ use Rattle.lists.specs.Lists.{allOf, within}
 use Rattle.lists.proofs.Tests.{and-left, and-right}
 use Rattle.backend.specs.Circuit.{Section, sections, place, sectionAt, entry, entries, contents, wordK, startOf, wordsIn, bodyOf}
 use Rattle.backend.specs.Questions.{largestK, allowed, q1, q2, q3, follow, q4}
-use Rattle.backend.specs.Laid.{Laid, endOf, partOf}
+use Rattle.backend.specs.Laid.{ContentsValid, endOf, boundsOf}
 use Rattle.backend.specs.declared.Part.{Part}
 
 -- ---- 3
@@ -210,7 +210,7 @@ unfolding follow
 follow-end ws start h = sym (eqb-true start (length ws) h)
 
 -- yes to 1 to 4
-pub laid : (ws : List ℕ) → q1 ws ≡ true → q2 ws ≡ true → q3 ws ≡ true → q4 ws ≡ true → Laid ws
+pub laid : (ws : List ℕ) → q1 ws ≡ true → q2 ws ≡ true → q3 ws ≡ true → q4 ws ≡ true → ContentsValid ws
 unfolding q1 q2 q3 q4 allOf
 laid ws one two three four =
     let c1 = and-right (leb (getD ws 1 0) 33) _ three in
@@ -258,7 +258,7 @@ laid ws one two three four =
     }
 
 -- a section ends where the next begins, the last where the words end
-next-start : (ws : List ℕ) → Laid ws → (s : ℕ) → s < 9 → (s ≡ 8 → ⊥) → getD ws (4 + s * 2) 0 ≡ endOf ws (sectionAt s)
+next-start : (ws : List ℕ) → ContentsValid ws → (s : ℕ) → s < 9 → (s ≡ 8 → ⊥) → getD ws (4 + s * 2) 0 ≡ endOf ws (sectionAt s)
 next-start ws l zero h n = l .preprocess-at
 next-start ws l (suc zero) h n = l .rounds-at
 next-start ws l (suc (suc zero)) h n = l .nodes-at
@@ -283,13 +283,13 @@ place-at (suc (suc (suc (suc (suc (suc (suc (suc zero)))))))) h = refl
 place-at (suc (suc (suc (suc (suc (suc (suc (suc (suc s))))))))) h = absurd (omega arith)
 
 part-of : (ws : List ℕ) (s end : ℕ) → s < 9 → end ≡ endOf ws (sectionAt s)
-    → _≡_ {A = Part} (record { start = getD ws (2 + s * 2) 0; end = end; count = getD ws (3 + s * 2) 0 }) (partOf ws (sectionAt s))
+    → _≡_ {A = Part} (record { start = getD ws (2 + s * 2) 0; end = end; count = getD ws (3 + s * 2) 0 }) (boundsOf ws (sectionAt s))
 part-of ws s end h e =
     rw e
     (ap (λ (p : ℕ). record { start = getD ws (2 + p * 2) 0; end = endOf ws (sectionAt s); count = getD ws (3 + p * 2) 0 }) (sym (place-at s h)))
 
 -- a section lies in the words
-pub end-inside : (ws : List ℕ) → Laid ws → (s : Section) → endOf ws s ≤ length ws
+pub end-inside : (ws : List ℕ) → ContentsValid ws → (s : Section) → endOf ws s ≤ length ws
 end-inside ws l Section.cells = omega arith
 end-inside ws l Section.lengths = omega arith
 end-inside ws l Section.pairs = omega arith
@@ -302,21 +302,21 @@ end-inside ws l Section.instances = omega arith
 
 -- what `section` ensures of its result
 abbrev pub Placed : List ℕ → ℕ → Part → Type 0
-Placed ws s p = (p ≡ partOf ws (sectionAt s)) × ((p .start ≤ p .end) × (p .end ≤ length ws))
+Placed ws s p = (p ≡ boundsOf ws (sectionAt s)) × ((p .start ≤ p .end) × (p .end ≤ length ws))
 
-placed : (ws : List ℕ) (s : ℕ) (p : Part) → Laid ws → p ≡ partOf ws (sectionAt s) → Placed ws s p
+placed : (ws : List ℕ) (s : ℕ) (p : Part) → ContentsValid ws → p ≡ boundsOf ws (sectionAt s) → Placed ws s p
 placed ws s p l e =
     let a : p .start ≡ startOf ws (sectionAt s) = ap (λ (p : Part). p .start) e in
     let b : p .end ≡ endOf ws (sectionAt s) = ap (λ (p : Part). p .end) e in
     let i = end-inside ws l (sectionAt s) in
     (e, (omega arith, omega arith))
 
-pub last-section : (ws : List ℕ) (s : ℕ) → Laid ws → s < 9 → s ≡ 8
+pub last-section : (ws : List ℕ) (s : ℕ) → ContentsValid ws → s < 9 → s ≡ 8
     → Placed ws s (record { start = getD ws (2 + s * 2) 0; end = length ws; count = getD ws (3 + s * 2) 0 })
 last-section ws s l h e =
     placed ws s _ l (part-of ws s (length ws) h (l .whole ∙ ap (λ (s : ℕ). endOf ws (sectionAt s)) (sym e)))
 
-pub one-section : (ws : List ℕ) (s : ℕ) → Laid ws → s < 9 → (s ≡ 8 → ⊥)
+pub one-section : (ws : List ℕ) (s : ℕ) → ContentsValid ws → s < 9 → (s ≡ 8 → ⊥)
     → Placed ws s (record { start = getD ws (2 + s * 2) 0; end = getD ws (4 + s * 2) 0; count = getD ws (3 + s * 2) 0 })
 one-section ws s l h n = placed ws s _ l (part-of ws s (getD ws (4 + s * 2) 0) h (next-start ws l s h n))
 
@@ -329,7 +329,7 @@ body-part ws s p (e, _) =
     let n : p .end - p .start ≡ wordsIn ws (sectionAt s) = omega arith in
     rw (n, a)
 
-pub body-length : (ws : List ℕ) → Laid ws → (s : Section) → length (bodyOf ws s) ≡ wordsIn ws s
+pub body-length : (ws : List ℕ) → ContentsValid ws → (s : Section) → length (bodyOf ws s) ≡ wordsIn ws s
 unfolding bodyOf
 body-length ws l s =
     length-take (wordsIn ws s) (drop (startOf ws s) ws)

@@ -3,12 +3,12 @@ use mathlib.Core.Bool.{Bool, true, false, not, _&&_}
 use mathlib.Core.List.{List}
 use Prim.Native.Nat.{ℕ, _+_, _-_}
 use lib.Dec.{ltb}
-use Rattle.lists.specs.Lists.{column, allOf, within}
+use Rattle.lists.specs.Lists.{tabulate, allOf, within}
 use Rattle.backend.specs.Circuit.{Cell, cellAt, sameCell}
 
 -- n cells of a body, from `start` on
-abbrev pub run : List ℕ → ℕ → ℕ → List Cell
-run body start n = column (λ i. cellAt body (start + i)) n
+abbrev pub cellsFrom : List ℕ → ℕ → ℕ → List Cell
+cellsFrom body start n = tabulate (λ i. cellAt body (start + i)) n
 
 -- is it none of these?
 abbrev pub fresh : Cell → List Cell → Bool

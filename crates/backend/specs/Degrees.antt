@@ -4,7 +4,7 @@ use mathlib.Core.List.{List, _∷_, _++_, map}
 use mathlib.Core.Option.{Option}
 use Prim.Native.Nat.{ℕ, _+_, _*_}
 use lib.Dec.{leb}
-use Rattle.lists.specs.Lists.{column, allOf, largest}
+use Rattle.lists.specs.Lists.{tabulate, allOf, maximum}
 use Rattle.expression.specs.Expr.{Expr, degree}
 use Rattle.expression.specs.Nodes.{exprOf}
 use Rattle.backend.specs.Circuit.{Pair, word, pairAt}
@@ -12,7 +12,7 @@ use Rattle.backend.specs.Constraints.{inputsOf, tablesOf, leastD}
 use Rattle.backend.specs.Questions.{atMost}
 
 abbrev pub degreeOf : List Expr → ℕ
-degreeOf es = largest (map degree es)
+degreeOf es = maximum (map degree es)
 
 -- the degree of a lookup's constraint, h × (input + γ) × (table + γ) − …: β and γ have degree 0
 abbrev pub lookupDegree : List Pair → ℕ
@@ -20,13 +20,13 @@ lookupDegree l = 1 + degreeOf (inputsOf l) + degreeOf (tablesOf l)
 
 -- the lookup of n pairs of a body, from `start` on, and one side of it: 0 the inputs, 1 the tables
 abbrev pub lookupFrom : List ℕ → List ℕ → ℕ → ℕ → List Pair
-lookupFrom nodes body start n = column (λ i. pairAt nodes body (start + i)) n
+lookupFrom nodes body start n = tabulate (λ i. pairAt nodes body (start + i)) n
 
 abbrev pub sideDegree : List ℕ → List ℕ → ℕ → ℕ → ℕ → ℕ
-sideDegree nodes body start side n = largest (column (λ i. degree (exprOf nodes (word body ((start + i) * 2 + side)))) n)
+sideDegree nodes body start side n = maximum (tabulate (λ i. degree (exprOf nodes (word body ((start + i) * 2 + side)))) n)
 
 abbrev pub lookupsDegree : List (List Pair) → ℕ
-lookupsDegree lookups = largest (map lookupDegree lookups)
+lookupsDegree lookups = maximum (map lookupDegree lookups)
 
 -- "Is the degree (Rust `degree`) of each user and lookup constraint at most 1024, and, if a maximum degree stands, does no
 -- user constraint exceed it?"
@@ -37,4 +37,4 @@ degreesFit stated constraints lookups =
 
 -- "D the largest of 2, the stated maximum and all user and lookup constraint degrees"
 unfoldable pub largestDegree : Option ℕ → List Expr → List (List Pair) → ℕ
-largestDegree stated constraints lookups = largest (leastD stated ∷ (map degree constraints ++ map lookupDegree lookups))
+largestDegree stated constraints lookups = maximum (leastD stated ∷ (map degree constraints ++ map lookupDegree lookups))

@@ -3,7 +3,7 @@ use mathlib.Core.Path.{_≡_}
 use mathlib.Core.List.{List}
 use Prim.Native.Nat.{ℕ, _+_, _≤_}
 use lib.ListN.{length, getD}
-use Rattle.backend.specs.Circuit.{Section, contents, wordK, startOf, entries, wordsIn, bodyOf, circuitOf, numWitness, numUser}
+use Rattle.backend.specs.Circuit.{Section, contents, wordK, startOf, entries, wordsIn, bodyOf, circuitOf, numWitness, numChallenges}
 use Rattle.lists.specs.Lists.{total, All}
 use Rattle.backend.specs.Questions.{largestK}
 use Rattle.backend.specs.declared.Part.{Part}
@@ -13,11 +13,11 @@ abbrev pub endOf : List ℕ → Section → ℕ
 endOf ws s = startOf ws s + wordsIn ws s
 
 -- a section's place and entries, as numbers
-abbrev pub partOf : List ℕ → Section → Part
-partOf ws s = record { start = startOf ws s; end = endOf ws s; count = entries ws s }
+abbrev pub boundsOf : List ℕ → Section → Part
+boundsOf ws s = record { start = startOf ws s; end = endOf ws s; count = entries ws s }
 
 -- yes to 1 to 4 at the contents
-pub record Laid (ws : List ℕ) : Type 0 where
+pub record ContentsValid (ws : List ℕ) : Type 0 where
   pub long : contents ≤ length ws
   pub k-low : 1 ≤ wordK ws
   pub k-high : wordK ws ≤ largestK
@@ -43,9 +43,9 @@ pub record Laid (ws : List ℕ) : Type 0 where
   pub whole : length ws ≡ endOf ws Section.cells
 
 -- yes to 3 and 4 at the bodies
-pub record Counted (ws : List ℕ) : Type 0 where
+pub record BodiesValid (ws : List ℕ) : Type 0 where
   pub few-witness : numWitness (circuitOf ws) ≤ 32
-  pub few-user : numUser (circuitOf ws) ≤ 16
+  pub few-user : numChallenges (circuitOf ws) ≤ 16
   pub narrow : All (λ w. w ≤ 8) (bodyOf ws Section.widths)
   pub few-in-cycles : total (bodyOf ws Section.lengths) ≤ 4096
   pub pairs-are : entries ws Section.pairs ≡ total (bodyOf ws Section.widths)

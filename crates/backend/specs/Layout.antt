@@ -5,15 +5,15 @@ use Prim.Native.Nat.{ℕ, zero, suc, _+_, _/_, _^_}
 use lib.ListN.{length}
 use lib.IntN.{natAbs}
 use lib.Dec.{eqb, leb, ltb}
-use Rattle.lists.specs.Lists.{below, column, allOf, countOf, concat}
-use Rattle.expression.specs.Nodes.{wordOf, Kind, kindOf, signed}
+use Rattle.lists.specs.Lists.{range, tabulate, allOf, countOf, concat}
+use Rattle.expression.specs.Nodes.{wordOf, Kind, kindOf, decodeSigned}
 
 -- "nodes (4 words)"
 abbrev pub nodeCount : List ℕ → ℕ
 nodeCount nodes = length nodes / 4
 
 abbrev pub nodesHold : List ℕ → (ℕ → Bool) → Bool
-nodesHold nodes p = allOf p (below (nodeCount nodes))
+nodesHold nodes p = allOf p (range (nodeCount nodes))
 
 -- is node n of this kind?
 abbrev pub kindIs : List ℕ → ℕ → ℕ → Bool
@@ -79,7 +79,7 @@ inPlace nodes n = byWords shaped nodes n && longEnough nodes n && allOf (right n
 
 -- all names, the nodes' and the roots'
 unfoldable pub names : List ℕ → List ℕ → List Name
-names nodes roots = concat (column (byWords named nodes) (nodeCount nodes)) ++ map plain roots
+names nodes roots = concat (tabulate (byWords named nodes) (nodeCount nodes)) ++ map plain roots
 
 -- is it node n that is named?
 abbrev pub isName : ℕ → Name → Bool
@@ -104,7 +104,7 @@ inRange polys user k Kind.isConstant a b v = true
 inRange polys user k Kind.isIdentity a b v = true
 inRange polys user k Kind.isLagrange a b v = true
 inRange polys user k Kind.isEqXY a b v = false
-inRange polys user k Kind.isPolynomial a b v = ltb a polys && leb (natAbs (signed v)) k
+inRange polys user k Kind.isPolynomial a b v = ltb a polys && leb (natAbs (decodeSigned v)) k
 inRange polys user k Kind.isChallenge a b v = ltb a user
 inRange polys user k Kind.isNegated a b v = true
 inRange polys user k Kind.isSum a b v = true

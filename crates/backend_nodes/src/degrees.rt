@@ -10,14 +10,14 @@ ghost use mathlib.Core.Bool.{true};
 ghost use mathlib.Core.List.{List, map};
 ghost use Prim.Native.Nat.{_+_, _/_, _<_, _≤_, min, max};
 ghost use lib.ListN.{length, getD};
-ghost use Rattle.lists.specs.Lists.{allOf, largest, split, total};
+ghost use Rattle.lists.specs.Lists.{allOf, maximum, split, total};
 ghost use Rattle.expression.specs.Expr.{Expr};
 ghost use Rattle.expression.specs.Nodes.{exprOf};
 ghost use Rattle.backend.specs.Circuit.{Pair, circuitOf, pairsOf, statedOf};
 ghost use Rattle.backend.specs.Layout.{isRoot};
 ghost use Rattle.backend.specs.Degrees as def;
 ghost use Rattle.backend.specs.Questions.{q7};
-ghost use Rattle.backend.specs.Laid.{Laid, Counted};
+ghost use Rattle.backend.specs.Laid.{ContentsValid, BodiesValid};
 
 // The larger of two.
 fn most(a: u64, b: u64) -> u64
@@ -94,7 +94,7 @@ pub struct Degrees {
 
 // The degrees of the constraints of circuit words, once 7 has been answered yes.
 pub fn degrees_of(circuit: &[u64]) -> Degrees
-    requires { ⌜ Laid (now circuit) × (Counted (now circuit) × (q7 (circuitOf (now circuit)) ≡ true)) ⌝ }
+    requires { ⌜ ContentsValid (now circuit) × (BodiesValid (now circuit) × (q7 (circuitOf (now circuit)) ≡ true)) ⌝ }
     ensures { λ r. ⌜ (r .stated ≡ getD (now (circuit .entry)) 1 0) × ((r .user ≡ min 1025 (def.degreeOf (circuitOf (now (circuit .entry)) .constraints))) × (r .lookups ≡ min 1025 (def.lookupsDegree (circuitOf (now (circuit .entry)) .lookups)))) ⌝ }
 {
     let stated = stated_of(circuit);

@@ -8,8 +8,8 @@ ghost use Prim.Native.Nat.{_<_, _≤_, _/_, _+_, _*_};
 ghost use lib.Dec.{eqb, leb};
 ghost use lib.IntN.{natAbs};
 ghost use lib.ListN.{length};
-ghost use Rattle.expression.specs.Nodes.{kindOf, wordOf, signed};
-ghost use Rattle.lists.specs.Lists.{allOf, column, concat};
+ghost use Rattle.expression.specs.Nodes.{kindOf, wordOf, decodeSigned};
+ghost use Rattle.lists.specs.Lists.{allOf, tabulate, concat};
 ghost use Rattle.backend.specs.Layout as def;
 ghost use Rattle.backend_nodes.specs.Tally.{Room, Tally};
 
@@ -175,7 +175,7 @@ fn count_named(counts: &mut [u64; 1024], kind: u64, first: u64, second: u64, val
 // Counts the nodes that nodes name.
 fn count_nodes(counts: &mut [u64; 1024], nodes: &[u64])
     requires { ⌜ Room (now counts) (def.nodeCount (now nodes) * 2) ⌝ }
-    ensures { λ r. ⌜ Tally (now (counts .entry)) (concat (column (def.byWords def.named (now (nodes .entry))) (def.nodeCount (now (nodes .entry))))) (now (counts .exit)) ⌝ }
+    ensures { λ r. ⌜ Tally (now (counts .entry)) (concat (tabulate (def.byWords def.named (now (nodes .entry))) (def.nodeCount (now (nodes .entry))))) (now (counts .exit)) ⌝ }
 {
     let count = nodes.len() / 4;
     let mut m = 0;
@@ -243,7 +243,7 @@ pub fn laid_out(nodes: &[u64], constraints: &[u64], pairs: &[u64]) -> bool
 
 // Is a kept rotation from −k to k?
 fn rotation_in_range(kept: u64, k: u64) -> bool
-    ensures { λ r. ⌜ r ≡ leb (natAbs (signed kept)) k ⌝ }
+    ensures { λ r. ⌜ r ≡ leb (natAbs (decodeSigned kept)) k ⌝ }
 {
     if kept < SIGNED_OFFSET {
         SIGNED_OFFSET - kept <= k

@@ -13,11 +13,11 @@ ghost use lib.Dec.{leb};
 ghost use Rattle.lists.specs.Lists.{allOf, total};
 ghost use Rattle.backend.specs.Circuit.{Section, bodyOf};
 ghost use Rattle.backend.specs.Questions.{q3-bodies, q4-bodies};
-ghost use Rattle.backend.specs.Laid.{Laid};
+ghost use Rattle.backend.specs.Laid.{ContentsValid};
 
 // The sum of the widths, the limit where it is more.
 fn widths_to(circuit: &[u64], limit: u64) -> u64
-    requires { ⌜ Laid (now circuit) ⌝ }
+    requires { ⌜ ContentsValid (now circuit) ⌝ }
     ensures { λ r. ⌜ r ≡ min (total (bodyOf (now (circuit .entry)) Section.widths)) limit ⌝ }
 {
     let widths = widths_of(circuit);
@@ -26,7 +26,7 @@ fn widths_to(circuit: &[u64], limit: u64) -> u64
 
 // The sum of the cycle lengths, the limit where it is more.
 fn lengths_to(circuit: &[u64], limit: u64) -> u64
-    requires { ⌜ Laid (now circuit) ⌝ }
+    requires { ⌜ ContentsValid (now circuit) ⌝ }
     ensures { λ r. ⌜ r ≡ min (total (bodyOf (now (circuit .entry)) Section.lengths)) limit ⌝ }
 {
     let lengths = lengths_of(circuit);
@@ -35,7 +35,7 @@ fn lengths_to(circuit: &[u64], limit: u64) -> u64
 
 // "width 0–8"
 fn widths_narrow(circuit: &[u64]) -> bool
-    requires { ⌜ Laid (now circuit) ⌝ }
+    requires { ⌜ ContentsValid (now circuit) ⌝ }
     ensures { λ r. ⌜ r ≡ allOf (λ w. leb w 8) (bodyOf (now (circuit .entry)) Section.widths) ⌝ }
 {
     all_below(widths_of(circuit), 9)
@@ -43,7 +43,7 @@ fn widths_narrow(circuit: &[u64]) -> bool
 
 // 3, put to the bodies.
 pub fn question_3_bodies(circuit: &[u64]) -> bool
-    requires { ⌜ Laid (now circuit) ⌝ }
+    requires { ⌜ ContentsValid (now circuit) ⌝ }
     ensures { λ r. ⌜ r ≡ q3-bodies (now (circuit .entry)) ⌝ }
 {
     let witness = witness_to(circuit, 33);
@@ -55,7 +55,7 @@ pub fn question_3_bodies(circuit: &[u64]) -> bool
 
 // 4, put to the bodies.
 pub fn question_4_bodies(circuit: &[u64]) -> bool
-    requires { ⌜ Laid (now circuit) ⌝ }
+    requires { ⌜ ContentsValid (now circuit) ⌝ }
     ensures { λ r. ⌜ r ≡ q4-bodies (now (circuit .entry)) ⌝ }
 {
     let pairs = circuit[PAIR_COUNT];

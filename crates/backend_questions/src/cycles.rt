@@ -7,10 +7,10 @@ ghost use mathlib.Core.Path.{_≡_};
 ghost use mathlib.Core.Bool.{true};
 ghost use Prim.Native.Nat.{_+_, _-_, _/_, _<_, _≤_};
 ghost use lib.ListN.{length};
-ghost use Rattle.lists.specs.Lists.{allOf, column, split, total};
+ghost use Rattle.lists.specs.Lists.{allOf, tabulate, split, total};
 ghost use Rattle.backend.specs.Circuit.{cellAt, cellsOf, circuitOf};
 ghost use Rattle.backend.specs.Questions.{goodCycle, cyclesGood, q11};
-ghost use Rattle.backend.specs.Laid.{Laid, Counted};
+ghost use Rattle.backend.specs.Laid.{ContentsValid, BodiesValid};
 ghost use Rattle.backend.specs.Cycles as def;
 ghost use Rattle.backend_questions.specs.Chains.{Linked};
 
@@ -18,7 +18,7 @@ ghost use Rattle.backend_questions.specs.Chains.{Linked};
 // down to `start`.
 fn fresh(cells: &[u64], heads: &[u16; 1024], earlier: &[u16; 4096], start: usize, n: usize) -> bool
     requires { ⌜ (start + n < length (now cells) / 2) × (start + n < 4096) × Linked (now cells) (now heads) (now earlier) (start + n) ⌝ }
-    ensures { λ r. ⌜ r ≡ def.fresh (cellAt (now (cells .entry)) (start + n)) (def.run (now (cells .entry)) start n) ⌝ }
+    ensures { λ r. ⌜ r ≡ def.fresh (cellAt (now (cells .entry)) (start + n)) (def.cellsFrom (now (cells .entry)) start n) ⌝ }
 {
     let at = start + n;
     let polynomial = cells[at * 2];
@@ -57,7 +57,7 @@ fn good_cell(
     rows: u64,
 ) -> bool
     requires { ⌜ (start + n < length (now cells) / 2) × (start + n < 4096) × Linked (now cells) (now heads) (now earlier) (start + n) ⌝ }
-    ensures { λ r. ⌜ r ≡ def.goodAt polys rows (cellAt (now (cells .entry)) (start + n)) (def.run (now (cells .entry)) start n) ⌝ }
+    ensures { λ r. ⌜ r ≡ def.goodAt polys rows (cellAt (now (cells .entry)) (start + n)) (def.cellsFrom (now (cells .entry)) start n) ⌝ }
 {
     let at = start + n;
     let row = cells[at * 2 + 1];
@@ -79,7 +79,7 @@ fn good_cycle(
     rows: u64,
 ) -> bool
     requires { ⌜ (start + n ≤ length (now cells) / 2) × (start + n ≤ 4096) × Linked (now cells) (now heads) (now earlier) start ⌝ }
-    ensures { λ r. ⌜ r ≡ goodCycle polys rows (def.run (now (cells .entry)) start n) ⌝ }
+    ensures { λ r. ⌜ r ≡ goodCycle polys rows (def.cellsFrom (now (cells .entry)) start n) ⌝ }
     ensures { λ r. ⌜ (r ≡ true → Linked (now (cells .entry)) (now (heads .exit)) (now (earlier .exit)) (start + n)) ⌝ }
 {
     if n == 0 {
@@ -118,7 +118,7 @@ fn cycles_good(lengths: &[u64], cells: &[u64], polys: u64, rows: u64) -> bool
 
 // Question 11.
 pub fn question_11(circuit: &[u64]) -> bool
-    requires { ⌜ Laid (now circuit) × Counted (now circuit) ⌝ }
+    requires { ⌜ ContentsValid (now circuit) × BodiesValid (now circuit) ⌝ }
     ensures { λ r. ⌜ r ≡ q11 (circuitOf (now (circuit .entry))) ⌝ }
 {
     let polys = num_poly(circuit);

@@ -5,11 +5,11 @@ ghost use mathlib.Core.Path.{_≡_};
 ghost use mathlib.Core.Bool.{true};
 ghost use Rattle.backend.specs.Circuit.{circuitOf};
 ghost use Rattle.backend.specs.Questions.{q7, q10};
-ghost use Rattle.backend.specs.Laid.{Laid, Counted};
+ghost use Rattle.backend.specs.Laid.{ContentsValid, BodiesValid};
 
 // Question 10, once 7 has been answered yes.
 pub fn question_10(circuit: &[u64]) -> bool
-    requires { ⌜ Laid (now circuit) × (Counted (now circuit) × (q7 (circuitOf (now circuit)) ≡ true)) ⌝ }
+    requires { ⌜ ContentsValid (now circuit) × (BodiesValid (now circuit) × (q7 (circuitOf (now circuit)) ≡ true)) ⌝ }
     ensures { λ r. ⌜ r ≡ q10 (circuitOf (now (circuit .entry))) ⌝ }
 {
     let d = degrees_of(circuit);

@@ -28,7 +28,7 @@ use crate::sections::question_9;
 ghost use mathlib.Core.Path.{_≡_};
 ghost use Rattle.lists.specs.Lists.{firstNo};
 ghost use Rattle.backend.specs.Questions.{layoutQuestions, bodyQuestions, circuitQuestions};
-ghost use Rattle.backend.specs.Laid.{Laid, Counted};
+ghost use Rattle.backend.specs.Laid.{ContentsValid, BodiesValid};
 
 // "3 and then 4 are put to the contents, then 3 and then 4 to the bodies": the first no of these, 0 if there is none.
 pub fn layout_no(circuit: &[u64]) -> u64
@@ -57,7 +57,7 @@ pub fn layout_no(circuit: &[u64]) -> u64
 
 // The first no of 5 to 11, 0 if there is none.
 fn body_no(circuit: &[u64]) -> u64
-    requires { ⌜ Laid (now circuit) × Counted (now circuit) ⌝ }
+    requires { ⌜ ContentsValid (now circuit) × BodiesValid (now circuit) ⌝ }
     ensures { λ r. ⌜ r ≡ firstNo bodyQuestions (now (circuit .entry)) ⌝ }
 {
     if !question_5(circuit) {

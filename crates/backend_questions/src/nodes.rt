@@ -10,11 +10,11 @@ use backend_sections::reader::pairs_of;
 ghost use mathlib.Core.Path.{_≡_};
 ghost use Rattle.backend.specs.Circuit.{circuitOf};
 ghost use Rattle.backend.specs.Questions.{q7, q8};
-ghost use Rattle.backend.specs.Laid.{Laid, Counted};
+ghost use Rattle.backend.specs.Laid.{ContentsValid, BodiesValid};
 
 // Question 7.
 pub fn question_7(circuit: &[u64]) -> bool
-    requires { ⌜ Laid (now circuit) ⌝ }
+    requires { ⌜ ContentsValid (now circuit) ⌝ }
     ensures { λ r. ⌜ r ≡ q7 (circuitOf (now (circuit .entry))) ⌝ }
 {
     let nodes = nodes_of(circuit);
@@ -25,7 +25,7 @@ pub fn question_7(circuit: &[u64]) -> bool
 
 // Question 8.
 pub fn question_8(circuit: &[u64]) -> bool
-    requires { ⌜ Laid (now circuit) × Counted (now circuit) ⌝ }
+    requires { ⌜ ContentsValid (now circuit) × BodiesValid (now circuit) ⌝ }
     ensures { λ r. ⌜ r ≡ q8 (circuitOf (now (circuit .entry))) ⌝ }
 {
     let polys = num_poly(circuit);

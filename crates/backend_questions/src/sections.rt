@@ -16,11 +16,11 @@ use expression::kind;
 ghost use mathlib.Core.Path.{_≡_};
 ghost use Rattle.backend.specs.Circuit.{circuitOf};
 ghost use Rattle.backend.specs.Questions.{roundsGood, valuesSmall, q5, q6, q9};
-ghost use Rattle.backend.specs.Laid.{Laid, Counted};
+ghost use Rattle.backend.specs.Laid.{ContentsValid, BodiesValid};
 
 // "Has every round a witness column, every round but the last a challenge"
 fn rounds_good(circuit: &[u64]) -> bool
-    requires { ⌜ Laid (now circuit) ⌝ }
+    requires { ⌜ ContentsValid (now circuit) ⌝ }
     ensures { λ r. ⌜ r ≡ roundsGood (circuitOf (now (circuit .entry)) .rounds) ⌝ }
 {
     let rounds = rounds_of(circuit);
@@ -32,7 +32,7 @@ fn rounds_good(circuit: &[u64]) -> bool
 
 // Question 5.
 pub fn question_5(circuit: &[u64]) -> bool
-    requires { ⌜ Laid (now circuit) ⌝ }
+    requires { ⌜ ContentsValid (now circuit) ⌝ }
     ensures { λ r. ⌜ r ≡ q5 (circuitOf (now (circuit .entry))) ⌝ }
 {
     let good = rounds_good(circuit);
@@ -62,7 +62,7 @@ fn values_small(nodes: &[u64]) -> bool
 
 // Question 6.
 pub fn question_6(circuit: &[u64]) -> bool
-    requires { ⌜ Laid (now circuit) ⌝ }
+    requires { ⌜ ContentsValid (now circuit) ⌝ }
     ensures { λ r. ⌜ r ≡ q6 (circuitOf (now (circuit .entry))) ⌝ }
 {
     let given = all_elements(preprocess_of(circuit));
@@ -72,7 +72,7 @@ pub fn question_6(circuit: &[u64]) -> bool
 
 // Question 9.
 pub fn question_9(circuit: &[u64]) -> bool
-    requires { ⌜ Laid (now circuit) × Counted (now circuit) ⌝ }
+    requires { ⌜ ContentsValid (now circuit) × BodiesValid (now circuit) ⌝ }
     ensures { λ r. ⌜ r ≡ q9 (circuitOf (now (circuit .entry))) ⌝ }
 {
     let widths = widths_of(circuit);

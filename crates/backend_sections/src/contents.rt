@@ -4,7 +4,7 @@ ghost use mathlib.Core.Path.{_≡_};
 ghost use Prim.Native.Nat.{_<_, _≤_};
 ghost use lib.ListN.{length};
 ghost use Rattle.backend.specs.Circuit.{sectionAt};
-ghost use Rattle.backend.specs.Laid.{Laid, partOf};
+ghost use Rattle.backend.specs.Laid.{ContentsValid, boundsOf};
 
 // The words of the contents: k, the stated maximum degree + 1, then the start and the count of each section, two words on for the next.
 pub const K_WORD: usize = 0;
@@ -58,8 +58,8 @@ pub const CELLS: usize = 8;
 
 // The section at a place of the contents.
 pub fn section(circuit: &[u64], s: usize) -> Part
-    requires { ⌜ Laid (now circuit) × (s < 9) ⌝ }
-    ensures { λ r. ⌜ r ≡ partOf (now (circuit .entry)) (sectionAt s) ⌝ }
+    requires { ⌜ ContentsValid (now circuit) × (s < 9) ⌝ }
+    ensures { λ r. ⌜ r ≡ boundsOf (now (circuit .entry)) (sectionAt s) ⌝ }
     ensures { λ r. ⌜ (r .start ≤ r .end) × (r .end ≤ length (now (circuit .entry))) ⌝ }
 {
     let start = circuit[FIRST_START + s * 2] as usize;

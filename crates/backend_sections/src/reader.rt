@@ -15,11 +15,11 @@ ghost use mathlib.Core.Path.{_≡_};
 ghost use Prim.Native.Nat.{_<_};
 ghost use lib.ListN.{getD};
 ghost use Rattle.backend.specs.Circuit.{Section, sectionAt, bodyOf, wordK};
-ghost use Rattle.backend.specs.Laid.{Laid};
+ghost use Rattle.backend.specs.Laid.{ContentsValid};
 
 // The words of the section at a place of the contents.
 pub fn section_words<'a>(circuit: &'a [u64], s: usize) -> &'a [u64]
-    requires { ⌜ Laid (now circuit) × (s < 9) ⌝ }
+    requires { ⌜ ContentsValid (now circuit) × (s < 9) ⌝ }
     ensures { λ r. ⌜ now r ≡ bodyOf (now (circuit .entry)) (sectionAt s) ⌝ }
 {
     let part = section(circuit, s);
@@ -55,7 +55,7 @@ impl<'a> Circuit<'a> {
 
     // "instance lengths"
     pub fn instances(self) -> &'a [u64]
-        requires { ⌜ Laid (now (self .words)) ⌝ }
+        requires { ⌜ ContentsValid (now (self .words)) ⌝ }
         ensures { λ r. ⌜ now r ≡ bodyOf (now (self .entry .words)) Section.instances ⌝ }
     {
         section_words(self.words, INSTANCES)
@@ -63,7 +63,7 @@ impl<'a> Circuit<'a> {
 
     // "preprocess columns (2^k words each)"
     pub fn preprocess(self) -> &'a [u64]
-        requires { ⌜ Laid (now (self .words)) ⌝ }
+        requires { ⌜ ContentsValid (now (self .words)) ⌝ }
         ensures { λ r. ⌜ now r ≡ bodyOf (now (self .entry .words)) Section.preprocess ⌝ }
     {
         section_words(self.words, PREPROCESS)
@@ -71,7 +71,7 @@ impl<'a> Circuit<'a> {
 
     // "rounds (witness columns, challenges)"
     pub fn rounds(self) -> &'a [u64]
-        requires { ⌜ Laid (now (self .words)) ⌝ }
+        requires { ⌜ ContentsValid (now (self .words)) ⌝ }
         ensures { λ r. ⌜ now r ≡ bodyOf (now (self .entry .words)) Section.rounds ⌝ }
     {
         section_words(self.words, ROUNDS)
@@ -79,7 +79,7 @@ impl<'a> Circuit<'a> {
 
     // "nodes (4 words)"
     pub fn nodes(self) -> &'a [u64]
-        requires { ⌜ Laid (now (self .words)) ⌝ }
+        requires { ⌜ ContentsValid (now (self .words)) ⌝ }
         ensures { λ r. ⌜ now r ≡ bodyOf (now (self .entry .words)) Section.nodes ⌝ }
     {
         section_words(self.words, NODES)
@@ -87,7 +87,7 @@ impl<'a> Circuit<'a> {
 
     // "constraint roots"
     pub fn constraints(self) -> &'a [u64]
-        requires { ⌜ Laid (now (self .words)) ⌝ }
+        requires { ⌜ ContentsValid (now (self .words)) ⌝ }
         ensures { λ r. ⌜ now r ≡ bodyOf (now (self .entry .words)) Section.constraints ⌝ }
     {
         section_words(self.words, CONSTRAINTS)
@@ -95,7 +95,7 @@ impl<'a> Circuit<'a> {
 
     // "lookup widths"
     pub fn widths(self) -> &'a [u64]
-        requires { ⌜ Laid (now (self .words)) ⌝ }
+        requires { ⌜ ContentsValid (now (self .words)) ⌝ }
         ensures { λ r. ⌜ now r ≡ bodyOf (now (self .entry .words)) Section.widths ⌝ }
     {
         section_words(self.words, WIDTHS)
@@ -103,7 +103,7 @@ impl<'a> Circuit<'a> {
 
     // "lookup pairs (input root, table root)"
     pub fn pairs(self) -> &'a [u64]
-        requires { ⌜ Laid (now (self .words)) ⌝ }
+        requires { ⌜ ContentsValid (now (self .words)) ⌝ }
         ensures { λ r. ⌜ now r ≡ bodyOf (now (self .entry .words)) Section.pairs ⌝ }
     {
         section_words(self.words, PAIRS)
@@ -111,7 +111,7 @@ impl<'a> Circuit<'a> {
 
     // "cycle lengths"
     pub fn lengths(self) -> &'a [u64]
-        requires { ⌜ Laid (now (self .words)) ⌝ }
+        requires { ⌜ ContentsValid (now (self .words)) ⌝ }
         ensures { λ r. ⌜ now r ≡ bodyOf (now (self .entry .words)) Section.lengths ⌝ }
     {
         section_words(self.words, LENGTHS)
@@ -119,7 +119,7 @@ impl<'a> Circuit<'a> {
 
     // "cells (polynomial, row)"
     pub fn cells(self) -> &'a [u64]
-        requires { ⌜ Laid (now (self .words)) ⌝ }
+        requires { ⌜ ContentsValid (now (self .words)) ⌝ }
         ensures { λ r. ⌜ now r ≡ bodyOf (now (self .entry .words)) Section.cells ⌝ }
     {
         section_words(self.words, CELLS)
@@ -144,7 +144,7 @@ pub fn stated_of(circuit: &[u64]) -> u64
 
 // "instance lengths"
 pub fn instances_of<'a>(circuit: &'a [u64]) -> &'a [u64]
-    requires { ⌜ Laid (now circuit) ⌝ }
+    requires { ⌜ ContentsValid (now circuit) ⌝ }
     ensures { λ r. ⌜ now r ≡ bodyOf (now (circuit .entry)) Section.instances ⌝ }
 {
     Circuit::new(circuit).instances()
@@ -152,7 +152,7 @@ pub fn instances_of<'a>(circuit: &'a [u64]) -> &'a [u64]
 
 // "preprocess columns (2^k words each)"
 pub fn preprocess_of<'a>(circuit: &'a [u64]) -> &'a [u64]
-    requires { ⌜ Laid (now circuit) ⌝ }
+    requires { ⌜ ContentsValid (now circuit) ⌝ }
     ensures { λ r. ⌜ now r ≡ bodyOf (now (circuit .entry)) Section.preprocess ⌝ }
 {
     Circuit::new(circuit).preprocess()
@@ -160,7 +160,7 @@ pub fn preprocess_of<'a>(circuit: &'a [u64]) -> &'a [u64]
 
 // "rounds (witness columns, challenges)"
 pub fn rounds_of<'a>(circuit: &'a [u64]) -> &'a [u64]
-    requires { ⌜ Laid (now circuit) ⌝ }
+    requires { ⌜ ContentsValid (now circuit) ⌝ }
     ensures { λ r. ⌜ now r ≡ bodyOf (now (circuit .entry)) Section.rounds ⌝ }
 {
     Circuit::new(circuit).rounds()
@@ -168,7 +168,7 @@ pub fn rounds_of<'a>(circuit: &'a [u64]) -> &'a [u64]
 
 // "nodes (4 words)"
 pub fn nodes_of<'a>(circuit: &'a [u64]) -> &'a [u64]
-    requires { ⌜ Laid (now circuit) ⌝ }
+    requires { ⌜ ContentsValid (now circuit) ⌝ }
     ensures { λ r. ⌜ now r ≡ bodyOf (now (circuit .entry)) Section.nodes ⌝ }
 {
     Circuit::new(circuit).nodes()
@@ -176,7 +176,7 @@ pub fn nodes_of<'a>(circuit: &'a [u64]) -> &'a [u64]
 
 // "constraint roots"
 pub fn constraints_of<'a>(circuit: &'a [u64]) -> &'a [u64]
-    requires { ⌜ Laid (now circuit) ⌝ }
+    requires { ⌜ ContentsValid (now circuit) ⌝ }
     ensures { λ r. ⌜ now r ≡ bodyOf (now (circuit .entry)) Section.constraints ⌝ }
 {
     Circuit::new(circuit).constraints()
@@ -184,7 +184,7 @@ pub fn constraints_of<'a>(circuit: &'a [u64]) -> &'a [u64]
 
 // "lookup widths"
 pub fn widths_of<'a>(circuit: &'a [u64]) -> &'a [u64]
-    requires { ⌜ Laid (now circuit) ⌝ }
+    requires { ⌜ ContentsValid (now circuit) ⌝ }
     ensures { λ r. ⌜ now r ≡ bodyOf (now (circuit .entry)) Section.widths ⌝ }
 {
     Circuit::new(circuit).widths()
@@ -192,7 +192,7 @@ pub fn widths_of<'a>(circuit: &'a [u64]) -> &'a [u64]
 
 // "lookup pairs (input root, table root)"
 pub fn pairs_of<'a>(circuit: &'a [u64]) -> &'a [u64]
-    requires { ⌜ Laid (now circuit) ⌝ }
+    requires { ⌜ ContentsValid (now circuit) ⌝ }
     ensures { λ r. ⌜ now r ≡ bodyOf (now (circuit .entry)) Section.pairs ⌝ }
 {
     Circuit::new(circuit).pairs()
@@ -200,7 +200,7 @@ pub fn pairs_of<'a>(circuit: &'a [u64]) -> &'a [u64]
 
 // "cycle lengths"
 pub fn lengths_of<'a>(circuit: &'a [u64]) -> &'a [u64]
-    requires { ⌜ Laid (now circuit) ⌝ }
+    requires { ⌜ ContentsValid (now circuit) ⌝ }
     ensures { λ r. ⌜ now r ≡ bodyOf (now (circuit .entry)) Section.lengths ⌝ }
 {
     Circuit::new(circuit).lengths()
@@ -208,7 +208,7 @@ pub fn lengths_of<'a>(circuit: &'a [u64]) -> &'a [u64]
 
 // "cells (polynomial, row)"
 pub fn cells_of<'a>(circuit: &'a [u64]) -> &'a [u64]
-    requires { ⌜ Laid (now circuit) ⌝ }
+    requires { ⌜ ContentsValid (now circuit) ⌝ }
     ensures { λ r. ⌜ now r ≡ bodyOf (now (circuit .entry)) Section.cells ⌝ }
 {
     Circuit::new(circuit).cells()

@@ -8,8 +8,8 @@ ghost use Prim.Native.Nat.{_*_, _≤_, _<_, min};
 ghost use lib.ListN.{length};
 ghost use lib.Dec.{ltb};
 ghost use Rattle.field.specs.Prime.{P};
-ghost use Rattle.field.specs.Parse.{Among, parsed, numberAmong, numberOf};
-ghost use Rattle.lists.specs.Lists.{allOf, total, largest};
+ghost use Rattle.field.specs.Parse.{Among, parsed, numberAmong, parsedNumber};
+ghost use Rattle.lists.specs.Lists.{allOf, total, maximum};
 ghost use Rattle.backend.specs.Circuit.{wordEach};
 
 // Is every word below the limit?
@@ -29,7 +29,7 @@ pub fn all_below(words: &[u64], limit: u64) -> bool
 // Is a word below p, and so the number of an element?
 pub fn is_element(word: u64) -> bool
     ensures below { λ r. ⌜ r ≡ ltb word P ⌝ }
-    ensures number { λ r. ⌜ ((a : Among) → cond r 0 (numberAmong a) ≡ numberOf a (parsed word)) ⌝ }
+    ensures number { λ r. ⌜ ((a : Among) → cond r 0 (numberAmong a) ≡ parsedNumber a (parsed word)) ⌝ }
 {
     let answer = Goldilocks::new(word);
     match answer {
@@ -41,7 +41,7 @@ pub fn is_element(word: u64) -> bool
 // Is every word? No is the number of the question that asks.
 pub fn all_elements(words: &[u64]) -> bool
     ensures below { λ r. ⌜ r ≡ allOf (λ w. ltb w P) (now (words .entry)) ⌝ }
-    ensures number { λ r. ⌜ ((a : Among) → cond r 0 (numberAmong a) ≡ largest (map (λ w. numberOf a (parsed w)) (now (words .entry)))) ⌝ }
+    ensures number { λ r. ⌜ ((a : Among) → cond r 0 (numberAmong a) ≡ maximum (map (λ w. parsedNumber a (parsed w)) (now (words .entry)))) ⌝ }
 {
     let mut i = 0;
     while i < words.len() {

@@ -8,19 +8,19 @@ use native.Mathlib.Omega.{arith}
 use lib.ListN.{length, getD, take}
 use lib.Seq.{length-take-le}
 use Rattle.bh.specs.Rows.{placeOf}
-use Rattle.expression.specs.Reader.{Small}
-use Rattle.expression.specs.Point.{Placed}
+use Rattle.expression.specs.Reader.{LayoutSmall}
+use Rattle.expression.specs.Point.{PointInOrder}
 use Rattle.expression.specs.declared.poly.Layout.{Layout}
 use Rattle.expression.specs.declared.value.Point.{Point}
-use Rattle.hyperplonk_prepare.specs.Prepared.{Accepted, layoutOf}
+use Rattle.hyperplonk_prepare.specs.Prepared.{Accepted, layoutFromWords}
 use Rattle.hyperplonk_prepare.proofs.Accepted.{k-pos, k-few, given}
 
 pub count-is : (of : List ℕ) (count : ℕ) (names : List ℕ) → count ≤ length of → take count of ≡ names → count ≡ length names
 count-is of count names h e = sym (length-take-le count of h) ∙ ap (λ (xs : List ℕ). length xs) e
 
-module _ (ws : List ℕ) (a : Accepted ws) (l : Layout) (e : l ≡ layoutOf ws) (k row : ℕ) (q : k ≡ getD ws 0 0) (h : row < l .rows) where
+module _ (ws : List ℕ) (a : Accepted ws) (l : Layout) (e : l ≡ layoutFromWords ws) (k row : ℕ) (q : k ≡ getD ws 0 0) (h : row < l .rows) where
   rows-are : l .rows ≡ 2 ^ k
-  unfolding layoutOf
+  unfolding layoutFromWords
   rows-are = ap (λ (l : Layout). l .rows) e ∙ ap (λ (n : ℕ). 2 ^ n) (sym q)
 
   pub row-asked : (0 < k) × (k < 32) × (row < 2 ^ k)
@@ -30,11 +30,11 @@ module _ (ws : List ℕ) (a : Accepted ws) (l : Layout) (e : l ≡ layoutOf ws) 
       (omega arith, omega arith, subst (λ (n : ℕ). row < n) rows-are h)
 
   pub point-asked : (place : ℕ) → place ≡ placeOf k row
-      → Small l × Placed (record { k = k; row = row; place = place; eq = 0 })
+      → LayoutSmall l × PointInOrder (record { k = k; row = row; place = place; eq = 0 })
   point-asked place r =
       let p = k-pos ws a in
       let f = k-few ws a in (
-        subst Small (sym e) (given ws a .small),
+        subst LayoutSmall (sym e) (given ws a .small),
         record { positive = omega arith; small = omega arith; inside = subst (λ (n : ℕ). row < n) rows-are h; placed = r },
       )
 

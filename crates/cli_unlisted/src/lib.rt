@@ -18,8 +18,8 @@ ghost use mathlib.Core.Logic.{_≢_};
 ghost use mathlib.Core.Bool.{true, false};
 ghost use Prim.Native.Nat.{ℕ, _+_, _≤_, _<_};
 ghost use lib.ListN.{length, getD, take};
-ghost use Rattle.expression.specs.Reader.{Small};
-ghost use Rattle.expression.specs.Point.{Placed};
+ghost use Rattle.expression.specs.Reader.{LayoutSmall};
+ghost use Rattle.expression.specs.Point.{PointInOrder};
 ghost use Rattle.backend.specs.Circuit.{circuitOf, numCopied, copied as copiedOf};
 ghost use Rattle.hyperplonk_spec.specs.Build.{columnWords, q12};
 ghost use Rattle.hyperplonk_prepare.specs.Prepared.{Accepted};
@@ -192,7 +192,7 @@ fn value_of<'a>(
     point: Point,
     root: u64,
 ) -> u64
-    requires { ⌜ Small layout × Placed point ⌝ }
+    requires { ⌜ LayoutSmall layout × PointInOrder point ⌝ }
 {
     let start = word_at(circuit, 8) as usize;
     let end = word_at(circuit, 10) as usize;
@@ -228,7 +228,7 @@ fn values_of<'a>(
     point: Point,
     pairs: usize,
 ) -> [u64; 8]
-    requires { ⌜ Small layout × Placed point ⌝ }
+    requires { ⌜ LayoutSmall layout × PointInOrder point ⌝ }
 {
     let mut values = [0u64; 8];
     let mut at = pairs;
@@ -259,7 +259,7 @@ fn first_at<'a>(
     point: Point,
     seen: Seen,
 ) -> Unlisted
-    requires { ⌜ Small layout × Placed point ⌝ }
+    requires { ⌜ LayoutSmall layout × PointInOrder point ⌝ }
 {
     let widths = word_at(circuit, 12) as usize;
     let width = word_at(circuit, after(widths, seen.lookup)) as usize;

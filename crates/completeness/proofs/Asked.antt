@@ -8,11 +8,11 @@ use lib.ListN.{length, getD, length-append}
 use lib.Dec.{eqb}
 use borrow.Author.Tests.{eq-eqb, eqb-true, ltb-true, lt-ltb}
 use Rattle.field.specs.Prime.{P}
-use Rattle.lists.specs.Lists.{total, allOf, askedOf, firstNo, All}
+use Rattle.lists.specs.Lists.{total, allOf, questionOf, firstNo, All}
 use Rattle.lists.proofs.Tests.{all-each, and-left, and-right, same-words}
 use Rattle.lists.proofs.All.{all-from, all-join}
 use Rattle.lists.proofs.First.{first-yes, first-append, first-both, first-of, numbered-of}
-use Rattle.backend.specs.Circuit.{circuitOf, rowsOf, numWitness, numUser}
+use Rattle.backend.specs.Circuit.{circuitOf, rowsOf, numWitness, numChallenges}
 use Rattle.backend.specs.Questions.{circuitQuestions, small}
 use Rattle.backend.proofs.Passed.{numbered}
 use Rattle.preprocessor.specs.Compose.{composedWords}
@@ -32,7 +32,7 @@ all-small (w ∷ ws) a = ap₂ _&&_ (lt-ltb w P (a .0)) (all-small ws (a .1))
 pub record Lending (ws instances witness challenges : List ℕ) : Type 0 where
   pub circuit-yes : firstNo circuitQuestions ws ≡ 0
   pub witness-length : length witness ≡ numWitness (circuitOf ws) * rowsOf (circuitOf ws)
-  pub challenges-length : length challenges ≡ numUser (circuitOf ws) + 2
+  pub challenges-length : length challenges ≡ numChallenges (circuitOf ws) + 2
   pub witness-small : All (λ w. w < P) witness
   pub challenges-small : All (λ w. w < P) challenges
 
@@ -41,12 +41,12 @@ pub lending : (ws instances witness challenges columns nodes : List ℕ) → che
 unfolding checkBuild buildQuestions q12 q13
 lending ws instances witness challenges columns nodes e =
     let x : Lent = record { circuit = ws; instances = instances; witness = witness; challenges = challenges; columns = columns; nodes = nodes } in
-    let r = first-both (map (askedOf (λ (l : Lent). l .circuit)) circuitQuestions) _ x e (numbered-of (λ (l : Lent). l .circuit) circuitQuestions numbered) in
+    let r = first-both (map (questionOf (λ (l : Lent). l .circuit)) circuitQuestions) _ x e (numbered-of (λ (l : Lent). l .circuit) circuitQuestions numbered) in
     let r12 = first-yes _ _ x 11 refl (r .1) in
     let r13 = first-yes _ _ x 12 refl (r12 .1) in
     let a : Bool = eqb (length instances) (total (circuitOf ws .instances)) in
     let b : Bool = eqb (length witness) (numWitness (circuitOf ws) * rowsOf (circuitOf ws)) in
-    let c : Bool = eqb (length challenges) (numUser (circuitOf ws) + 2) in
+    let c : Bool = eqb (length challenges) (numChallenges (circuitOf ws) + 2) in
     let d : Bool = allOf small instances in
     let f : Bool = allOf small witness in
     let h : Bool = allOf small challenges in
@@ -64,13 +64,13 @@ pub sum-yes : (ws instances witness challenges columns y : List ℕ) (α : ℕ) 
     → checkSum (lentSum ws witness columns (composedWords (circuitOf ws)) (challenges ++ (α ∷ [])) y) ≡ 0
 unfolding checkSum sumQuestions q16 firstNo
 sum-yes ws instances witness challenges columns y α lent cl cs αs yl ys =
-    first-append (map (askedOf (λ (l : LentSum). l .circuit)) circuitQuestions) _ _
+    first-append (map (questionOf (λ (l : LentSum). l .circuit)) circuitQuestions) _ _
     (first-of (λ (l : LentSum). l .circuit) circuitQuestions _ ∙ lent .circuit-yes)
     (numbered-of (λ (l : LentSum). l .circuit) circuitQuestions numbered)
     ∙ (rw (
       eq-eqb (length witness) (numWitness (circuitOf ws) * rowsOf (circuitOf ws)) (lent .witness-length),
       eq-eqb (length columns) (columnWords (circuitOf ws)) cl,
-      eq-eqb (length (challenges ++ (α ∷ []))) (numUser (circuitOf ws) + 3)
+      eq-eqb (length (challenges ++ (α ∷ []))) (numChallenges (circuitOf ws) + 3)
           (length-append challenges (α ∷ []) ∙ (let q = lent .challenges-length in omega arith)),
       eq-eqb (length y) (circuitOf ws .k) yl,
       same-words (composedWords (circuitOf ws)),

@@ -19,11 +19,11 @@ use Rattle.hyperplonk_spec.specs.Build.{Output, logOf, wordsOf, checkBuild, mad
 use Rattle.hyperplonk_spec.specs.RowSum.{rowSumOf, lentSum}
 use Rattle.hyperplonk_spec.specs.declared.RowSum.{RowSum}
 use Rattle.hyperplonk_spec.proofs.Building.{columns-length, refused-by, fifteen-by, built-by}
-use Rattle.hyperplonk_spec.specs.BuildAndSum.{beforeAlpha, alphaOf, Left, sized, sumOfBuilt, buildAndSumOf}
+use Rattle.hyperplonk_spec.specs.BuildAndSum.{beforeAlpha, alphaWord, Left, sized, sumOfBuilt, buildAndSumOf}
 
 -- the challenges are those before α, and α
-pub with-alpha : (challenges : List ℕ) → 0 < length challenges → challenges ≡ beforeAlpha challenges ++ (alphaOf challenges ∷ [])
-unfolding beforeAlpha alphaOf
+pub with-alpha : (challenges : List ℕ) → 0 < length challenges → challenges ≡ beforeAlpha challenges ++ (alphaWord challenges ∷ [])
+unfolding beforeAlpha alphaWord
 with-alpha challenges h =
     sym (take-all (suc (length challenges - 1)) challenges (omega arith)) ∙ take-suc challenges (length challenges - 1) 0 (omega arith)
 

@@ -6,21 +6,21 @@ use mathlib.Core.List.{List, [], _∷_, _++_, map}
 use Prim.Native.Nat.{ℕ, zero, _<_}
 use lib.ListN.{length, getD}
 use Rattle.field.specs.Algebra.{Field, zero-mul}
-use Rattle.lists.specs.Lists.{column, All}
+use Rattle.lists.specs.Lists.{tabulate, All}
 use Rattle.lists.proofs.All.{all-get, all-from, all-column}
 use Rattle.identities.proofs.Totals.{upTo-cong}
 use Rattle.identities.specs.Lookup as Lookup
 use Rattle.identities.proofs.Lookup.{h-fits}
 use Rattle.expression.specs.Expr.{Expr}
 use Rattle.expression.specs.Value.{Environment, valueAt}
-use Rattle.backend.specs.Circuit.{Circuit, rowsOf, numUser, numPoly, numLookups, hNumber}
+use Rattle.backend.specs.Circuit.{Circuit, rowsOf, numChallenges, numPoly, numLookups, hNumber}
 use Rattle.backend.specs.Constraints.{lookupConstraint, lookupConstraints}
 use Rattle.preprocessor.specs.Compose.{composedConstraints, compose}
 use Rattle.prover.specs.Lookup.{sumRows, hAt}
 use Rattle.prover.specs.Log.{Log}
 use Rattle.prover.specs.Columns.{powerSum, inputAt, tableAt, mAt, lookupHAt, allCovered, composedEnvironment}
 use Rattle.hyperplonk_spec.specs.Meaning.{Embeds, Admitted, EachRow, Premises}
-use Rattle.hyperplonk_spec.specs.Composed.{zeroCheckIn, column-at, alpha, LookupHolds}
+use Rattle.hyperplonk_spec.specs.Composed.{zeroCheckIn, column-at, alphaIn, LookupHolds}
 use Rattle.hyperplonk_spec.proofs.ConstraintZero.{lookup-zero}
 use Rattle.hyperplonk_spec.proofs.Powers.{compose-value, sum-composed, power-zeros}
 use Rattle.completeness.specs.Scope.{Scoped}
@@ -39,7 +39,7 @@ module _ (𝓕 : Field) where
         all-from Zero (g .circuit .constraints) (Expr.constant 0)
         (λ i l b m.
         user-value 𝓕 g ad α y (getD (g .circuit .constraints) i (Expr.constant 0))
-        (all-get (λ e. Scoped (numPoly (g .circuit)) (numUser (g .circuit)) e) (g .circuit .constraints) (constraints-in 𝓕 g ad α y) i (Expr.constant 0) l)
+        (all-get (λ e. Scoped (numPoly (g .circuit)) (numChallenges (g .circuit)) e) (g .circuit .constraints) (constraints-in 𝓕 g ad α y) i (Expr.constant 0) l)
         b
         ∙ p .zero-constraints i l b m)
 
@@ -47,7 +47,7 @@ module _ (𝓕 : Field) where
         → add (g .γ) (inputAt 𝓕 g (getD (g .circuit .lookups) j []) b) ≢ nil
         → add (g .γ) (tableAt 𝓕 g (getD (g .circuit .lookups) j []) b) ≢ nil
         → LookupHolds 𝓕 (composedEnvironment 𝓕 g α y) (g .circuit) j b
-    unfolding lookupHAt hAt Lookup.hAt composedEnvironment
+    unfolding lookupHAt hAt Lookup.hValue composedEnvironment
     lookup-holds j l b m p q =
         rw (
           reads 𝓕 g ad α y .input j l b m,
@@ -74,15 +74,15 @@ module _ (𝓕 : Field) where
     pub composed-zero : All Zero (composedConstraints (g .circuit)) → allCovered 𝓕 g ≡ true
         → sumRows 𝓕 (rowsOf (g .circuit)) (valueAt 𝓕 (composedEnvironment 𝓕 g α y) (compose (g .circuit))) ≡ nil
     composed-zero zs e =
-        upTo-cong add nil (valueAt 𝓕 s (compose c)) (λ b. powerSum 𝓕 (alpha 𝓕 s c) (column (λ j. column-at 𝓕 s c (hNumber c j) b) (numLookups c) ++ (zeroCheckIn 𝓕 s c b ∷ []))) (rowsOf c)
+        upTo-cong add nil (valueAt 𝓕 s (compose c)) (λ b. powerSum 𝓕 (alphaIn 𝓕 s c) (tabulate (λ j. column-at 𝓕 s c (hNumber c j) b) (numLookups c) ++ (zeroCheckIn 𝓕 s c b ∷ []))) (rowsOf c)
         (λ b l. compose-value 𝓕 s c embed b)
-        ∙ sum-composed 𝓕 (alpha 𝓕 s c) (λ j b. column-at 𝓕 s c (hNumber c j) b) (zeroCheckIn 𝓕 s c) (numLookups c) (rowsOf c)
+        ∙ sum-composed 𝓕 (alphaIn 𝓕 s c) (λ j b. column-at 𝓕 s c (hNumber c j) b) (zeroCheckIn 𝓕 s c) (numLookups c) (rowsOf c)
         (λ j l.
         upTo-cong add nil (λ b. column-at 𝓕 s c (hNumber c j) b) (lookupHAt 𝓕 g (getD (c .lookups) j [])) (rowsOf c) (λ b m. reads 𝓕 g ad α y .h j b l)
         ∙ h-sums 𝓕 g (ad .embeds) e j l)
         (λ b l.
         ap (λ (x : F). mul x (s .eq b))
-        (power-zeros 𝓕 (alpha 𝓕 s c) (map (λ e. valueAt 𝓕 s e b) (composedConstraints c)) (values-zero b l (composedConstraints c) zs))
+        (power-zeros 𝓕 (alphaIn 𝓕 s c) (map (λ e. valueAt 𝓕 s e b) (composedConstraints c)) (values-zero b l (composedConstraints c) zs))
         ∙ zero-mul 𝓕 (s .eq b))
       where
         c : Circuit

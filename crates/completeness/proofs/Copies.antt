@@ -13,7 +13,7 @@ use Rattle.field.specs.Algebra as Algebra
 use Rattle.bh.specs.Sums.{upTo}
 use Rattle.bh.specs.Rows.{rowAt}
 use Rattle.bh.proofs.Order.{row-sum-but-0}
-use Rattle.lists.specs.Lists.{below, column, concat, All}
+use Rattle.lists.specs.Lists.{range, tabulate, concat, All}
 use Rattle.lists.proofs.Columns.{below-length, below-get}
 use Rattle.identities.specs.Cycles.{labels}
 use Rattle.identities.specs.Cycles as Cycles
@@ -43,14 +43,14 @@ module _ (𝓕 : Field) where
   open Field 𝓕 using (F, zero as nil, one, add, mul, inv)
 
   -- a product over the parts of a cut is one over the columns
-  pub parts-all : (f : ℕ → F) (n N : ℕ) (parts : List (List ℕ)) → concat (take N parts) ≡ below n
+  pub parts-all : (f : ℕ → F) (n N : ℕ) (parts : List (List ℕ)) → concat (take N parts) ≡ range n
       → upTo mul one (λ j. Algebra.product 𝓕 (map f (getD parts j []))) N ≡ upTo mul one f n
   parts-all f n N parts e =
       parts-product 𝓕 f N parts
       ∙ ap (λ (js : List ℕ). Algebra.product 𝓕 (map f js)) e
-      ∙ product-upTo 𝓕 f (below n)
-      ∙ ap (upTo mul one (λ r. f (getD (below n) r 0))) (below-length n)
-      ∙ upTo-cong mul one (λ r. f (getD (below n) r 0)) f n (λ r l. ap f (below-get n r 0 l))
+      ∙ product-upTo 𝓕 f (range n)
+      ∙ ap (upTo mul one (λ r. f (getD (range n) r 0))) (below-length n)
+      ∙ upTo-cong mul one (λ r. f (getD (range n) r 0)) f n (λ r l. ap f (below-get n r 0 l))
 
   module _ (g : Log 𝓕) where
     -- ---- the factors are those of the cells
@@ -101,7 +101,7 @@ module _ (𝓕 : Field) where
 
         -- over the cells by their numbers
         by-number : (f : ℕ → ℕ → F) (l : ℕ → ℕ) → ((i b : ℕ) → i < n → b < M → f i b ≡ φ (copiedAt 𝓕 g i b) (l (i * M + b)))
-            → overCells 𝓕 g f ≡ Cycles.overCells mul one n M (λ c. φ (v c) (l c))
+            → overCells 𝓕 g f ≡ Cycles.productOverCells mul one n M (λ c. φ (v c) (l c))
         by-number f l h =
             upTo-cong mul one (λ i. upTo mul one (λ b. f i (suc b)) (M - 1)) (λ i. upTo mul one (λ b. φ (v (i * M + suc b)) (l (i * M + suc b))) (M - 1)) n
             (λ i m.
@@ -118,12 +118,12 @@ module _ (𝓕 : Field) where
             ∙ sym (by-number (permutationFactorAt 𝓕 g) (labels numbers) (λ i b l m. ap (φ (copiedAt 𝓕 g i b)) (label-agree (g .circuit) a i b l m)))
 
       -- ---- the whole running product
-      whole-cut : concat (take N (zCut (g .circuit))) ≡ below n
-      unfolding concat column
+      whole-cut : concat (take N (zCut (g .circuit))) ≡ range n
+      unfolding concat tabulate
       whole-cut = go (ℕ-discrete n 0)
         where
-          go : Dec (n ≡ 0) → concat (take N (zCut (g .circuit))) ≡ below n
-          go (yes e) = ap (λ (m : ℕ). concat (take m (zCut (g .circuit)))) (none-z (g .circuit) e) ∙ sym (ap below e)
+          go : Dec (n ≡ 0) → concat (take N (zCut (g .circuit))) ≡ range n
+          go (yes e) = ap (λ (m : ℕ). concat (take m (zCut (g .circuit)))) (none-z (g .circuit) e) ∙ sym (ap range e)
           go (no w) = parts-whole 𝓕 g (omega arith)
 
       -- all parts at a place

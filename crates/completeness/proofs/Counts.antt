@@ -7,11 +7,11 @@ use mathlib.Core.List.{[], _∷_, _++_}
 use mathlib.Core.Option.{Option, none, some, Option·none-ne-some}
 use Prim.Native.Nat.{ℕ, zero, suc, _+_, _<_}
 use Rattle.field.specs.Algebra.{Field}
-use Rattle.lists.specs.Lists.{column, below, allOf, lastWhere, isSome, isAt}
+use Rattle.lists.specs.Lists.{tabulate, range, allOf, lastWhere, isSome, isAt}
 use Rattle.lists.proofs.Tests.{false-true, cond-ite, cond-eqb, all-each, all-not, all-append}
 use Rattle.identities.proofs.Totals.{upTo-cong, count-upTo}
 use Rattle.identities.specs.Counts as Counts
-use Rattle.identities.specs.Counts.{lastRow, hit, both, given, counts, allFound, counted, AllStand}
+use Rattle.identities.specs.Counts.{lastRow, hit, andFound, given, multiplicities, allFound, counted, AllStand}
 use Rattle.identities.proofs.Counts.{count-turns, turns-stand, counted-stand, stand-counted, count-all}
 use Rattle.identities.specs.Lookup as Lookup
 use Rattle.identities.specs.Lookup.{num}
@@ -42,23 +42,23 @@ module _ (𝓕 : Field) where
 
   module _ (rows : ℕ) (input table : ℕ → F) where
     -- m is the column of counts
-    pub counts-agree : (j : ℕ) → multiplicity 𝓕 rows input table j ≡ counts (𝓕 .decide) rows rows input table j
-    unfolding multiplicity counts
+    pub counts-agree : (j : ℕ) → multiplicity 𝓕 rows input table j ≡ multiplicities (𝓕 .decide) rows rows input table j
+    unfolding multiplicity multiplicities
     counts-agree j =
         count-upTo (λ b. isAt j (lastEqual 𝓕 rows table (input b))) rows
         ∙ upTo-cong _+_ 0 (λ b. cond (isAt j (lastEqual 𝓕 rows table (input b))) 1 0)
         (λ b. hit (lastRow (𝓕 .decide) table rows (input b)) j) rows
         (λ b l. hit-agree j (lastEqual 𝓕 rows table (input b)) ∙ ap (λ (o : Option ℕ). hit o j) (last-agree table (input b) rows))
 
-    found-agree : (n : ℕ) → allOf (λ b. isSome (lastEqual 𝓕 rows table (input b))) (below n) ≡ allFound (𝓕 .decide) rows input table n
-    unfolding allFound both column allOf
+    found-agree : (n : ℕ) → allOf (λ b. isSome (lastEqual 𝓕 rows table (input b))) (range n) ≡ allFound (𝓕 .decide) rows input table n
+    unfolding allFound andFound tabulate allOf
     found-agree zero = refl
     found-agree (suc n) =
-        all-append (λ b. isSome (lastEqual 𝓕 rows table (input b))) (below n) (n ∷ [])
+        all-append (λ b. isSome (lastEqual 𝓕 rows table (input b))) (range n) (n ∷ [])
         ∙ ap₂ _&&_ (found-agree n) (ap (λ (o : Option ℕ). isSome o && true) (last-agree table (input n) rows))
         ∙ go (lastRow (𝓕 .decide) table rows (input n)) (allFound (𝓕 .decide) rows input table n)
       where
-        go : (o : Option ℕ) (t : Bool) → (t && (isSome o && true)) ≡ both o t
+        go : (o : Option ℕ) (t : Bool) → (t && (isSome o && true)) ≡ andFound o t
         go none true = refl
         go none false = refl
         go (some q) true = refl
@@ -72,15 +72,15 @@ module _ (𝓕 : Field) where
     pub covered-stand : covered 𝓕 rows input table ≡ true → AllStand rows rows input table
     unfolding counted given
     covered-stand e =
-        counted-stand (𝓕 .decide) rows rows input table (counts (𝓕 .decide) rows rows input table)
-        (ap (λ (t : Bool). given t (counts (𝓕 .decide) rows rows input table)) (sym covered-agree ∙ e))
+        counted-stand (𝓕 .decide) rows rows input table (multiplicities (𝓕 .decide) rows rows input table)
+        (ap (λ (t : Bool). given t (multiplicities (𝓕 .decide) rows rows input table)) (sym covered-agree ∙ e))
 
     pub stand-covered : AllStand rows rows input table → covered 𝓕 rows input table ≡ true
     unfolding counted given
     stand-covered h = go (covered 𝓕 rows input table) refl
       where
         c : ℕ → ℕ
-        c = counts (𝓕 .decide) rows rows input table
+        c = multiplicities (𝓕 .decide) rows rows input table
 
         go : (t : Bool) → covered 𝓕 rows input table ≡ t → covered 𝓕 rows input table ≡ true
         go true e = e
@@ -90,7 +90,7 @@ module _ (𝓕 : Field) where
             (ap (λ (t : Bool). given t c) (sym e ∙ covered-agree) ∙ stand-counted (𝓕 .decide) rows rows input table h))
 
     -- the same words for turning
-    pub turns-agree : (m : ℕ → ℕ) → Turns 𝓕 rows input table m ↔ Counts.Turns (𝓕 .decide) rows rows input table m
+    pub turns-agree : (m : ℕ → ℕ) → Turns 𝓕 rows input table m ↔ Counts.TurnsInto (𝓕 .decide) rows rows input table m
     unfolding Turns
     turns-agree m = (λ t v. sym (left v) ∙ t v ∙ right v, λ t v. left v ∙ t v ∙ sym (right v))
       where
@@ -115,21 +115,21 @@ module _ (𝓕 : Field) where
         go h false e = e
         go h true e =
             absurd
-            (h (counts (𝓕 .decide) rows rows input table)
-            (turns-agree (counts (𝓕 .decide) rows rows input table) .1
+            (h (multiplicities (𝓕 .decide) rows rows input table)
+            (turns-agree (multiplicities (𝓕 .decide) rows rows input table) .1
             (count-turns (𝓕 .decide) rows rows input table (covered-stand e))))
 
     pub counts-sum : covered 𝓕 rows input table ≡ true → sumCounts rows (multiplicity 𝓕 rows input table) ≡ rows
     counts-sum e =
-        upTo-cong _+_ 0 (multiplicity 𝓕 rows input table) (counts (𝓕 .decide) rows rows input table) rows (λ j l. counts-agree j)
+        upTo-cong _+_ 0 (multiplicity 𝓕 rows input table) (multiplicities (𝓕 .decide) rows rows input table) rows (λ j l. counts-agree j)
         ∙ count-all (𝓕 .decide) rows rows input table (covered-stand e)
 
   pub h-sum-of : (el : ℕ → F) → Embeds 𝓕 el → (γ : F) (rows : ℕ) (input table : ℕ → F) → covered 𝓕 rows input table ≡ true
       → sumRows 𝓕 rows (hAt 𝓕 γ input table (λ b. el (multiplicity 𝓕 rows input table b))) ≡ nil
-  unfolding hAt Lookup.hAt
+  unfolding hAt Lookup.hValue
   h-sum-of el h γ rows input table e =
       upTo-cong add nil (hAt 𝓕 γ input table (λ b. el (multiplicity 𝓕 rows input table b)))
-      (Lookup.hAt 𝓕 γ input table (λ r. num 𝓕 (counts (𝓕 .decide) rows rows input table r))) rows
+      (Lookup.hValue 𝓕 γ input table (λ r. num 𝓕 (multiplicities (𝓕 .decide) rows rows input table r))) rows
       (λ b l.
       ap (λ (m : F). add (inv (add γ (input b))) (neg (mul m (inv (add γ (table b))))))
       (embeds-num 𝓕 el h (multiplicity 𝓕 rows input table b) ∙ ap (num 𝓕) (counts-agree rows input table b)))

@@ -51,7 +51,7 @@ module _ (c : Circuit) where
         apart : (z : Cell) → Other x z × Placed c z → number x ≢ number z
         apart z h e = false-true (sym (h .0) ∙ same-true c x z (a .0) (h .1) e)
 
-    cells-of : (cycle : List Cell) (xs : List Cell) → All (Placed c) xs → All (Fine cycle) xs → All (Cycles.Cell (numCopied c) (rowsOf c)) (map number xs)
+    cells-of : (cycle : List Cell) (xs : List Cell) → All (Placed c) xs → All (Fine cycle) xs → All (Cycles.CopiedCell (numCopied c) (rowsOf c)) (map number xs)
     cells-of cycle [] a f = tt
     cells-of cycle (x ∷ xs) a f =
         (record { inside = number-in c x (a .0); row = λ e. (let q = f .0 .row-pos in let w = number-mod c x (a .0) in omega arith) }, cells-of cycle xs (a .1) (f .1))

@@ -9,11 +9,11 @@ use native.Mathlib.Omega.{arith}
 use lib.ListN.{length, getD, take, drop, length-take}
 use lib.Dec.{eqb, ltb}
 use lib.IntN.{pos}
-use Rattle.lists.specs.Lists.{column, below, largest, All}
+use Rattle.lists.specs.Lists.{tabulate, range, maximum, All}
 use Rattle.lists.proofs.All.{all-get, all-join, all-left, all-right, all-column}
 use Rattle.lists.proofs.Totals.{get-cut}
 use Rattle.expression.specs.Expr.{Expr, evaluate, degreeOps, degree, distributePowers, productFrom, productOf}
-use Rattle.backend.specs.Circuit.{Circuit, numUser, numLookups, numCopied, hNumber, zNumber}
+use Rattle.backend.specs.Circuit.{Circuit, numChallenges, numLookups, numCopied, hNumber, zNumber}
 use Rattle.backend.specs.Constraints.{lookupConstraint, lookupConstraints, maxDegree}
 use Rattle.backend.proofs.Degree.{powers-degree}
 use Rattle.preprocessor.specs.Compose.{numZ, constraintCut, identityFactor, permutationFactor, nextZ, startConstraint, partConstraint, permutationConstraints, composedConstraints, zeroCheck, composeTree, constraintTrees, identityTree, lookupTreeOf, nextTree, paramsOf, outerTrees, partTree, permutationTree, permutationTrees, startTree, zeroTree}
@@ -71,8 +71,8 @@ module _ (c : Circuit) where
   part-size : (i : ℕ) → length (getD (constraintCut c) i []) ≤ maxDegree c - 1
   unfolding paramsOf
   part-size i =
-      let e : length (getD (constraintCut c) i []) ≡ min (maxDegree c - 1) (length (drop (i * (maxDegree c - 1)) (below (numCopied c)))) =
-      ap length (get-cut (maxDegree c - 1) (below (numCopied c)) i (let q = degree-two c in omega arith)) ∙ simp length-take in
+      let e : length (getD (constraintCut c) i []) ≡ min (maxDegree c - 1) (length (drop (i * (maxDegree c - 1)) (range (numCopied c)))) =
+      ap length (get-cut (maxDegree c - 1) (range (numCopied c)) i (let q = degree-two c in omega arith)) ∙ simp length-take in
       omega arith
 
   pub part-degree : (i : ℕ) → PartDegree c i
@@ -87,20 +87,20 @@ module _ (c : Circuit) where
   start-is = refl
 
   -- each entry is at most the largest
-  below-largest : (es : List Expr) (D : ℕ) → largest (map degree es) ≤ D → All (λ e. degree e ≤ D) es
-  unfolding largest
+  below-largest : (es : List Expr) (D : ℕ) → maximum (map degree es) ≤ D → All (λ e. degree e ≤ D) es
+  unfolding maximum
   below-largest [] D h = tt
   below-largest (e ∷ es) D h = (omega arith, below-largest es D (omega arith))
 
   given : All (λ e. degree e ≤ maxDegree c) (c .constraints ++ lookupConstraints c)
-  unfolding maxDegree largest
+  unfolding maxDegree maximum
   given = below-largest (c .constraints ++ lookupConstraints c) (maxDegree c) (omega arith)
 
   permutation : All (λ e. degree e ≤ maxDegree c) (permutationConstraints c)
   unfolding permutationTrees paramsOf
   permutation = go (eqb (numCopied c) 0)
     where
-      go : (t : Bool) → All (λ e. degree e ≤ maxDegree c) (cond t [] (startConstraint c ∷ column (partConstraint c) (numZ c)))
+      go : (t : Bool) → All (λ e. degree e ≤ maxDegree c) (cond t [] (startConstraint c ∷ tabulate (partConstraint c) (numZ c)))
       go true = tt
       go false = (
         let q = start-is in let s = degree-two c in omega arith,
@@ -120,8 +120,8 @@ pub composed-degree : ComposedDegree
 composed-degree c i l = all-get (λ e. degree e ≤ maxDegree c) (composedConstraints c) (all-degrees c) i (Expr.constant 0) l
 
 -- the largest is at most what each is
-largest-below : (es : List Expr) (D : ℕ) → All (λ e. degree e ≤ D) es → largest (map degree es) ≤ D
-unfolding largest
+largest-below : (es : List Expr) (D : ℕ) → All (λ e. degree e ≤ D) es → maximum (map degree es) ≤ D
+unfolding maximum
 largest-below [] D a = omega arith
 largest-below (e ∷ es) D a = let p = a .0 in let q = largest-below es D (a .1) in omega arith
 
@@ -131,7 +131,7 @@ powers-below es i D a = let p = powers-degree es i in let q = largest-below es D
 module _ (c : Circuit) where
   check-degree : degree (zeroCheck c) ≤ maxDegree c + 1
   unfolding degree degreeOps evaluate zeroTree paramsOf
-  check-degree = let p = powers-below (composedConstraints c) (numUser c + 2) (maxDegree c) (all-degrees c) in omega arith
+  check-degree = let p = powers-below (composedConstraints c) (numChallenges c + 2) (maxDegree c) (all-degrees c) in omega arith
 
   h-degree : (j : ℕ) → degree (Expr.poly (hNumber c j) (pos 0)) ≤ maxDegree c + 1
   unfolding degree degreeOps evaluate
@@ -140,7 +140,7 @@ module _ (c : Circuit) where
 pub compose-degree : ComposeDegree
 unfolding composeTree outerTrees paramsOf
 compose-degree c =
-    powers-below (column (λ j. Expr.poly (hNumber c j) (pos 0)) (numLookups c) ++ (zeroCheck c ∷ [])) (numUser c + 2) (maxDegree c + 1)
-    (all-join (λ e. degree e ≤ maxDegree c + 1) (column (λ j. Expr.poly (hNumber c j) (pos 0)) (numLookups c)) (zeroCheck c ∷ [])
+    powers-below (tabulate (λ j. Expr.poly (hNumber c j) (pos 0)) (numLookups c) ++ (zeroCheck c ∷ [])) (numChallenges c + 2) (maxDegree c + 1)
+    (all-join (λ e. degree e ≤ maxDegree c + 1) (tabulate (λ j. Expr.poly (hNumber c j) (pos 0)) (numLookups c)) (zeroCheck c ∷ [])
     (all-column (λ e. degree e ≤ maxDegree c + 1) (λ j. Expr.poly (hNumber c j) (pos 0)) (numLookups c) (λ j l. h-degree c j))
     (check-degree c, tt))

@@ -13,14 +13,14 @@ use Rattle.identities.proofs.Totals.{upTo-cong}
 use Rattle.expression.specs.Expr.{Expr}
 use Rattle.expression.specs.Nodes.{exprOf}
 use Rattle.expression.specs.Value.{valueAt}
-use Rattle.backend.specs.Circuit.{circuitOf, rowsOf, numUser}
+use Rattle.backend.specs.Circuit.{circuitOf, rowsOf, numChallenges}
 use Rattle.backend.proofs.Passed.{yes-all}
 use Rattle.preprocessor.specs.Compose.{compose, composedWords, composedNodes}
 use Rattle.prover.specs.Log.{Log}
 use Rattle.prover.specs.Columns.{allCovered, writtenPolys, composedEnvironment}
 use Rattle.prover.proofs.Words.{words-small}
 use Rattle.hyperplonk_spec.specs.Build.{Output, logOf, wordsOf, checkBuild, buildOf, made, zeroed, lentBuild}
-use Rattle.hyperplonk_spec.specs.RowSum.{rowSumOf, sumOf, environmentFromWords, lentSum}
+use Rattle.hyperplonk_spec.specs.RowSum.{rowSumOf, sumOf, rowSumEnvironment, lentSum}
 use Rattle.hyperplonk_spec.specs.Meaning.{Each, Admitted, Premises, Conclusions}
 use Rattle.hyperplonk_spec.specs.Demand.{Succeeds, Demand3, DemandThreeAt, DemandThree}
 use Rattle.field.proofs.Elements.{val-zero}
@@ -48,8 +48,8 @@ module _ (ws instances witness challenges columns nodes : List ℕ) (asked : che
         read = refl;
         passed = l .circuit-yes;
         user-all =
-            length-map (take (numUser (circuitOf ws)) challenges) el
-            ∙ length-take (numUser (circuitOf ws)) challenges
+            length-map (take (numChallenges (circuitOf ws)) challenges) el
+            ∙ length-take (numChallenges (circuitOf ws)) challenges
             ∙ (let q = l .challenges-length in omega arith);
         embeds = embeds;
       }
@@ -91,7 +91,7 @@ module _ (ws instances witness challenges columns nodes : List ℕ) (asked : che
   sum-zero c α y =
       upTo-cong (𝔾 .add) (𝔾 .zero) _ (valueAt 𝔾 (composedEnvironment 𝔾 log (el α) (λ i. el (getD y i 0))) (compose (circuitOf ws))) (rowsOf (circuitOf ws))
       (λ b m.
-      ap (λ (e : Expr). valueAt 𝔾 (environmentFromWords ws witness lent (challenges ++ (α ∷ [])) y) e b) (reads-back ws)
+      ap (λ (e : Expr). valueAt 𝔾 (rowSumEnvironment ws witness lent (challenges ++ (α ∷ [])) y) e b) (reads-back ws)
       ∙ lent-value ws instances witness challenges (l .challenges-length) (let q = k-small ws (yes-all ws (l .circuit-yes)) in omega arith) α y (compose (circuitOf ws)) b m)
       ∙ c .composed-sum (el α) (λ i. el (getD y i 0))
 

@@ -7,7 +7,7 @@ use native.Mathlib.Omega.{arith}
 use lib.Dec.{eqb}
 use borrow.Author.Tests.{eq-eqb}
 use Rattle.field.specs.Algebra.{Field}
-use Rattle.lists.specs.Lists.{column, All}
+use Rattle.lists.specs.Lists.{tabulate, All}
 use Rattle.lists.proofs.Tests.{false-true}
 use Rattle.lists.proofs.All.{all-get, all-join, all-column}
 use Rattle.expression.specs.Expr.{Expr}
@@ -49,7 +49,7 @@ module _ (𝓕 : Field) (g : Log 𝓕) (ad : Admitted 𝓕 g) where
     permutation-zeros = go (eqb (numCopied (g .circuit)) 0) refl
       where
         go : (t : Bool) → eqb (numCopied (g .circuit)) 0 ≡ t
-            → All Zero (cond t [] (startConstraint (g .circuit) ∷ column (partConstraint (g .circuit)) (numZ (g .circuit))))
+            → All Zero (cond t [] (startConstraint (g .circuit) ∷ tabulate (partConstraint (g .circuit)) (numZ (g .circuit))))
         go true e = tt
         go false e = (
           start-zeros 𝓕 g pos k-positive k-below-21 eleven-yes ad p α y,

@@ -10,12 +10,12 @@ use lib.Seq.{take-at}
 use lib.Pow.{pow-mono}
 use Rattle.field.specs.Prime.{P}
 use Rattle.field.specs.Field.{𝔾, el, val, val-el}
-use Rattle.lists.specs.Lists.{column, below, All}
+use Rattle.lists.specs.Lists.{tabulate, range, All}
 use Rattle.lists.proofs.All.{all-right}
 use Rattle.lists.proofs.Lists.{get-past, split-length}
 use Rattle.lists.proofs.Columns.{column-length}
 use Rattle.lists.proofs.Searches.{count-le}
-use Rattle.backend.specs.Circuit.{Section, wordK, entries, bodyOf, pairAt, Circuit, circuitOf, rowsOf, numUser, numPoly, numLookups, numCopied, copied, copiedIn}
+use Rattle.backend.specs.Circuit.{Section, wordK, entries, bodyOf, pairAt, Circuit, circuitOf, rowsOf, numChallenges, numPoly, numLookups, numCopied, copied, copiedIn}
 use Rattle.backend.specs.Questions.{largestK}
 use Rattle.backend.proofs.Sections.{body-length}
 use Rattle.backend.proofs.Passed.{Yes, yes-all}
@@ -51,15 +51,15 @@ module _ (ws instances witness user : List ℕ) (β : ℕ) where
   log γ = logOf ws instances witness (words γ)
 
   -- the logs differ in γ alone
-  module _ (γ : ℕ) (size : length user ≡ numUser (circuitOf ws)) where
-    user-same : (γ : ℕ) → take (numUser (circuitOf ws)) (words γ) ≡ user
-    user-same γ = take-at user (β ∷ γ ∷ []) (numUser (circuitOf ws)) size
+  module _ (γ : ℕ) (size : length user ≡ numChallenges (circuitOf ws)) where
+    user-same : (γ : ℕ) → take (numChallenges (circuitOf ws)) (words γ) ≡ user
+    user-same γ = take-at user (β ∷ γ ∷ []) (numChallenges (circuitOf ws)) size
 
-    β-same : (γ : ℕ) → getD (words γ) (numUser (circuitOf ws)) 0 ≡ β
-    β-same γ = get-past user (β ∷ γ ∷ []) (numUser (circuitOf ws)) 0 0 (omega arith)
+    β-same : (γ : ℕ) → getD (words γ) (numChallenges (circuitOf ws)) 0 ≡ β
+    β-same γ = get-past user (β ∷ γ ∷ []) (numChallenges (circuitOf ws)) 0 0 (omega arith)
 
-    γ-is : getD (words γ) (numUser (circuitOf ws) + 1) 0 ≡ γ
-    γ-is = get-past user (β ∷ γ ∷ []) (numUser (circuitOf ws) + 1) 1 0 (omega arith)
+    γ-is : getD (words γ) (numChallenges (circuitOf ws) + 1) 0 ≡ γ
+    γ-is = get-past user (β ∷ γ ∷ []) (numChallenges (circuitOf ws) + 1) 1 0 (omega arith)
 
     log-is : log γ ≡ drawn 𝔾 (log 0) (log 0 .β) (el γ)
     unfolding logOf
@@ -69,7 +69,7 @@ module _ (ws instances witness user : List ℕ) (β : ℕ) where
       → checkBuild (lentBuild ws instances witness (words γ) columns nodes) ≡ 0 → Good 𝔾 (log γ) → Passes ws instances witness (words γ) columns nodes
   few-turned γ a columns nodes asked g =
       let l = lending ws instances witness (words γ) columns nodes asked in
-      let e : length user ≡ numUser (circuitOf ws) = (let p = l .challenges-length in let q = length-append user (β ∷ γ ∷ []) in omega arith) in
+      let e : length user ≡ numChallenges (circuitOf ws) = (let p = l .challenges-length in let q = length-append user (β ∷ γ ∷ []) in omega arith) in
       let small : γ < P = all-right (λ w. w < P) user (β ∷ γ ∷ []) (l .challenges-small) .1 .0 in
       let none : NoneZero 𝔾 (log γ) = subst (NoneZero 𝔾) (sym (log-is γ e)) (none-when 𝔾 (log 0) (el γ) .1 (words-apart γ small (unlucky 𝔾 (log 0)) a)) in
       let r = good-log ws instances witness (words γ) columns nodes asked (g .readings-stand) in
@@ -91,14 +91,14 @@ module _ (ws : List ℕ) (y : Yes ws) where
   few-lookups : numLookups c ≤ 8
   unfolding circuitOf
   few-lookups =
-      let a = split-length (bodyOf ws Section.widths) (column (pairAt (bodyOf ws Section.nodes) (bodyOf ws Section.pairs)) (entries ws Section.pairs)) in
+      let a = split-length (bodyOf ws Section.widths) (tabulate (pairAt (bodyOf ws Section.nodes) (bodyOf ws Section.pairs)) (entries ws Section.pairs)) in
       let b = body-length ws (y .laid) Section.widths in
       let d = y .laid .few-widths in
       omega arith
 
   few-copied : numCopied c ≤ numPoly c
   unfolding copied copiedIn
-  few-copied = subst (λ (n : ℕ). numCopied c ≤ n) (column-length (λ (i : ℕ). i) (numPoly c)) (count-le _ (below (numPoly c)))
+  few-copied = subst (λ (n : ℕ). numCopied c ≤ n) (column-length (λ (i : ℕ). i) (numPoly c)) (count-le _ (range (numPoly c)))
 
   few-polys : numPoly c ≤ 8 + 32 + 32
   unfolding numPoly circuitOf

@@ -17,7 +17,7 @@ use Rattle.identities.proofs.Totals.{upTo-cong, upTo-op, upTo-unit, upTo-units,
 use Rattle.identities.proofs.Fields.{adds, sum-mul}
 use Rattle.identities.specs.Lookup as Lookup
 use Rattle.identities.specs.Lookup.{num}
-use Rattle.identities.specs.Counts.{lastRow, counts, IsLast}
+use Rattle.identities.specs.Counts.{lastRow, multiplicities, IsLast}
 use Rattle.identities.proofs.Counts.{last-is, count-turns, turns-stand}
 use Rattle.identities.proofs.Lookup.{sum-neg, h-fits, h-only, haboeck}
 use Rattle.prover.specs.Lookup.{sumCounts, same, covered, multiplicity, Turns, hAt}
@@ -74,11 +74,11 @@ module _ (𝓕 : Field) where
     fractions b = ap (λ (x : F). add x (neg (mul (m b) (inv (add γ (table b)))))) (sym (one-mul 𝓕 (inv (add γ (input b)))))
 
     pub is-habock-h : IsHabockH 𝓕 γ input table m
-    unfolding hAt Lookup.hAt
+    unfolding hAt Lookup.hValue
     is-habock-h = record { is-fractions = fractions; holds = λ b p. h-fits 𝓕 γ input table m b (p .0) (p .1) }
 
     pub only-habock-h : OnlyHabockH 𝓕 γ input table m
-    unfolding hAt Lookup.hAt
+    unfolding hAt Lookup.hValue
     only-habock-h x b p e = h-only 𝓕 γ input table m b (p .0) (p .1) x e ∙ fractions b
 
   module _ (el : ℕ → F) (rows : ℕ) (input table : ℕ → F) where
@@ -86,7 +86,7 @@ module _ (𝓕 : Field) where
     counts-turn = (
       λ e.
           subst (λ (m : ℕ → ℕ). Turns 𝓕 rows input table m) (sym (fun-ext (counts-agree 𝓕 rows input table)))
-          (turns-agree 𝓕 rows input table (counts (𝓕 .decide) rows rows input table) .1
+          (turns-agree 𝓕 rows input table (multiplicities (𝓕 .decide) rows rows input table) .1
           (count-turns (𝓕 .decide) rows rows input table (covered-stand 𝓕 rows input table e))),
       λ t.
           stand-covered 𝓕 rows input table
@@ -98,7 +98,7 @@ module _ (𝓕 : Field) where
     habock-identity γ h e =
         upTo-cong add nil (λ b. mul one (inv (add γ (input b)))) (λ b. inv (add γ (input b))) rows (λ b l. one-mul 𝓕 (inv (add γ (input b))))
         ∙ haboeck 𝓕 γ rows rows input table (covered-stand 𝓕 rows input table e)
-        ∙ upTo-cong add nil (λ r. mul (num 𝓕 (counts (𝓕 .decide) rows rows input table r)) (inv (add γ (table r))))
+        ∙ upTo-cong add nil (λ r. mul (num 𝓕 (multiplicities (𝓕 .decide) rows rows input table r)) (inv (add γ (table r))))
         (λ r. mul (el (multiplicity 𝓕 rows input table r)) (inv (add γ (table r)))) rows
         (λ r l.
         ap (λ (x : F). mul x (inv (add γ (table r))))

@@ -15,7 +15,7 @@ use Rattle.field.specs.Algebra.{Field}
 use Rattle.field.specs.Algebra as Algebra
 use Rattle.bh.specs.Sums.{upTo}
 use Rattle.bh.specs.Rows.{nextRow, rotated, iter}
-use Rattle.lists.specs.Lists.{below, concat, ceilDiv, cut, All}
+use Rattle.lists.specs.Lists.{range, concat, ceilDiv, cut, All}
 use Rattle.lists.proofs.Lists.{get-left, get-past, get-map}
 use Rattle.lists.proofs.All.{all-get, all-getD, map-same}
 use Rattle.lists.proofs.Columns.{below-length, below-get}
@@ -28,7 +28,7 @@ use Rattle.identities.proofs.Fields.{muls, prod-nonzero}
 use Rattle.identities.proofs.Products.{product-upTo}
 use Rattle.expression.specs.Expr.{Expr, evaluate}
 use Rattle.expression.specs.Value.{Environment, polyOf, valueOps, valueAt}
-use Rattle.backend.specs.Circuit.{Circuit, rowsOf, numUser, numPoly, numLookups, copied, numCopied, permNumber, zNumber}
+use Rattle.backend.specs.Circuit.{Circuit, rowsOf, numChallenges, numPoly, numLookups, copied, numCopied, permNumber, zNumber}
 use Rattle.backend.specs.Constraints.{maxDegree}
 use Rattle.preprocessor.specs.Compose.{numZ, constraintCut, identityFactor, permutationFactor, startConstraint, partConstraint, identityTree, paramsOf, permutationTree}
 use Rattle.prover.specs.Log.{Log}
@@ -47,15 +47,15 @@ use Rattle.completeness.proofs.Copies.{parts-all, closes-when}
 use Rattle.completeness.proofs.PaperZ.{cut-in}
 
 -- the constraints' parts are N, and cover the copied columns
-constraint-parts : (c : Circuit) → concat (take (numZ c) (constraintCut c)) ≡ below (numCopied c)
+constraint-parts : (c : Circuit) → concat (take (numZ c) (constraintCut c)) ≡ range (numCopied c)
 unfolding paramsOf numZ
 constraint-parts c =
     let d = degree-two c in
-    let l = cut-length (maxDegree c - 1) (below (numCopied c)) in
-    let e : ceilDiv (length (below (numCopied c))) (maxDegree c - 1) ≡ ceilDiv (numCopied c) (maxDegree c - 1) =
+    let l = cut-length (maxDegree c - 1) (range (numCopied c)) in
+    let e : ceilDiv (length (range (numCopied c))) (maxDegree c - 1) ≡ ceilDiv (numCopied c) (maxDegree c - 1) =
     ap (λ (m : ℕ). ceilDiv m (maxDegree c - 1)) (below-length (numCopied c)) in
-    ap concat (take-all (ceilDiv (numCopied c) (maxDegree c - 1)) (cut (maxDegree c - 1) (below (numCopied c))) (omega arith))
-    ∙ concat-cut (maxDegree c - 1) (below (numCopied c)) (omega arith)
+    ap concat (take-all (ceilDiv (numCopied c) (maxDegree c - 1)) (cut (maxDegree c - 1) (range (numCopied c))) (omega arith))
+    ∙ concat-cut (maxDegree c - 1) (range (numCopied c)) (omega arith)
 
 module _ (𝓕 : Field) where
   open Field 𝓕 using (F, zero as nil, one, add, mul)
@@ -72,7 +72,7 @@ module _ (𝓕 : Field) where
                 same-el = refl;
                 same-challenges = refl;
                 same-columns = λ q b l.
-                    ap (λ (p : ℕ → F). p b) (same (map z (below (numZ (g .circuit)))) (map (zAt 𝓕 g) (below (numZ (g .circuit)))) q l);
+                    ap (λ (p : ℕ → F). p b) (same (map z (range (numZ (g .circuit)))) (map (zAt 𝓕 g) (range (numZ (g .circuit)))) q l);
               };
           reads-z = λ z i b l.
               let L : ℕ = numLookups (g .circuit) in
@@ -81,7 +81,7 @@ module _ (𝓕 : Field) where
               ∙ get-past (permutationPolys 𝓕 g) _ (numCopied (g .circuit) + (L + (L + i))) (L + (L + i)) (λ r. nil) (let e = permutations-length 𝓕 g in omega arith)
               ∙ get-past (mPolys 𝓕 g) _ (L + (L + i)) (L + i) (λ r. nil) (let e = m-length 𝓕 g in omega arith)
               ∙ get-past (hPolys 𝓕 g) _ (L + i) i (λ r. nil) (let e = h-length 𝓕 g in omega arith)
-              ∙ get-map z (below (numZ (g .circuit))) i 0 (λ r. nil) (let e = below-length (numZ (g .circuit)) in omega arith)
+              ∙ get-map z (range (numZ (g .circuit))) i 0 (λ r. nil) (let e = below-length (numZ (g .circuit)) in omega arith)
               ∙ ap z (below-get (numZ (g .circuit)) i 0 l));
           own-z = refl;
         }
@@ -128,13 +128,13 @@ module _ (𝓕 : Field) where
       unfolding composedEnvironment
       el-is m = ap (λ (f : ℕ → F). f m) (bz .same-el)
 
-      beta-is : getD (s .challenges) (numUser (g .circuit)) nil ≡ g .β
+      beta-is : getD (s .challenges) (numChallenges (g .circuit)) nil ≡ g .β
       unfolding composedEnvironment
-      beta-is = ap (λ (xs : List F). getD xs (numUser (g .circuit)) nil) (bz .same-challenges) ∙ beta-value 𝓕 g ad α
+      beta-is = ap (λ (xs : List F). getD xs (numChallenges (g .circuit)) nil) (bz .same-challenges) ∙ beta-value 𝓕 g ad α
 
-      gamma-is : getD (s .challenges) (numUser (g .circuit) + 1) nil ≡ g .γ
+      gamma-is : getD (s .challenges) (numChallenges (g .circuit) + 1) nil ≡ g .γ
       unfolding composedEnvironment
-      gamma-is = ap (λ (xs : List F). getD xs (numUser (g .circuit) + 1) nil) (bz .same-challenges) ∙ gamma-value 𝓕 g ad α
+      gamma-is = ap (λ (xs : List F). getD xs (numChallenges (g .circuit) + 1) nil) (bz .same-challenges) ∙ gamma-value 𝓕 g ad α
 
       copied-is : (i b : ℕ) → i < numCopied (g .circuit) → polyOf 𝓕 (s .polys) (getD (copied (g .circuit)) i 0) b ≡ copiedAt 𝓕 g i b
       unfolding composedEnvironment
@@ -167,7 +167,7 @@ module _ (𝓕 : Field) where
       part-in : (j : ℕ) → All (λ t. t < numCopied (g .circuit)) (part j)
       unfolding part paramsOf
       part-in j =
-          all-getD (All (λ t. t < numCopied (g .circuit))) (cut (maxDegree (g .circuit) - 1) (below (numCopied (g .circuit)))) j [] tt
+          all-getD (All (λ t. t < numCopied (g .circuit))) (cut (maxDegree (g .circuit) - 1) (range (numCopied (g .circuit)))) j [] tt
           (cut-in (maxDegree (g .circuit) - 1) (numCopied (g .circuit)))
 
       over : (ℕ → ℕ → F) → ℕ → ℕ → F
@@ -188,7 +188,7 @@ module _ (𝓕 : Field) where
       over-is e f h j b =
           ap (Algebra.product 𝓕) (map-same (λ t. t < numCopied (g .circuit)) (λ t. valueAt 𝓕 s (e t) b) (λ t. f t b) (λ t l. h t b l) (part j) (part-in j))
 
-      next-is : (j b : ℕ) → j < N → nextIn 𝓕 s (g .circuit) j b ≡ Running.nextZ 𝓕 (g .circuit .k) N A B z j b
+      next-is : (j b : ℕ) → j < N → nextIn 𝓕 s (g .circuit) j b ≡ Running.zAfter 𝓕 (g .circuit .k) N A B z j b
       unfolding nextIn
       next-is j b l =
           ap (λ (k : ℕ). cond (ltb (suc j) N) (z (suc j) b) (z 0 (nextRow k b))) k-is ∙ go (ℕ-discrete (suc j) N)

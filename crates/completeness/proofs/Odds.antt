@@ -7,7 +7,7 @@ use native.Mathlib.Nat.{mul-comm, mul-add, mul-left-comm, mul-le-mul-left}
 use native.Mathlib.Omega.{arith}
 use lib.ListN.{length, getD, length-append}
 use Rattle.field.specs.Algebra.{Field, add-comm, add-neg, neg-unique}
-use Rattle.lists.specs.Lists.{column, concat, All}
+use Rattle.lists.specs.Lists.{tabulate, concat, All}
 use Rattle.lists.proofs.All.{all-get, all-join, all-left, all-right, all-column, all-concat}
 use Rattle.lists.proofs.Columns.{columns-length, get-columns}
 use Rattle.lists.proofs.Walks.{entry-inside}
@@ -19,12 +19,12 @@ use Rattle.hyperplonk_spec.specs.Insurer.{drawn, denominators, NoneZero, Odds}
 -- ---- all of a grid
 module _ {A : Type 0} (Q : A → Type 0) (rows : ℕ) (f : ℕ → ℕ → A) (n : ℕ) where
   abbrev grid : List A
-  grid = concat (column (λ j. column (f j) rows) n)
+  grid = concat (tabulate (λ j. tabulate (f j) rows) n)
 
   all-grid : ((j b : ℕ) → j < n → b < rows → Q (f j b)) → All Q grid
   all-grid h =
-      all-concat Q (column (λ j. column (f j) rows) n)
-      (all-column (All Q) (λ j. column (f j) rows) n (λ j l. all-column Q (f j) rows (λ b m. h j b l m)))
+      all-concat Q (tabulate (λ j. tabulate (f j) rows) n)
+      (all-column (All Q) (λ j. tabulate (f j) rows) n (λ j l. all-column Q (f j) rows (λ b m. h j b l m)))
 
   grid-all : All Q grid → (j b : ℕ) → j < n → b < rows → Q (f j b)
   grid-all a j b l m =
@@ -58,7 +58,7 @@ module _ (𝓕 : Field) where
 
     -- the γ at which one of them is zero
     abbrev opposite : ℕ → (ℕ → ℕ → F) → ℕ → List F
-    opposite r v n = concat (column (λ j. column (λ b. neg (v j b)) r) n)
+    opposite r v n = concat (tabulate (λ j. tabulate (λ b. neg (v j b)) r) n)
 
     pub unlucky : List F
     unlucky = opposite rows input (numLookups (g .circuit)) ++ (opposite rows table (numLookups (g .circuit)) ++ opposite (rows - 1) factor (numCopied (g .circuit)))

@@ -8,7 +8,7 @@ use Rattle.field.specs.Algebra as Algebra
 use Rattle.bh.specs.Sums.{upTo}
 use Rattle.bh.specs.Rows.{rowAt, placeOf}
 use Rattle.bh.proofs.Place.{place-row}
-use Rattle.lists.specs.Lists.{below, column, concat, ceilDiv, cut, All}
+use Rattle.lists.specs.Lists.{range, tabulate, concat, ceilDiv, cut, All}
 use Rattle.lists.proofs.Lists.{concat-end}
 use Rattle.lists.proofs.All.{all-take, all-drop, all-column, all-concat, map-same}
 use Rattle.identities.proofs.Totals.{upTo-cong}
@@ -23,27 +23,27 @@ use Rattle.completeness.proofs.Plonk.{is-plonk-z}
 use Rattle.completeness.proofs.Copies.{are-factors}
 
 -- the numbers of a cut are those below n
-pub below-in : (n : ℕ) → All (λ j. j < n) (below n)
+pub below-in : (n : ℕ) → All (λ j. j < n) (range n)
 below-in n = all-column (λ j. j < n) (λ i. i) n (λ i l. l)
 
-pub cut-in : (s n : ℕ) → All (All (λ j. j < n)) (cut s (below n))
+pub cut-in : (s n : ℕ) → All (All (λ j. j < n)) (cut s (range n))
 unfolding cut
 cut-in s n =
-    all-column (All (λ j. j < n)) (λ i. take s (drop (i * s) (below n))) (ceilDiv (length (below n)) s)
-    (λ i l. all-take (λ j. j < n) s (drop (i * s) (below n)) (all-drop (λ j. j < n) (i * s) (below n) (below-in n)))
+    all-column (All (λ j. j < n)) (λ i. take s (drop (i * s) (range n))) (ceilDiv (length (range n)) s)
+    (λ i l. all-take (λ j. j < n) s (drop (i * s) (range n)) (all-drop (λ j. j < n) (i * s) (range n) (below-in n)))
 
 module _ (𝓕 : Field) where
   open Field 𝓕 using (F, zero as nil, one, mul, inv)
 
   -- over lists one after another
   product-lists : (h : Cell → F) (f : ℕ → List Cell) (t : ℕ)
-      → Algebra.product 𝓕 (map h (concat (column f t))) ≡ upTo mul one (λ s. Algebra.product 𝓕 (map h (f s))) t
-  unfolding column concat upTo Algebra.product
+      → Algebra.product 𝓕 (map h (concat (tabulate f t))) ≡ upTo mul one (λ s. Algebra.product 𝓕 (map h (f s))) t
+  unfolding tabulate concat upTo Algebra.product
   product-lists h f zero = refl
   product-lists h f (suc t) =
-      ap (λ (xs : List Cell). Algebra.product 𝓕 (map h xs)) (concat-end (column f t) (f t))
-      ∙ ap (Algebra.product 𝓕) (map-append h (concat (column f t)) (f t))
-      ∙ product-append 𝓕 (map h (concat (column f t))) (map h (f t))
+      ap (λ (xs : List Cell). Algebra.product 𝓕 (map h xs)) (concat-end (tabulate f t) (f t))
+      ∙ ap (Algebra.product 𝓕) (map-append h (concat (tabulate f t)) (f t))
+      ∙ product-append 𝓕 (map h (concat (tabulate f t))) (map h (f t))
       ∙ ap (λ (x : F). mul x (Algebra.product 𝓕 (map h (f t)))) (product-lists h f t)
 
   module _ (g : Log 𝓕) where
@@ -77,15 +77,15 @@ module _ (𝓕 : Field) where
         ap (Algebra.product 𝓕) (map-append quotient whole rest)
         ∙ product-append 𝓕 (map quotient whole) (map quotient rest)
         ∙ ap₂ mul
-        (product-lists quotient (λ s. cellsAt 𝓕 g (suc s) (below (numCopied (g .circuit)))) t
-        ∙ upTo-cong mul one (λ s. Algebra.product 𝓕 (map quotient (cellsAt 𝓕 g (suc s) (below (numCopied (g .circuit))))))
-        (λ s. Algebra.product 𝓕 (map (ratioAt 𝓕 g (rowAt (g .circuit .k) (suc s))) (below (numCopied (g .circuit)))))
+        (product-lists quotient (λ s. cellsAt 𝓕 g (suc s) (range (numCopied (g .circuit)))) t
+        ∙ upTo-cong mul one (λ s. Algebra.product 𝓕 (map quotient (cellsAt 𝓕 g (suc s) (range (numCopied (g .circuit))))))
+        (λ s. Algebra.product 𝓕 (map (ratioAt 𝓕 g (rowAt (g .circuit .k) (suc s))) (range (numCopied (g .circuit)))))
         t
-        (λ s l. at-columns (suc s) (below (numCopied (g .circuit))) (below-in (numCopied (g .circuit)))))
+        (λ s l. at-columns (suc s) (range (numCopied (g .circuit))) (below-in (numCopied (g .circuit)))))
         (at-columns (suc t) (concat (take i (zCut (g .circuit)))) (parts-in i))
       where
         whole : List Cell
-        whole = concat (column (λ s. cellsAt 𝓕 g (suc s) (below (numCopied (g .circuit)))) t)
+        whole = concat (tabulate (λ s. cellsAt 𝓕 g (suc s) (range (numCopied (g .circuit)))) t)
 
         rest : List Cell
         rest = cellsAt 𝓕 g (suc t) (concat (take i (zCut (g .circuit))))

@@ -121,11 +121,11 @@ module _ (𝓕 : Field) (g : Log 𝓕) where
         (λ r l. part-agree (r % numZ (g .circuit)) (rowAt (g .circuit .k) (suc (r / numZ (g .circuit)))) (row-lt (g .circuit .k) kp ks (suc (r / numZ (g .circuit)))))
 
     z-after : (i r : ℕ) → zCol 𝓕 (g .circuit .k) (numZ (g .circuit)) A B i (suc r)
-        ≡ Running.zAt 𝓕 (g .circuit .k) (numZ (g .circuit)) A B i (seek (g .circuit .k) (2 ^ g .circuit .k - 1) 1 (suc r))
+        ≡ Running.zPlaced 𝓕 (g .circuit .k) (numZ (g .circuit)) A B i (seek (g .circuit .k) (2 ^ g .circuit .k - 1) 1 (suc r))
     unfolding zCol placeOf
     z-after i r =
-        if-neg (ℕ-discrete (suc r) 0) (suc-ne-zero r) nil (Running.zAt 𝓕 (g .circuit .k) (numZ (g .circuit)) A B i (placeOf (g .circuit .k) (suc r) - 1))
-        ∙ ap (Running.zAt 𝓕 (g .circuit .k) (numZ (g .circuit)) A B i) (omega arith)
+        if-neg (ℕ-discrete (suc r) 0) (suc-ne-zero r) nil (Running.zPlaced 𝓕 (g .circuit .k) (numZ (g .circuit)) A B i (placeOf (g .circuit .k) (suc r) - 1))
+        ∙ ap (Running.zPlaced 𝓕 (g .circuit .k) (numZ (g .circuit)) A B i) (omega arith)
 
     -- z is the crate identities' z
     pub z-agree : (i b : ℕ) → i < numZ (g .circuit) → zAt 𝓕 g i b ≡ zCol 𝓕 (g .circuit .k) (numZ (g .circuit)) A B i b
@@ -177,7 +177,7 @@ module _ (𝓕 : Field) (g : Log 𝓕) where
 
       next-agree : (i b : ℕ) → i < numZ (g .circuit)
           → nextIn 𝓕 scene (g .circuit) i b
-          ≡ Running.nextZ 𝓕 (g .circuit .k) (numZ (g .circuit)) A B (zCol 𝓕 (g .circuit .k) (numZ (g .circuit)) A B) i b
+          ≡ Running.zAfter 𝓕 (g .circuit .k) (numZ (g .circuit)) A B (zCol 𝓕 (g .circuit .k) (numZ (g .circuit)) A B) i b
       unfolding nextIn composedEnvironment
       next-agree i b l = go (ℕ-discrete (suc i) (numZ (g .circuit)))
         where

@@ -13,7 +13,7 @@ use Rattle.field.specs.Algebra.{Field}
 use Rattle.field.specs.Field.{𝔾, el}
 use Rattle.field.proofs.Elements.{el-injective}
 use Rattle.bh.proofs.Perm.{Keeps, onto}
-use Rattle.lists.specs.Lists.{below, concat, indexOf, All}
+use Rattle.lists.specs.Lists.{range, concat, indexOf, All}
 use Rattle.lists.proofs.Tests.{by-test}
 use Rattle.lists.proofs.All.{all-get, all-from, all-weaken}
 use Rattle.lists.proofs.Columns.{below-length}
@@ -158,7 +158,7 @@ labels-differ-where 𝓕 g inj x y h k e =
 
 copied-few : (ws : List ℕ) → numCopied (circuitOf ws) ≤ numPoly (circuitOf ws)
 unfolding copied copiedIn
-copied-few ws = let q = count-le (cellsName (concat (circuitOf ws .cycles))) (below (numPoly (circuitOf ws))) in let w = below-length (numPoly (circuitOf ws)) in omega arith
+copied-few ws = let q = count-le (cellsName (concat (circuitOf ws .cycles))) (range (numPoly (circuitOf ws))) in let w = below-length (numPoly (circuitOf ws)) in omega arith
 
 -- no label reaches p
 pub labels-small : (g : Log 𝔾) → Admitted 𝔾 g → (n : ℕ) → n < numCopied (g .circuit) * rowsOf (g .circuit) → n < P

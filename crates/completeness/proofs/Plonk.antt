@@ -11,7 +11,7 @@ use Rattle.field.specs.Algebra.{Field}
 use Rattle.field.specs.Algebra as Algebra
 use Rattle.bh.specs.Sums.{upTo}
 use Rattle.bh.specs.Rows.{rowAt}
-use Rattle.lists.specs.Lists.{indexOf, All, below, concat}
+use Rattle.lists.specs.Lists.{indexOf, All, range, concat}
 use Rattle.lists.proofs.Tests.{by-test}
 use Rattle.lists.proofs.Parts.{div-row, mod-row}
 use Rattle.lists.proofs.Totals.{concat-cut}
@@ -83,13 +83,13 @@ module _ (𝓕 : Field) where
   open Field 𝓕 using (F, one, mul)
 
   module _ (g : Log 𝓕) where
-    pub whole : 0 < numCopied (g .circuit) → concat (take (numZ (g .circuit)) (zCut (g .circuit))) ≡ below (numCopied (g .circuit))
+    pub whole : 0 < numCopied (g .circuit) → concat (take (numZ (g .circuit)) (zCut (g .circuit))) ≡ range (numCopied (g .circuit))
     unfolding zCut
     whole p =
         let n : ℕ = numCopied (g .circuit) in
         let s : ℕ = partSize (g .circuit) p in
         let q = parts-of-z (g .circuit) in
-        ap concat (take-all (numZ (g .circuit)) (zCut (g .circuit)) (omega arith)) ∙ concat-cut s (below n) (size-pos (g .circuit) p)
+        ap concat (take-all (numZ (g .circuit)) (zCut (g .circuit)) (omega arith)) ∙ concat-cut s (range n) (size-pos (g .circuit) p)
 
     pub step-at : (s j : ℕ) → j < numZ (g .circuit) → stepAt 𝓕 g (s * numZ (g .circuit) + j) ≡ partAt 𝓕 g (getD (zCut (g .circuit)) j []) (rowAt (g .circuit .k) (suc s))
     unfolding stepAt
@@ -113,7 +113,7 @@ module _ (𝓕 : Field) where
         ∙ ap₂ mul
         (sym (upTo-flat mul one (muls 𝓕) (stepAt 𝓕 g) t (numZ (g .circuit)))
         ∙ upTo-cong mul one (λ s. upTo mul one (λ j. stepAt 𝓕 g (s * numZ (g .circuit) + j)) (numZ (g .circuit)))
-        (λ s. Algebra.product 𝓕 (map (ratioAt 𝓕 g (rowAt (g .circuit .k) (suc s))) (below (numCopied (g .circuit))))) t
+        (λ s. Algebra.product 𝓕 (map (ratioAt 𝓕 g (rowAt (g .circuit .k) (suc s))) (range (numCopied (g .circuit))))) t
         (λ s w.
         steps-at s (numZ (g .circuit)) (omega arith)
         ∙ ap (λ (xs : List ℕ). Algebra.product 𝓕 (map (ratioAt 𝓕 g (rowAt (g .circuit .k) (suc s))) xs)) (whole pos)))

@@ -6,7 +6,7 @@ use native.Mathlib.Omega.{arith}
 use lib.ListN.{length, getD}
 use Rattle.field.specs.Algebra.{Field}
 use Rattle.bh.specs.Rows.{rotated, iter}
-use Rattle.lists.specs.Lists.{below, All}
+use Rattle.lists.specs.Lists.{range, All}
 use Rattle.lists.proofs.Lists.{get-left, get-past, get-map}
 use Rattle.lists.proofs.Columns.{below-length, below-get}
 use Rattle.lists.proofs.All.{all-get, all-column, all-those, all-mapped, map-same}
@@ -17,7 +17,7 @@ use Rattle.backend.specs.Circuit.{
   Pair,
   Circuit,
   rowsOf,
-  numUser,
+  numChallenges,
   numPoly,
   numLookups,
   copied,
@@ -44,7 +44,7 @@ use Rattle.completeness.proofs.Passed.{constraints-scoped, lookups-scop
 -- ---- circuits
 pub copied-below : (c : Circuit) → All (λ q. q < numPoly c) (copied c)
 unfolding copiedIn copied
-copied-below c = all-those (λ q. q < numPoly c) _ (below (numPoly c)) (all-column (λ q. q < numPoly c) (λ i. i) (numPoly c) (λ i l. l))
+copied-below c = all-those (λ q. q < numPoly c) _ (range (numPoly c)) (all-column (λ q. q < numPoly c) (λ i. i) (numPoly c) (λ i l. l))
 
 module _ (𝓕 : Field) where
   open Field 𝓕 using (F, zero as nil, one, add, mul, neg)
@@ -64,7 +64,7 @@ module _ (𝓕 : Field) where
         ap (λ (p : ℕ → F). p b)
         (get-past (givenPolys 𝓕 g) _ (permNumber (g .circuit) i) i (λ r. nil) (let e = given-length 𝓕 g in omega arith)
         ∙ get-left (permutationPolys 𝓕 g) _ i (λ r. nil) (let e = permutations-length 𝓕 g in omega arith)
-        ∙ get-map (permutationAt 𝓕 g) (below (numCopied (g .circuit))) i 0 (λ r. nil) (let e = below-length (numCopied (g .circuit)) in omega arith)
+        ∙ get-map (permutationAt 𝓕 g) (range (numCopied (g .circuit))) i 0 (λ r. nil) (let e = below-length (numCopied (g .circuit)) in omega arith)
         ∙ ap (permutationAt 𝓕 g) (below-get (numCopied (g .circuit)) i 0 l))
 
     pub poly-m : (j b : ℕ) → j < numLookups (g .circuit) → polyOf 𝓕 (allPolys 𝓕 g) (mNumber (g .circuit) j) b ≡ mAt 𝓕 g (getD (g .circuit .lookups) j []) b
@@ -95,7 +95,7 @@ module _ (𝓕 : Field) where
         ∙ get-past (permutationPolys 𝓕 g) _ (numCopied (g .circuit) + (L + (L + i))) (L + (L + i)) (λ r. nil) (let e = permutations-length 𝓕 g in omega arith)
         ∙ get-past (mPolys 𝓕 g) _ (L + (L + i)) (L + i) (λ r. nil) (let e = m-length 𝓕 g in omega arith)
         ∙ get-past (hPolys 𝓕 g) _ (L + i) i (λ r. nil) (let e = h-length 𝓕 g in omega arith)
-        ∙ get-map (zAt 𝓕 g) (below (numZ (g .circuit))) i 0 (λ r. nil) (let e = below-length (numZ (g .circuit)) in omega arith)
+        ∙ get-map (zAt 𝓕 g) (range (numZ (g .circuit))) i 0 (λ r. nil) (let e = below-length (numZ (g .circuit)) in omega arith)
         ∙ ap (zAt 𝓕 g) (below-get (numZ (g .circuit)) i 0 l))
 
     pub copied-poly : (i b : ℕ) → i < numCopied (g .circuit) → polyOf 𝓕 (allPolys 𝓕 g) (getD (copied (g .circuit)) i 0) b ≡ copiedAt 𝓕 g i b
@@ -107,19 +107,19 @@ module _ (𝓕 : Field) where
       abbrev challenges : List F
       challenges = g .user ++ (g .β ∷ g .γ ∷ α ∷ [])
 
-      pub beta-value : getD challenges (numUser (g .circuit)) nil ≡ g .β
-      beta-value = get-past (g .user) _ (numUser (g .circuit)) 0 nil (let e = ad .user-all in omega arith)
+      pub beta-value : getD challenges (numChallenges (g .circuit)) nil ≡ g .β
+      beta-value = get-past (g .user) _ (numChallenges (g .circuit)) 0 nil (let e = ad .user-all in omega arith)
 
-      pub gamma-value : getD challenges (numUser (g .circuit) + 1) nil ≡ g .γ
-      gamma-value = get-past (g .user) _ (numUser (g .circuit) + 1) 1 nil (let e = ad .user-all in omega arith)
+      pub gamma-value : getD challenges (numChallenges (g .circuit) + 1) nil ≡ g .γ
+      gamma-value = get-past (g .user) _ (numChallenges (g .circuit) + 1) 1 nil (let e = ad .user-all in omega arith)
 
       module _ (y : ℕ → F) where
         -- ---- user expressions
-        pub user-value : (e : Expr) → Scoped (numPoly (g .circuit)) (numUser (g .circuit)) e → (b : ℕ)
+        pub user-value : (e : Expr) → Scoped (numPoly (g .circuit)) (numChallenges (g .circuit)) e → (b : ℕ)
             → valueAt 𝓕 (composedEnvironment 𝓕 g α y) e b ≡ valueAt 𝓕 (userEnvironment 𝓕 g) e b
         unfolding composedEnvironment userEnvironment
         user-value e h b =
-            agree-value 𝓕 (userScope (numPoly (g .circuit)) (numUser (g .circuit))) (composedEnvironment 𝓕 g α y) (userEnvironment 𝓕 g) b
+            agree-value 𝓕 (userScope (numPoly (g .circuit)) (numChallenges (g .circuit))) (composedEnvironment 𝓕 g α y) (userEnvironment 𝓕 g) b
             (record {
               same-k = refl;
               same-el = refl;
@@ -131,16 +131,16 @@ module _ (𝓕 : Field) where
             h
 
         abbrev InScope : Expr → Type 0
-        InScope e = Scoped (numPoly (g .circuit)) (numUser (g .circuit)) e
+        InScope e = Scoped (numPoly (g .circuit)) (numChallenges (g .circuit)) e
 
         pub constraints-in : All InScope (g .circuit .constraints)
         constraints-in =
-            subst (λ (c : Circuit). All (λ e. Scoped (numPoly c) (numUser c) e) (c .constraints)) (sym (ad .read))
+            subst (λ (c : Circuit). All (λ e. Scoped (numPoly c) (numChallenges c) e) (c .constraints)) (sym (ad .read))
             (constraints-scoped (ad .words) (yes-all (ad .words) (ad .passed)))
 
         pub lookups-in : All (All (λ (p : Pair). InScope (p .input) × InScope (p .table))) (g .circuit .lookups)
         lookups-in =
-            subst (λ (c : Circuit). All (All (λ (p : Pair). Scoped (numPoly c) (numUser c) (p .input) × Scoped (numPoly c) (numUser c) (p .table))) (c .lookups))
+            subst (λ (c : Circuit). All (All (λ (p : Pair). Scoped (numPoly c) (numChallenges c) (p .input) × Scoped (numPoly c) (numChallenges c) (p .table))) (c .lookups))
             (sym (ad .read))
             (lookups-scoped (ad .words) (yes-all (ad .words) (ad .passed)))
 

@@ -10,7 +10,7 @@ use lib.Pow.{pow-mono}
 use Rattle.field.specs.Prime.{P}
 use Rattle.field.specs.Field.{𝔾, el, val, el-val, val-el}
 use Rattle.field.proofs.Elements.{val-zero}
-use Rattle.lists.specs.Lists.{below, written}
+use Rattle.lists.specs.Lists.{range, writePrefix}
 use Rattle.lists.proofs.Lists.{get-left, get-past, get-map}
 use Rattle.lists.proofs.Columns.{column-length}
 use Rattle.lists.proofs.Searches.{count-le}
@@ -78,7 +78,7 @@ module _ (g : Log 𝔾) where
   -- a count is at most 2^k
   count-small : (p : List Pair) (b : ℕ) → countAt 𝔾 g p b ≤ rows
   unfolding countAt multiplicity
-  count-small p b = subst (λ (n : ℕ). countAt 𝔾 g p b ≤ n) (column-length (λ (i : ℕ). i) rows) (count-le _ (below rows))
+  count-small p b = subst (λ (n : ℕ). countAt 𝔾 g p b ≤ n) (column-length (λ (i : ℕ). i) rows) (count-le _ (range rows))
 
 module _ (ws instances witness challenges columns nodes : List ℕ) (z : buildOf (lentBuild ws instances witness challenges columns nodes) .answer .number ≡ 0) where
   abbrev log : Log 𝔾
@@ -96,7 +96,7 @@ module _ (ws instances witness challenges columns nodes : List ℕ) (z : buildOf
   all-covered : allCovered 𝔾 log ≡ true
   all-covered = covered-yes ws instances witness challenges columns nodes asked (zero-when ws instances witness challenges columns nodes .0 z .1)
 
-  pub left-is : left ≡ written (wordsOf (rowsOf c) (writtenPolys 𝔾 log)) columns
+  pub left-is : left ≡ writePrefix (wordsOf (rowsOf c) (writtenPolys 𝔾 log)) columns
   unfolding made logOf
   left-is = ap (λ (o : Output). o .columns) (built-by ws instances witness challenges columns nodes asked all-covered)
 

@@ -6,12 +6,12 @@ use native.Mathlib.Omega.{arith}
 use lib.ListN.{length, getD, take, length-append, drop-of-length-le}
 use lib.Seq.{split-at, drop-cons}
 use Rattle.field.specs.Field.{𝔾, el, el-val}
-use Rattle.lists.specs.Lists.{column}
+use Rattle.lists.specs.Lists.{tabulate}
 use Rattle.lists.proofs.Lists.{get-left, get-past}
 use Rattle.expression.specs.Expr.{Expr}
 use Rattle.expression.specs.Value.{polyOf, valueAt}
 use Rattle.expression.proofs.SameRows.{Same, same-refl, same-append, same-column, same-at, values-agree}
-use Rattle.backend.specs.Circuit.{circuitOf, rowsOf, numInstance, numUser, numCopied, numLookups}
+use Rattle.backend.specs.Circuit.{circuitOf, rowsOf, numInstance, numChallenges, numCopied, numLookups}
 use Rattle.multilinear.specs.EqXY.{eqAt}
 use Rattle.preprocessor.specs.Compose.{numZ}
 use Rattle.prover.specs.Log.{Log}
@@ -19,7 +19,7 @@ use Rattle.prover.specs.Columns.{instancePolys, preprocessPolys, witnessPolys, 
 use Rattle.prover.proofs.Words.{words-get}
 use Rattle.prover.proofs.Lengths.{instances-length, permutations-length, compressed-length, m-length, h-length, z-length, written-length}
 use Rattle.hyperplonk_spec.specs.Build.{logOf, wordsOf}
-use Rattle.hyperplonk_spec.specs.RowSum.{lentColumn, lentPolys, environmentFromWords}
+use Rattle.hyperplonk_spec.specs.RowSum.{lentColumn, lentPolys, rowSumEnvironment}
 
 module _ (g : Log 𝔾) where
   abbrev rest : List (ℕ → 𝔾 .F)
@@ -41,7 +41,7 @@ module _ (g : Log 𝔾) where
   lent-at : (i b : ℕ) → i < length (writtenPolys 𝔾 g) → b < rowsOf (g .circuit) → lentColumn (g .circuit) columns i b ≡ polyOf 𝔾 (writtenPolys 𝔾 g) i b
   lent-at i b l m = ap el (words-get (rowsOf (g .circuit)) (writtenPolys 𝔾 g) i b l m) ∙ el-val (polyOf 𝔾 (writtenPolys 𝔾 g) i b)
 
-  same-instances : Same 𝔾 (rowsOf (g .circuit)) (column (lentColumn (g .circuit) columns) (numInstance (g .circuit))) (instancePolys 𝔾 g)
+  same-instances : Same 𝔾 (rowsOf (g .circuit)) (tabulate (lentColumn (g .circuit) columns) (numInstance (g .circuit))) (instancePolys 𝔾 g)
   unfolding writtenPolys
   same-instances =
       same-column 𝔾 (rowsOf (g .circuit)) (lentColumn (g .circuit) columns) (numInstance (g .circuit)) (instancePolys 𝔾 g) (sym (instances-length 𝔾 g))
@@ -49,7 +49,7 @@ module _ (g : Log 𝔾) where
       lent-at i b (let w = written-length 𝔾 g in omega arith) m
       ∙ ap (λ (p : ℕ → 𝔾 .F). p b) (get-left (instancePolys 𝔾 g) _ i (λ r. 𝔾 .zero) (let q = instances-length 𝔾 g in omega arith)))
 
-  same-permutations : Same 𝔾 (rowsOf (g .circuit)) (column (λ i. lentColumn (g .circuit) columns (numInstance (g .circuit) + i)) (numCopied (g .circuit))) (permutationPolys 𝔾 g)
+  same-permutations : Same 𝔾 (rowsOf (g .circuit)) (tabulate (λ i. lentColumn (g .circuit) columns (numInstance (g .circuit) + i)) (numCopied (g .circuit))) (permutationPolys 𝔾 g)
   unfolding writtenPolys
   same-permutations =
       same-column 𝔾 (rowsOf (g .circuit)) (λ i. lentColumn (g .circuit) columns (numInstance (g .circuit) + i)) (numCopied (g .circuit)) (permutationPolys 𝔾 g)
@@ -61,7 +61,7 @@ module _ (g : Log 𝔾) where
       ∙ get-left (permutationPolys 𝔾 g) _ i (λ r. 𝔾 .zero) (let q = permutations-length 𝔾 g in omega arith)))
 
   same-rest : Same 𝔾 (rowsOf (g .circuit))
-      (column (λ i. lentColumn (g .circuit) columns (numInstance (g .circuit) + numCopied (g .circuit) + numLookups (g .circuit) * 2 + i))
+      (tabulate (λ i. lentColumn (g .circuit) columns (numInstance (g .circuit) + numCopied (g .circuit) + numLookups (g .circuit) * 2 + i))
       (numLookups (g .circuit) * 2 + numZ (g .circuit)))
       rest
   unfolding writtenPolys
@@ -105,7 +105,7 @@ module _ (ws instances witness challenges : List ℕ) where
       (same-append 𝔾 (2 ^ circuitOf ws .k) _ (permutationPolys 𝔾 log) _ (rest log) (same-permutations log) (same-rest log)))))
 
   -- the user's challenges, then β and γ, then α
-  same-challenges : length challenges ≡ numUser (circuitOf ws) + 2 → (α : ℕ)
+  same-challenges : length challenges ≡ numChallenges (circuitOf ws) + 2 → (α : ℕ)
       → map el (challenges ++ (α ∷ [])) ≡ log .user ++ (log .β ∷ log .γ ∷ el α ∷ [])
   unfolding logOf
   same-challenges e α =
@@ -114,7 +114,7 @@ module _ (ws instances witness challenges : List ℕ) where
       ∙ map-append el (take n challenges) (getD challenges n 0 ∷ getD challenges (n + 1) 0 ∷ α ∷ [])
     where
       n : ℕ
-      n = numUser (circuitOf ws)
+      n = numChallenges (circuitOf ws)
 
       next : suc n ≡ n + 1
       next = omega arith
@@ -127,12 +127,12 @@ module _ (ws instances witness challenges : List ℕ) where
           ∙ ap₂ (λ (w : ℕ) (l : List ℕ). w ∷ l) (ap (λ (i : ℕ). getD challenges i 0) next)
           (drop-of-length-le challenges {i = suc (suc n)} (omega arith)))
 
-  pub lent-value : length challenges ≡ numUser (circuitOf ws) + 2 → circuitOf ws .k < 32 → (α : ℕ) (y : List ℕ) (e : Expr) (b : ℕ) → b < rowsOf (circuitOf ws)
-      → valueAt 𝔾 (environmentFromWords ws witness lent (challenges ++ (α ∷ [])) y) e b
+  pub lent-value : length challenges ≡ numChallenges (circuitOf ws) + 2 → circuitOf ws .k < 32 → (α : ℕ) (y : List ℕ) (e : Expr) (b : ℕ) → b < rowsOf (circuitOf ws)
+      → valueAt 𝔾 (rowSumEnvironment ws witness lent (challenges ++ (α ∷ [])) y) e b
       ≡ valueAt 𝔾 (composedEnvironment 𝔾 log (el α) (λ i. el (getD y i 0))) e b
-  unfolding logOf environmentFromWords composedEnvironment
+  unfolding logOf rowSumEnvironment composedEnvironment
   lent-value h s α y e b l =
-      values-agree 𝔾 (environmentFromWords ws witness lent (challenges ++ (α ∷ [])) y)
+      values-agree 𝔾 (rowSumEnvironment ws witness lent (challenges ++ (α ∷ [])) y)
       (record { k = circuitOf ws .k; el = el; polys = allPolys 𝔾 log; challenges = map el (challenges ++ (α ∷ [])); eq = eqAt 𝔾 (circuitOf ws .k) (λ i. el (getD y i 0)) })
       refl
       refl

@@ -11,7 +11,7 @@ use Rattle.field.proofs.Elements.{val-zero, val-one}
 use Rattle.bh.specs.Sums.{upTo}
 use Rattle.bh.specs.Rows.{rowAt}
 use Rattle.bh.proofs.Order.{row-lt}
-use Rattle.lists.specs.Lists.{below, column, concat}
+use Rattle.lists.specs.Lists.{range, tabulate, concat}
 use Rattle.lists.proofs.Lists.{get-left, get-past, get-map}
 use Rattle.lists.proofs.Columns.{below-length, below-get}
 use Rattle.expression.specs.Value.{polyOf}
@@ -56,7 +56,7 @@ module _ (g : Log 𝔾) where
       ap (λ (p : ℕ → 𝔾 .F). p b)
       (get-past (instancePolys 𝔾 g) _ _ i (λ r. 𝔾 .zero) (let q = instances-length 𝔾 g in omega arith)
       ∙ get-left (permutationPolys 𝔾 g) _ i (λ r. 𝔾 .zero) (let q = permutations-length 𝔾 g in omega arith)
-      ∙ get-map (permutationAt 𝔾 g) (below (numCopied (g .circuit))) i 0 (λ r. 𝔾 .zero) (let q = below-length (numCopied (g .circuit)) in omega arith)
+      ∙ get-map (permutationAt 𝔾 g) (range (numCopied (g .circuit))) i 0 (λ r. 𝔾 .zero) (let q = below-length (numCopied (g .circuit)) in omega arith)
       ∙ ap (permutationAt 𝔾 g) (below-get (numCopied (g .circuit)) i 0 l))
 
   written-z : (i b : ℕ) → i < numZ (g .circuit)
@@ -69,12 +69,12 @@ module _ (g : Log 𝔾) where
       ∙ get-past (compressedPolys 𝔾 g) _ _ (numLookups (g .circuit) * 2 + i) (λ r. 𝔾 .zero) (let q = compressed-length 𝔾 g in omega arith)
       ∙ get-past (mPolys 𝔾 g) _ _ (numLookups (g .circuit) + i) (λ r. 𝔾 .zero) (let q = m-length 𝔾 g in omega arith)
       ∙ get-past (hPolys 𝔾 g) _ _ i (λ r. 𝔾 .zero) (let q = h-length 𝔾 g in omega arith)
-      ∙ get-map (zAt 𝔾 g) (below (numZ (g .circuit))) i 0 (λ r. 𝔾 .zero) (let q = below-length (numZ (g .circuit)) in omega arith)
+      ∙ get-map (zAt 𝔾 g) (range (numZ (g .circuit))) i 0 (λ r. 𝔾 .zero) (let q = below-length (numZ (g .circuit)) in omega arith)
       ∙ ap (zAt 𝔾 g) (below-get (numZ (g .circuit)) i 0 l))
 
   -- the first z column is one at the first place after row 0
   starts-one : paperZ 𝔾 g 0 0 ≡ 𝔾 .one
-  unfolding paperZ cellsBefore column concat Algebra.product
+  unfolding paperZ cellsBefore tabulate concat Algebra.product
   starts-one = refl
 
   -- the whole product is the last z times the last part's factor
@@ -139,7 +139,7 @@ module _ (ws instances witness challenges columns nodes : List ℕ) (z : buildOf
       val-el (firstLabel c (σ c (copiedCell c i b)))
       (labels-small log ad (firstLabel c (σ c (copiedCell c i b)))
       (labels c .label-in (σ c (copiedCell c i b))
-      (permutes c (eleven-yes 𝔾 log ad) .into (copiedCell c i b) (record { column = i; column-in = l; row-in = m; is = refl }))))
+      (permutes c (eleven-yes 𝔾 log ad) .into (copiedCell c i b) (record { tabulate = i; column-in = l; row-in = m; is = refl }))))
 
   closed : ProductCloses log left
   unfolding logOf rowAt

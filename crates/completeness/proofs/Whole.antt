@@ -9,7 +9,7 @@ use native.Mathlib.Decide.{ℕ-discrete}
 use lib.ListN.{length, take, length-take}
 use borrow.Author.Tests.{ne-eqb}
 use Rattle.field.specs.Field.{𝔾}
-use Rattle.lists.specs.Lists.{Asked, asked, askedOf, firstNo}
+use Rattle.lists.specs.Lists.{Question, question, questionOf, firstNo}
 use Rattle.lists.proofs.First.{first-none, first-next, first-number, first-append, first-of, numbered-of}
 use Rattle.backend.specs.Circuit.{Circuit, circuitOf}
 use Rattle.backend.specs.Questions.{circuitQuestions}
@@ -24,7 +24,7 @@ use Rattle.hyperplonk_spec.specs.Demand.{Succeeds, Demand3}
 use Rattle.backend.proofs.Passed.{numbered}
 use Rattle.completeness.proofs.Asked.{Lending, lending}
 use Rattle.completeness.proofs.DemandThree.{demand-three-at}
-use Rattle.hyperplonk_spec.specs.BuildAndSum.{beforeAlpha, alphaOf, Left, sized, buildAndSumOf}
+use Rattle.hyperplonk_spec.specs.BuildAndSum.{beforeAlpha, alphaWord, Left, sized, buildAndSumOf}
 use Rattle.completeness.specs.DemandWhole.{Concluded, Demanded, DemandThreeWhole}
 use Rattle.completeness.proofs.Called.{with-alpha, refused-left, summed-left}
 
@@ -37,14 +37,14 @@ module _ (ws witness columns nodes challenges y : List ℕ) (accepted : firstNo 
   number = checkSum (lentSum ws witness columns nodes challenges y)
 
   -- question 16 alone
-  abbrev last : List (Asked LentSum)
+  abbrev last : List (Question LentSum)
   last =
-      asked 16 (λ (l : LentSum). q16 (circuitOf (l .circuit)) (l .witness) (l .columns) (l .nodes) (l .challenges) (l .y)) ∷ []
+      question 16 (λ (l : LentSum). q16 (circuitOf (l .circuit)) (l .witness) (l .columns) (l .nodes) (l .challenges) (l .y)) ∷ []
 
   only : number ≡ firstNo last lent
   unfolding checkSum sumQuestions
   only =
-      first-append (map (askedOf (λ (l : LentSum). l .circuit)) circuitQuestions) last lent
+      first-append (map (questionOf (λ (l : LentSum). l .circuit)) circuitQuestions) last lent
       (first-of (λ (l : LentSum). l .circuit) circuitQuestions lent ∙ accepted)
       (numbered-of (λ (l : LentSum). l .circuit) circuitQuestions numbered)
 
@@ -69,7 +69,7 @@ module _ (ws witness columns nodes challenges y : List ℕ) (accepted : firstNo 
   pub no-fifteen : rowSumOf (lentSum ws witness columns nodes challenges y) .number ≢ 15
   no-fifteen e = asked-16 (q16 (circuitOf ws) witness columns nodes challenges y) refl (sym number-is ∙ e)
 
-module _ (ws instances witness challenges y columns nodes : List ℕ) (asked : checkBuild (lentBuild ws instances witness (beforeAlpha challenges) columns nodes) ≡ 0) where
+module _ (ws instances witness challenges y columns nodes : List ℕ) (question : checkBuild (lentBuild ws instances witness (beforeAlpha challenges) columns nodes) ≡ 0) where
   abbrev log : Log 𝔾
   log = logOf ws instances witness (beforeAlpha challenges)
 
@@ -80,10 +80,10 @@ module _ (ws instances witness challenges y columns nodes : List ℕ) (asked : c
   after = buildAndSumOf (lentBuild ws instances witness challenges columns nodes) y
 
   l : Lending ws instances witness (beforeAlpha challenges)
-  l = lending ws instances witness (beforeAlpha challenges) columns nodes asked
+  l = lending ws instances witness (beforeAlpha challenges) columns nodes question
 
   d : Demand3 ws instances witness (beforeAlpha challenges) columns nodes built
-  d = demand-three-at ws instances witness (beforeAlpha challenges) columns nodes built refl asked
+  d = demand-three-at ws instances witness (beforeAlpha challenges) columns nodes built refl question
 
   -- there is an α
   has-alpha : 0 < length challenges
@@ -128,7 +128,7 @@ module _ (ws instances witness challenges y columns nodes : List ℕ) (asked : c
         ∙ sym (ap (λ (b : Built). rowSumOf (lentSum ws witness (take (b .«column_words») (built .columns)) (take (b .nodes * 4) (built .nodes)) challenges y)) e)
 
     left-zero : rowSumOf (lentSum ws witness (take (columnWords circuit) (built .columns)) (take (composedNodes circuit * 4) (built .nodes))
-        (beforeAlpha challenges ++ (alphaOf challenges ∷ []))
+        (beforeAlpha challenges ++ (alphaWord challenges ∷ []))
         y)
         ≡ record { number = 0; sum = 0 }
         → _≡_ {A = Left}
@@ -183,7 +183,7 @@ module _ (ws instances witness challenges y columns nodes : List ℕ) (asked : c
             } in
             let s : Succeeds ws instances witness (beforeAlpha challenges) columns nodes built =
             d .otherwise premises (unless-built not-15) in
-            concluded s after (left-zero s (s .row-sum (alphaOf challenges) y α-small y-length y-small));
+            concluded s after (left-zero s (s .row-sum (alphaWord challenges) y α-small y-length y-small));
       }
 
 -- of a call that returned and left what is defined
@@ -192,4 +192,4 @@ pub both : (ws instances witness challenges y columns nodes : List ℕ) (left : 
     → (left ≡ buildAndSumOf (lentBuild ws instances witness challenges columns nodes) y)
     × DemandThreeWhole (lentBuild ws instances witness challenges columns nodes) y left
 both ws instances witness challenges y columns nodes left e =
-    (e, λ asked. subst (λ (x : Left). Demanded (lentBuild ws instances witness challenges columns nodes) y x) (sym e) (demanded ws instances witness challenges y columns nodes asked))
+    (e, λ question. subst (λ (x : Left). Demanded (lentBuild ws instances witness challenges columns nodes) y x) (sym e) (demanded ws instances witness challenges y columns nodes question))

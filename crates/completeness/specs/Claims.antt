@@ -8,10 +8,10 @@ use lib.ListN.{length, getD, take, drop}
 use Rattle.field.specs.Prime.{P}
 use Rattle.field.specs.Algebra.{Field}
 use Rattle.field.specs.Field.{𝔾}
-use Rattle.lists.specs.Lists.{below, ceilDiv}
+use Rattle.lists.specs.Lists.{range, ceilDiv}
 use Rattle.expression.specs.Expr.{Expr}
 use Rattle.expression.specs.Value.{Environment, valueAt}
-use Rattle.backend.specs.Circuit.{Circuit, circuitOf, rowsOf, numCopied, numPoly, numUser}
+use Rattle.backend.specs.Circuit.{Circuit, circuitOf, rowsOf, numCopied, numPoly, numChallenges}
 use Rattle.backend.specs.Questions.{PassedIsWellFormed}
 use Rattle.preprocessor.specs.Compose.{numZ, constraintCut, zCut, composedWords}
 use Rattle.prover.specs.Log.{Log}
@@ -69,7 +69,7 @@ RefusedWhen = (𝓕 : Field) (g : Log 𝓕) → (allCovered 𝓕 g ≡ false) �
 -- a user expression has one value over what the user gives and over all columns
 abbrev pub UserValue : Type 1
 UserValue =
-    (𝓕 : Field) (g : Log 𝓕) → Admitted 𝓕 g → (α : 𝓕 .F) (y : ℕ → 𝓕 .F) (e : Expr) → Scoped (numPoly (g .circuit)) (numUser (g .circuit)) e
+    (𝓕 : Field) (g : Log 𝓕) → Admitted 𝓕 g → (α : 𝓕 .F) (y : ℕ → 𝓕 .F) (e : Expr) → Scoped (numPoly (g .circuit)) (numChallenges (g .circuit)) e
     → (b : ℕ) → valueAt 𝓕 (composedEnvironment 𝓕 g α y) e b ≡ valueAt 𝓕 (userEnvironment 𝓕 g) e b
 
 -- "both cuts of the copied columns alike": then part j of the constraints' cut is the n/N (rounded up) columns from j times that on
@@ -77,7 +77,7 @@ abbrev pub PartsAlike : Type 0
 PartsAlike =
     (c : Circuit) → constraintCut c ≡ zCut c → 0 < numCopied c → (j : ℕ)
     → getD (constraintCut c) j []
-    ≡ take (ceilDiv (numCopied c) (numZ c)) (drop (j * ceilDiv (numCopied c) (numZ c)) (below (numCopied c)))
+    ≡ take (ceilDiv (numCopied c) (numZ c)) (drop (j * ceilDiv (numCopied c) (numZ c)) (range (numCopied c)))
 
 -- "and the row sum, given what that build wrote, answers so"
 abbrev pub RowSumZero : Type 0

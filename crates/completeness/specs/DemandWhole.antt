@@ -26,7 +26,7 @@ use Rattle.hyperplonk_spec.specs.Meaning.{
   NoZeroTable,
   NoZeroFactor,
 }
-use Rattle.hyperplonk_spec.specs.BuildAndSum.{beforeAlpha, alphaOf, beforeSum, Left}
+use Rattle.hyperplonk_spec.specs.BuildAndSum.{beforeAlpha, alphaWord, beforeSum, Left}
 
 -- a call that was lent these words and buffers, and what it returned and left
 module _ (lent : Lent) (y : List ℕ) (left : Left) where
@@ -80,7 +80,7 @@ module _ (lent : Lent) (y : List ℕ) (left : Left) where
         -- "Then, unless 15 is given, …"
         → left .answer .number ≢ 15
         -- "for every alpha and every y": "any α and any k values y of the field"
-        → alphaOf (lent .challenges) < P
+        → alphaWord (lent .challenges) < P
         → length y ≡ circuit .k
         → Each 0 y (λ v. v < P)
         → Concluded

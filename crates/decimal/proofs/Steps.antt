@@ -9,9 +9,9 @@ use lib.ListN.{length, getD, take, drop, set, length-set}
 use lib.Seq.{take-all, take-suc-set, length-take-le, drop-cons, drop-length}
 use lib.Dec.{eqb, ltb, leb}
 use borrow.Author.Tests.{eqb-true, eqb-false, ne-eqb, lt-ltb, le-ltb, leb-true, lt-leb}
-use Rattle.lists.specs.Lists.{allOf, those, within}
+use Rattle.lists.specs.Lists.{allOf, filter, within}
 use Rattle.lists.proofs.Tests.{by-test, false-true, and-left, and-right}
-use Rattle.decimal.specs.Text.{isNewline, isHash, isBlank, isDigit, noDigit, Parts, every, parts, lines, before, pieces, tooLarge, tooMany, noNumber, number, Word, word, wrong, wordAfter, wordsOf, Placed, placed, placedAt, nextLine, inLines, Said, words, fault, kept, says}
+use Rattle.decimal.specs.Text.{isNewline, isHash, isBlank, isDigit, noDigit, Parts, every, parts, lines, textBefore, pieces, tooLarge, tooMany, noNumber, number, Word, word, wrong, wordAfter, lineWords, LineWord, placed, placedAt, nextLine, inLines, Said, words, fault, keptWords, says}
 use Rattle.decimal.specs.Reading.{inNumber, inComment, valueBegun, told, heard, follows, lineAhead, wordsAhead, ahead, begun, Takes, Ended, Stopped}
 use Rattle.decimal.specs.declared.Scan.{Scan}
 
@@ -20,11 +20,11 @@ use Rattle.decimal.specs.declared.Scan.{Scan}
 abbrev pub at : ℕ → ℕ → ℕ → Scan
 at count stands line = record { count = count; value = 0; stands = stands; line = line; wrong = 0; more = true }
 
-pub goes : (s : Scan) (ws : List ℕ) (rest : List Placed) → s .more ≡ true → follows s ws rest ≡ kept (length ws) (take (s .count) ws) rest
+pub goes : (s : Scan) (ws : List ℕ) (rest : List LineWord) → s .more ≡ true → follows s ws rest ≡ keptWords (length ws) (take (s .count) ws) rest
 unfolding follows
 goes s ws rest m = rw m
 
-pub halts : (s : Scan) (ws : List ℕ) (rest : List Placed) → s .more ≡ false → follows s ws rest ≡ heard s ws
+pub halts : (s : Scan) (ws : List ℕ) (rest : List LineWord) → s .more ≡ false → follows s ws rest ≡ heard s ws
 unfolding follows
 halts s ws rest m = rw m
 
@@ -35,7 +35,7 @@ halted s ws t u m = halts s ws (wordsAhead s t) m ∙ sym (halts s ws (wordsAhea
 -- ---- the number begun is kept
 
 pub full : (s r : Scan) (ws : List ℕ) (stands line : ℕ) → s .more ≡ true → inNumber s ≡ true → length ws ≤ s .count → Stopped s tooMany r → Ended s ws stands line r ws
-unfolding kept told
+unfolding keptWords told
 full s r ws stands line m n over x =
     record {
       goes-on = λ rest. halts r ws rest (x .ended) ∙ x .hears ws ∙ sym (goes s ws (placedAt (s .line) (begun s) ++ rest) m ∙ rw n (rw (take-all (s .count) ws over) (rw (le-ltb (length ws) (length ws) (omega arith)))));
@@ -44,7 +44,7 @@ full s r ws stands line m n over x =
     }
 
 pub keeps : (s : Scan) (ws : List ℕ) (stands line : ℕ) → s .more ≡ true → inNumber s ≡ true → s .count < length ws → Ended s ws stands line (at (s .count + 1) stands line) (set ws (s .count) (s .value))
-unfolding kept follows
+unfolding keptWords follows
 keeps s ws stands line m n room =
     let l : length (take (s .count) ws) ≡ s .count = length-take-le (s .count) ws (omega arith) in
     record {
@@ -73,10 +73,10 @@ unfolding parts
 pieces-none b l x = ap (λ (ps : Parts). parts isBlank (ps .first)) (parted isHash b l x)
 
 pieces-blank : (b : ℕ) (l : List ℕ) → isHash b ≡ false → isBlank b ≡ true → pieces (b ∷ l) ≡ record { first = []; others = every (pieces l) }
-pieces-blank b l x k = ap (λ (ps : Parts). parts isBlank (ps .first)) (joined isHash b l x) ∙ parted isBlank b (before isHash l) k
+pieces-blank b l x k = ap (λ (ps : Parts). parts isBlank (ps .first)) (joined isHash b l x) ∙ parted isBlank b (textBefore isHash l) k
 
 pieces-on : (b : ℕ) (l : List ℕ) → isHash b ≡ false → isBlank b ≡ false → pieces (b ∷ l) ≡ record { first = b ∷ pieces l .first; others = pieces l .others }
-pieces-on b l x k = ap (λ (ps : Parts). parts isBlank (ps .first)) (joined isHash b l x) ∙ joined isBlank b (before isHash l) k
+pieces-on b l x k = ap (λ (ps : Parts). parts isBlank (ps .first)) (joined isHash b l x) ∙ joined isBlank b (textBefore isHash l) k
 
 -- ---- bytes that end a number
 
@@ -85,12 +85,12 @@ unfolding wordAfter parts number allOf
 number-end v h = rw (lt-ltb v (2 ^ 64) h)
 
 -- a line at a blank, or at its end
-line-ends : (s : Scan) (others : List (List ℕ)) → s .value < 2 ^ 64 → inComment s ≡ false → lineAhead s (record { first = []; others = others }) ≡ begun s ++ wordsOf others
-unfolding lineAhead wordsOf those
+line-ends : (s : Scan) (others : List (List ℕ)) → s .value < 2 ^ 64 → inComment s ≡ false → lineAhead s (record { first = []; others = others }) ≡ begun s ++ lineWords others
+unfolding lineAhead lineWords filter
 line-ends s others h c = by-test (inNumber s) (λ n. rw (c, n) (rw (number-end (s .value) h))) (λ n. rw (c, n))
 
 line-over : (s : Scan) → s .value < 2 ^ 64 → lineAhead s (record { first = []; others = [] }) ≡ begun s
-unfolding lineAhead wordsOf those
+unfolding lineAhead lineWords filter
 line-over s h =
     by-test
     (inComment s)
@@ -98,7 +98,7 @@ line-over s h =
     (λ c. by-test (inNumber s) (λ n. rw (c, n) (rw (number-end (s .value) h))) (λ n. rw (c, n)))
 
 -- the words ahead of a reading that stands between numbers
-between : (q : Scan) (ps : Parts) → q .stands ≡ 0 → lineAhead q ps ≡ wordsOf (every ps)
+between : (q : Scan) (ps : Parts) → q .stands ≡ 0 → lineAhead q ps ≡ lineWords (every ps)
 unfolding lineAhead
 between q ps e = rw e
 
@@ -149,27 +149,27 @@ number-grows v (d ∷ ds) = omega (arith, number-grows (v * 10 + (d - 48)) ds)
 digit-on : (v b : ℕ) (f : List ℕ) → isDigit b ≡ true → wordAfter v (b ∷ f) ≡ wordAfter (v * 10 + (b - 48)) f
 unfolding wordAfter number allOf
 digit-on v b f d =
-    let j : before noDigit (b ∷ f) ≡ b ∷ before noDigit f = ap (λ (ps : Parts). ps .first) (joined noDigit b f (ap not d)) in
+    let j : textBefore noDigit (b ∷ f) ≡ b ∷ textBefore noDigit f = ap (λ (ps : Parts). ps .first) (joined noDigit b f (ap not d)) in
     rw (j, d)
 
 no-digit : (v b : ℕ) (f : List ℕ) → v < 2 ^ 64 → isDigit b ≡ false → wordAfter v (b ∷ f) ≡ wrong noNumber
 unfolding wordAfter number allOf
 no-digit v b f h d =
-    let j : before noDigit (b ∷ f) ≡ [] = ap (λ (ps : Parts). ps .first) (parted noDigit b f (ap not d)) in
+    let j : textBefore noDigit (b ∷ f) ≡ [] = ap (λ (ps : Parts). ps .first) (parted noDigit b f (ap not d)) in
     rw (j, d) (rw (lt-ltb v (2 ^ 64) h))
 
 too-large : (v : ℕ) (f : List ℕ) → 2 ^ 64 ≤ v → wordAfter v f ≡ wrong tooLarge
 unfolding wordAfter
-too-large v f h = rw (le-ltb (number v (before noDigit f)) (2 ^ 64) (omega (arith, number-grows v (before noDigit f))))
+too-large v f h = rw (le-ltb (number v (textBefore noDigit f)) (2 ^ 64) (omega (arith, number-grows v (textBefore noDigit f))))
 
 -- the words ahead where the next byte is one of a token
-token-ahead : (s : Scan) (b : ℕ) (t : List ℕ) → inComment s ≡ false → isNewline b ≡ false → isHash b ≡ false → isBlank b ≡ false → wordsAhead s (b ∷ t) ≡ placed (s .line) (wordAfter (valueBegun s) (b ∷ pieces (lines t .first) .first)) ∷ (placedAt (s .line) (wordsOf (pieces (lines t .first) .others)) ++ inLines (nextLine (s .line)) (lines t .others))
-unfolding wordsAhead lineAhead wordsOf those
+token-ahead : (s : Scan) (b : ℕ) (t : List ℕ) → inComment s ≡ false → isNewline b ≡ false → isHash b ≡ false → isBlank b ≡ false → wordsAhead s (b ∷ t) ≡ placed (s .line) (wordAfter (valueBegun s) (b ∷ pieces (lines t .first) .first)) ∷ (placedAt (s .line) (lineWords (pieces (lines t .first) .others)) ++ inLines (nextLine (s .line)) (lines t .others))
+unfolding wordsAhead lineAhead lineWords filter
 token-ahead s b t c n x k =
     rw (joined isNewline b t n) (rw (pieces-on b (lines t .first) x k, c) (by-test (inNumber s) (λ m. rw m) (λ m. rw m)))
 
 wrong-takes : (s : Scan) (ws : List ℕ) (b what : ℕ) (r : Scan) → s .more ≡ true → eqb what 0 ≡ false → inComment s ≡ false → isNewline b ≡ false → isHash b ≡ false → isBlank b ≡ false → ((f : List ℕ) → wordAfter (valueBegun s) (b ∷ f) ≡ wrong what) → Stopped s what r → Takes s ws (b ∷ []) r ws
-unfolding ahead kept told
+unfolding ahead keptWords told
 wrong-takes s ws b what r m w c n x k h e t =
     halts r ws (wordsAhead r t) (e .ended) ∙ e .hears ws ∙ sym (goes s ws (wordsAhead s (b ∷ t)) m ∙ rw (token-ahead s b t c n x k, h) (rw w))
 
@@ -216,7 +216,7 @@ digit-takes s ws b m c d t = rw (digit-ahead s b t c d) (rw m)
 -- ---- the whole
 
 pub from-start : (ws t : List ℕ) → ahead (at 0 0 1) ws t ≡ says (length ws) t
-unfolding ahead says follows kept wordsAhead inLines lineAhead wordsOf
+unfolding ahead says follows keptWords wordsAhead inLines lineAhead lineWords
 from-start ws t = refl
 
 at-end : (s : Scan) (ws : List ℕ) (r : Scan) (ws' : List ℕ) → s .value < 2 ^ 64 → Ended s ws 0 (s .line) r ws' → follows r ws' [] ≡ ahead s ws []
@@ -232,7 +232,7 @@ pub full-at-end : (s : Scan) (ws : List ℕ) (r : Scan) (ws' : List ℕ) → s .
 full-at-end s ws r ws' h e m = sym (halts r ws' [] m) ∙ at-end s ws r ws' h e
 
 pub kept-at-end : (s : Scan) (ws : List ℕ) (r : Scan) (ws' : List ℕ) (q : Scan) → s .value < 2 ^ 64 → Ended s ws 0 (s .line) r ws' → r .more ≡ true → Stopped r 0 q → heard q ws' ≡ ahead s ws []
-unfolding told kept
+unfolding told keptWords
 kept-at-end s ws r ws' q h e m x = x .hears ws' ∙ sym (goes r ws' [] m) ∙ at-end s ws r ws' h e
 
 -- ---- bytes after bytes

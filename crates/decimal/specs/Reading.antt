@@ -5,7 +5,7 @@ use mathlib.Core.List.{List, [], _∷_, _++_}
 use Prim.Native.Nat.{ℕ}
 use lib.ListN.{length, take}
 use lib.Dec.{eqb}
-use Rattle.decimal.specs.Text.{Parts, every, lines, pieces, Word, word, wordAfter, wordsOf, Placed, placedAt, nextLine, inLines, Said, words, fault, kept}
+use Rattle.decimal.specs.Text.{Parts, every, lines, pieces, Word, word, wordAfter, lineWords, LineWord, placedAt, nextLine, inLines, Said, words, fault, keptWords}
 use Rattle.decimal.specs.declared.Scan.{Scan}
 
 abbrev pub inNumber : Scan → Bool
@@ -27,8 +27,8 @@ unfoldable pub heard : Scan → List ℕ → Said
 heard s ws = told (s .wrong) (s .line) (take (s .count) ws)
 
 -- what it will have heard when these words follow
-unfoldable pub follows : Scan → List ℕ → List Placed → Said
-follows s ws rest = cond (s .more) (kept (length ws) (take (s .count) ws) rest) (heard s ws)
+unfoldable pub follows : Scan → List ℕ → List LineWord → Said
+follows s ws rest = cond (s .more) (keptWords (length ws) (take (s .count) ws) rest) (heard s ws)
 
 -- the words of the line that it stands in, from there on
 unfoldable pub lineAhead : Scan → Parts → List Word
@@ -36,9 +36,9 @@ lineAhead s ps =
     cond
     (inComment s)
     []
-    (cond (inNumber s) (wordAfter (s .value) (ps .first) ∷ wordsOf (ps .others)) (wordsOf (every ps)))
+    (cond (inNumber s) (wordAfter (s .value) (ps .first) ∷ lineWords (ps .others)) (lineWords (every ps)))
 
-unfoldable pub wordsAhead : Scan → List ℕ → List Placed
+unfoldable pub wordsAhead : Scan → List ℕ → List LineWord
 wordsAhead s t =
     placedAt (s .line) (lineAhead s (pieces (lines t .first))) ++ inLines (nextLine (s .line)) (lines t .others)
 
@@ -56,7 +56,7 @@ Takes s ws bytes r ws' = (t : List ℕ) → ahead r ws' t ≡ ahead s ws (bytes 
 
 -- a reading has kept the number begun, and if there was room stands so, in this line
 pub record Ended (s : Scan) (ws : List ℕ) (stands line : ℕ) (r : Scan) (ws' : List ℕ) : Type 0 where
-  pub goes-on : (rest : List Placed) → follows r ws' rest ≡ follows s ws (placedAt (s .line) (begun s) ++ rest)
+  pub goes-on : (rest : List LineWord) → follows r ws' rest ≡ follows s ws (placedAt (s .line) (begun s) ++ rest)
   pub stands-so : r .more ≡ true → r .stands ≡ stands
   pub line-so : r .more ≡ true → r .line ≡ line
 

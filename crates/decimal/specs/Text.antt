@@ -5,7 +5,7 @@ use mathlib.Core.List.{List, [], _∷_, _++_, map}
 use Prim.Native.Nat.{ℕ, _+_, _-_, _*_, _%_, _^_}
 use lib.ListN.{length}
 use lib.Dec.{eqb, ltb}
-use Rattle.lists.specs.Lists.{allOf, those, within}
+use Rattle.lists.specs.Lists.{allOf, filter, within}
 
 -- ---- bytes
 
@@ -49,12 +49,12 @@ abbrev pub lines : List ℕ → Parts
 lines t = parts isNewline t
 
 -- what stands before the first byte for which p holds
-abbrev pub before : (ℕ → Bool) → List ℕ → List ℕ
-before p t = parts p t .first
+abbrev pub textBefore : (ℕ → Bool) → List ℕ → List ℕ
+textBefore p t = parts p t .first
 
 -- what white space parts in a line, before '#'
 abbrev pub pieces : List ℕ → Parts
-pieces line = parts isBlank (before isHash line)
+pieces line = parts isBlank (textBefore isHash line)
 
 abbrev pub isToken : List ℕ → Bool
 isToken [] = false
@@ -85,18 +85,18 @@ pub data Word : Type 0 where
 -- the word that v and a token after it make: the digits that it begins with pass 64 bits, or another byte follows them, or it is a number
 unfoldable pub wordAfter : ℕ → List ℕ → Word
 wordAfter v t =
-    let n = number v (before noDigit t) in
+    let n = number v (textBefore noDigit t) in
     cond (ltb n (2 ^ 64)) (cond (allOf isDigit t) (word n) (wrong noNumber)) (wrong tooLarge)
 
 -- the words of a line's pieces
-unfoldable pub wordsOf : List (List ℕ) → List Word
-wordsOf ps = map (wordAfter 0) (those isToken ps)
+unfoldable pub lineWords : List (List ℕ) → List Word
+lineWords ps = map (wordAfter 0) (filter isToken ps)
 
 -- a word and its line
-pub data Placed : Type 0 where
-  placed : ℕ → Word → Placed
+pub data LineWord : Type 0 where
+  placed : ℕ → Word → LineWord
 
-abbrev pub placedAt : ℕ → List Word → List Placed
+abbrev pub placedAt : ℕ → List Word → List LineWord
 placedAt n ws = map (placed n) ws
 
 -- line numbers have 64 bits
@@ -104,9 +104,9 @@ abbrev pub nextLine : ℕ → ℕ
 nextLine n = (n + 1) % 2 ^ 64
 
 -- the words of lines that are numbered from n on
-unfoldable pub inLines : ℕ → List (List ℕ) → List Placed
+unfoldable pub inLines : ℕ → List (List ℕ) → List LineWord
 inLines n [] = []
-inLines n (l ∷ ls) = placedAt n (wordsOf (every (pieces l))) ++ inLines (nextLine n) ls
+inLines n (l ∷ ls) = placedAt n (lineWords (every (pieces l))) ++ inLines (nextLine n) ls
 
 -- the words that a text says, or what is wrong with it first, and in which line
 pub data Said : Type 0 where
@@ -114,12 +114,12 @@ pub data Said : Type 0 where
   fault : ℕ → ℕ → Said
 
 -- words put after those there are, while there is room
-unfoldable pub kept : ℕ → List ℕ → List Placed → Said
-kept room ws [] = words ws
-kept room ws (placed n (word v) ∷ rest) =
-    cond (ltb (length ws) room) (kept room (ws ++ (v ∷ [])) rest) (fault tooMany n)
-kept room ws (placed n (wrong what) ∷ rest) = fault what n
+unfoldable pub keptWords : ℕ → List ℕ → List LineWord → Said
+keptWords room ws [] = words ws
+keptWords room ws (placed n (word v) ∷ rest) =
+    cond (ltb (length ws) room) (keptWords room (ws ++ (v ∷ [])) rest) (fault tooMany n)
+keptWords room ws (placed n (wrong what) ∷ rest) = fault what n
 
 -- what a text says where there is room for so many words
 unfoldable pub says : ℕ → List ℕ → Said
-says room text = kept room [] (inLines 1 (every (lines text)))
+says room text = keptWords room [] (inLines 1 (every (lines text)))

@@ -9,7 +9,7 @@ use lib.ListN.{take, replicate}
 use Rattle.field.specs.Field.{𝔾, el, val}
 use Rattle.field.specs.Algebra.{product}
 use Rattle.bh.specs.Rows.{prevRow, order, lagrangeRow}
-use Rattle.lists.specs.Lists.{column, firstNo}
+use Rattle.lists.specs.Lists.{tabulate, firstNo}
 use Rattle.backend.specs.Questions.{q10, circuitQuestions, goodK}
 use Rattle.preprocessor.specs.Compose.{constraintCut, zCut, CutsAlike, composedWords}
 use Rattle.preprocessor.specs.Permutation.{label}
@@ -17,7 +17,7 @@ use Rattle.hyperplonk_spec.specs.Build.{checkBuild, buildOf, lentBuild}
 use Rattle.hyperplonk_spec.specs.RowSum.{checkSum, lentSum}
 use Rattle.hyperplonk_spec.specs.Stages.{mOf}
 use Rattle.field.specs.Prime.{P}
-use Rattle.field.specs.Parse.{Among, parsed, numberOf}
+use Rattle.field.specs.Parse.{Among, parsed, parsedNumber}
 use Rattle.expression.specs.Expr.{Expr}
 use Rattle.backend.specs.Circuit.{Circuit, Cell, circuitOf}
 use Rattle.examples.specs.Open.{everything}
@@ -83,11 +83,11 @@ no-counts = refl
 abbrev pub swapped : Circuit
 swapped = plainCircuit 2 none 2 [] ((cell 0 1 ∷ cell 1 2 ∷ []) ∷ [])
 
-pub labels-0 : column (label swapped 0) 4 ≡ four 0 6 2 3
+pub labels-0 : tabulate (label swapped 0) 4 ≡ four 0 6 2 3
 unfolding everything
 labels-0 = refl
 
-pub labels-1 : column (label swapped 1) 4 ≡ four 4 5 1 7
+pub labels-1 : tabulate (label swapped 1) 4 ≡ four 4 5 1 7
 unfolding everything
 labels-1 = refl
 
@@ -162,18 +162,18 @@ unfolding everything
 value-p = refl
 
 -- the number of `TooLarge` where the word p stands: among the words of a call, of the circuit, of a row sum
-pub value-p-told : checkBuild (lentBuild (single 1) [] (3 ∷ P ∷ []) (5 ∷ 7 ∷ []) (four 9 9 9 9) (replicate 200 9)) ≡ numberOf Among.callWords (parsed P)
+pub value-p-told : checkBuild (lentBuild (single 1) [] (3 ∷ P ∷ []) (5 ∷ 7 ∷ []) (four 9 9 9 9) (replicate 200 9)) ≡ parsedNumber Among.callWords (parsed P)
 unfolding everything
 value-p-told = refl
 
 pub preprocess-p-told : firstNo circuitQuestions
     (1 ∷ 0 ∷ 20 ∷ 0 ∷ 20 ∷ 1 ∷ 22 ∷ 1 ∷ 24 ∷ 0 ∷ 24 ∷ 0 ∷ 24 ∷ 0 ∷ 24 ∷ 0 ∷ 24 ∷ 1 ∷ 25 ∷ 1 ∷ P ∷ 0 ∷ 1 ∷ 0 ∷ 1 ∷ 0 ∷ 1 ∷ [])
-    ≡ numberOf Among.circuitWords (parsed P)
+    ≡ parsedNumber Among.circuitWords (parsed P)
 unfolding everything
 preprocess-p-told = refl
 
 pub summed-p-told : checkSum (lentSum (single 1) (3 ∷ P ∷ []) (four 0 0 0 0) (composedWords (circuitOf (single 1))) (5 ∷ 7 ∷ 2 ∷ []) (1 ∷ []))
-    ≡ numberOf Among.sumWords (parsed P)
+    ≡ parsedNumber Among.sumWords (parsed P)
 unfolding everything
 summed-p-told = refl
 

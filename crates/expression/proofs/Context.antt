@@ -5,12 +5,12 @@ use Prim.Native.Nat.{ℕ}
 use Rattle.field.specs.Field.{𝔾}
 use Rattle.expression.specs.Expr.{Expr, evaluate}
 use Rattle.expression.specs.Value.{valueAt}
-use Rattle.expression.specs.Reader.{Small}
-use Rattle.expression.specs.Point.{Placed, Ready, contextOf, environmentOf, opsOf}
+use Rattle.expression.specs.Reader.{LayoutSmall}
+use Rattle.expression.specs.Point.{PointInOrder, ContextReady, contextOf, environmentOf, opsOf}
 use Rattle.expression.specs.declared.poly.Layout.{Layout}
 use Rattle.expression.specs.declared.value.Point.{Point}
 
-pub ready-context : (l : Layout) (p : Point) → Small l → Placed p → Ready (contextOf l p)
+pub ready-context : (l : Layout) (p : Point) → LayoutSmall l → PointInOrder p → ContextReady (contextOf l p)
 ready-context l p s q = record { layout = s; point = q }
 
 -- what `node_value` ensures, with the context of a layout and a point

@@ -11,7 +11,7 @@ use Rattle.expression.specs.Expr.{Expr, Exprs}
 use Rattle.expression.specs.Nodes.{kindOf, nodeOf, noExpr, noExprs, exprOf, itemsOf}
 use Rattle.expression.specs.Read.{nodeAt}
 use Rattle.expression.specs.Flat.{body, sizes, extra, size}
-use Rattle.expression.specs.Written.{Pushed, Written, WrittenOne, WrittenPair, WrittenBase, WrittenList}
+use Rattle.expression.specs.Written.{Pushed, ExprWritten, WrittenOne, WrittenPair, WrittenBase, WrittenList}
 use Rattle.expression.proofs.Signed.{kept-signed}
 use Rattle.expression.proofs.Step.{under-yes, under-no, by-kind, low, lowItems, node-read, of-kind, items-last, items-more}
 use Rattle.expression.proofs.Written.{
@@ -32,31 +32,31 @@ use Rattle.expression.proofs.Written.{
 
 module _ (ws : List ℕ) (n : ℕ) (d : Node) (read : d ≡ nodeAt ws n) {from at next : ℕ} {b a : List ℕ} where
   -- ---- leaves
-  pub constant-copied : d .kind ≡ 1 → Pushed from at 1 0 0 (d .value) b a next → Written from (exprOf ws n) at b a next
+  pub constant-copied : d .kind ≡ 1 → Pushed from at 1 0 0 (d .value) b a next → ExprWritten from (exprOf ws n) at b a next
   unfolding kindOf nodeOf
   constant-copied k p = written-as (of-kind ws n d read 1 k) (written-constant p)
 
-  pub identity-copied : d .kind ≡ 2 → Pushed from at 2 0 0 0 b a next → Written from (exprOf ws n) at b a next
+  pub identity-copied : d .kind ≡ 2 → Pushed from at 2 0 0 0 b a next → ExprWritten from (exprOf ws n) at b a next
   unfolding kindOf nodeOf
   identity-copied k p = written-as (of-kind ws n d read 2 k) (written-identity p)
 
-  pub lagrange-copied : d .kind ≡ 3 → Pushed from at 3 0 0 (d .value) b a next → Written from (exprOf ws n) at b a next
+  pub lagrange-copied : d .kind ≡ 3 → Pushed from at 3 0 0 (d .value) b a next → ExprWritten from (exprOf ws n) at b a next
   unfolding kindOf nodeOf
   lagrange-copied k p =
       written-as (of-kind ws n d read 3 k)
       (written-lagrange (subst (λ (v : ℕ). Pushed from at 3 0 0 v b a next) (sym (kept-signed (d .value))) p))
 
-  pub eq-xy-copied : d .kind ≡ 4 → Pushed from at 4 0 0 (d .value) b a next → Written from (exprOf ws n) at b a next
+  pub eq-xy-copied : d .kind ≡ 4 → Pushed from at 4 0 0 (d .value) b a next → ExprWritten from (exprOf ws n) at b a next
   unfolding kindOf nodeOf
   eq-xy-copied k p = written-as (of-kind ws n d read 4 k) (written-eq-xy p)
 
-  pub poly-copied : d .kind ≡ 5 → Pushed from at 5 (d .first) 0 (d .value) b a next → Written from (exprOf ws n) at b a next
+  pub poly-copied : d .kind ≡ 5 → Pushed from at 5 (d .first) 0 (d .value) b a next → ExprWritten from (exprOf ws n) at b a next
   unfolding kindOf nodeOf
   poly-copied k p =
       written-as (of-kind ws n d read 5 k)
       (written-poly (subst (λ (v : ℕ). Pushed from at 5 (d .first) 0 v b a next) (sym (kept-signed (d .value))) p))
 
-  pub challenge-copied : d .kind ≡ 6 → Pushed from at 6 (d .first) 0 0 b a next → Written from (exprOf ws n) at b a next
+  pub challenge-copied : d .kind ≡ 6 → Pushed from at 6 (d .first) 0 0 b a next → ExprWritten from (exprOf ws n) at b a next
   unfolding kindOf nodeOf
   challenge-copied k p = written-as (of-kind ws n d read 6 k) (written-challenge p)
 
@@ -69,7 +69,7 @@ module _ (ws : List ℕ) (n : ℕ) (d : Node) (read : d ≡ nodeAt ws n) {from a
       → (d .kind ≡ 10 → ⊥)
       → (d .kind ≡ 11 → ⊥)
       → Pushed from at 1 0 0 0 b a next
-      → Written from (exprOf ws n) at b a next
+      → ExprWritten from (exprOf ws n) at b a next
   other-copied h1 h2 h3 h4 h5 h6 h7 h8 h9 h10 h11 p =
       written-as
       (node-read ws n d read
@@ -88,32 +88,32 @@ module _ (ws : List ℕ) (n : ℕ) (d : Node) (read : d ≡ nodeAt ws n) {from a
       (written-constant p)
 
   -- ---- parts
-  pub negated-copied : d .kind ≡ 7 → WrittenOne from 7 (low ws n (d .first)) 0 at b a next → Written from (exprOf ws n) at b a next
+  pub negated-copied : d .kind ≡ 7 → WrittenOne from 7 (low ws n (d .first)) 0 at b a next → ExprWritten from (exprOf ws n) at b a next
   unfolding kindOf nodeOf
   negated-copied k w =
       written-as (of-kind ws n d read 7 k) (one-negated w)
 
   pub sum-copied : d .kind ≡ 8 → WrittenPair from 8 (low ws n (d .first)) (low ws n (d .second)) at b a next
-      → Written from (exprOf ws n) at b a next
+      → ExprWritten from (exprOf ws n) at b a next
   unfolding kindOf nodeOf
   sum-copied k w =
       written-as (of-kind ws n d read 8 k) (pair-sum w)
 
   pub product-copied : d .kind ≡ 9 → WrittenPair from 9 (low ws n (d .first)) (low ws n (d .second)) at b a next
-      → Written from (exprOf ws n) at b a next
+      → ExprWritten from (exprOf ws n) at b a next
   unfolding kindOf nodeOf
   product-copied k w =
       written-as (of-kind ws n d read 9 k)
       (pair-product w)
 
   pub scaled-copied : d .kind ≡ 10 → WrittenOne from 10 (low ws n (d .first)) (d .value) at b a next
-      → Written from (exprOf ws n) at b a next
+      → ExprWritten from (exprOf ws n) at b a next
   unfolding kindOf nodeOf
   scaled-copied k w =
       written-as (of-kind ws n d read 10 k) (one-scaled w)
 
-  pub powers-copied : d .kind ≡ 11 → Written from (Expr.powers (lowItems ws n (d .second)) (low ws n (d .first))) at b a next
-      → Written from (exprOf ws n) at b a next
+  pub powers-copied : d .kind ≡ 11 → ExprWritten from (Expr.powers (lowItems ws n (d .second)) (low ws n (d .first))) at b a next
+      → ExprWritten from (exprOf ws n) at b a next
   unfolding kindOf nodeOf
   powers-copied k w =
       written-as (of-kind ws n d read 11 k) w
@@ -150,10 +150,10 @@ module _ (ws : List ℕ) (n a c : ℕ) (same : c ≡ a) where
   pub low-size : c < n → size (low ws n a) ≡ size (exprOf ws c)
   low-size h = ap size (low-is h)
 
-  pub low-copied : {from at next : ℕ} {d d1 : List ℕ} → c < n → Written from (exprOf ws c) at d d1 next → Written from (low ws n a) at d d1 next
+  pub low-copied : {from at next : ℕ} {d d1 : List ℕ} → c < n → ExprWritten from (exprOf ws c) at d d1 next → ExprWritten from (low ws n a) at d d1 next
   low-copied {from} {at} {next} {d} {d1} h w = written-as (low-is h) w
 
-  pub none-copied : {from at next : ℕ} {d d1 : List ℕ} → n ≤ c → Pushed from at 1 0 0 0 d d1 next → Written from (low ws n a) at d d1 next
+  pub none-copied : {from at next : ℕ} {d d1 : List ℕ} → n ≤ c → Pushed from at 1 0 0 0 d d1 next → ExprWritten from (low ws n a) at d d1 next
   none-copied {from} {at} {next} {d} {d1} h p =
       written-as (ap (low ws n) (sym same) ∙ under-no n noExpr (exprOf ws) c h) (written-constant p)
 
@@ -198,14 +198,14 @@ module _ (ws : List ℕ) (bound item i : ℕ) (same : i ≡ item) where
         by false z = omega (arith, more-size (eqb-false (d .value) 0 z) .0)
 
     pub list-last-copied : {b : Expr} {from at x next base : ℕ} {u v w : List ℕ} → d .value ≡ 0
-        → Written from (low ws i (d .first)) at u v x
+        → ExprWritten from (low ws i (d .first)) at u v x
         → WrittenBase from b x v w next base
         → WrittenList from (lowItems ws bound item) b at u w next base
     list-last-copied {b} {from} {at} {x} {next} {base} {u} {v} {w} z p q =
         subst (λ (es : Exprs). WrittenList from es b at u w next base) (sym (here ∙ items-last ws i d read z)) (list-last p q)
 
     pub list-more-copied : {b : Expr} {from at x y next base : ℕ} {s u v w : List ℕ} → (d .value ≡ 0 → ⊥)
-        → Written from (low ws i (d .first)) at s u x
+        → ExprWritten from (low ws i (d .first)) at s u x
         → WrittenList from (lowItems ws i (d .second)) b x u v y base
         → Pushed from y 12 (x - 1) (y - 1) 1 v w next
         → WrittenList from (lowItems ws bound item) b at s w next base

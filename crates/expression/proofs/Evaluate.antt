@@ -7,7 +7,7 @@ use Prim.Native.Nat.{ℕ}
 use lib.IntN.{ℤ}
 use Rattle.lists.specs.Lists.{All}
 use Rattle.lists.proofs.All.{all-join}
-use Rattle.expression.specs.Expr.{Expr, Exprs, Ops, running, evaluate, spread, values, collectOps}
+use Rattle.expression.specs.Expr.{Expr, Exprs, Ops, running, evaluate, powersFirst, values, collectOps}
 use Rattle.expression.specs.Within.{Scope, Within, WithinAll}
 use Rattle.expression.proofs.Within.{anything, within-anything}
 
@@ -62,7 +62,7 @@ module _ {A B : Type 0} (S : Scope) (o : Ops A) (q : Ops B) (R : A → B → Typ
       evaluate-related (Expr.scaled a v) h = m .scalings (evaluate o a) (evaluate q a) v (evaluate-related a h)
       evaluate-related (Expr.powers es b) h = spread-related es (evaluate o b) (evaluate q b) (evaluate-related b (h .1)) (h .0)
 
-      spread-related : (es : Exprs) (x : A) (y : B) → R x y → WithinAll S es → R (spread o x es) (spread q y es)
+      spread-related : (es : Exprs) (x : A) (y : B) → R x y → WithinAll S es → R (powersFirst o x es) (powersFirst q y es)
       spread-related (Exprs.last e) x y r h = evaluate-related e h
       spread-related (Exprs.more e es) x y r h =
           running-related x x (evaluate o e) y y (evaluate q e) (values o es) (values q es) r r (evaluate-related e (h .0))

@@ -8,7 +8,7 @@ use lib.ListN.{length, getD, length-append}
 use Rattle.field.specs.Algebra.{Field}
 use Rattle.bh.specs.Rows.{rotated}
 use Rattle.bh.proofs.Turn.{rotated-lt}
-use Rattle.lists.specs.Lists.{column}
+use Rattle.lists.specs.Lists.{tabulate}
 use Rattle.lists.proofs.Lists.{get-left, get-past, get-none}
 use Rattle.lists.proofs.Columns.{get-column, column-length}
 use Rattle.expression.specs.Expr.{Expr}
@@ -48,7 +48,7 @@ module _ (𝓕 : Field) where
             ∙ sym (ap (λ (p : ℕ → F). p b) (get-past qs qs' i (i - length ps) (λ r. nil) (omega arith)))
 
     pub same-column : (f : ℕ → ℕ → F) (n : ℕ) (qs : List (ℕ → F)) → n ≡ length qs
-        → ((i : ℕ) → i < n → (b : ℕ) → b < rows → f i b ≡ polyOf 𝓕 qs i b) → Same rows (column f n) qs
+        → ((i : ℕ) → i < n → (b : ℕ) → b < rows → f i b ≡ polyOf 𝓕 qs i b) → Same rows (tabulate f n) qs
     same-column f n qs e h =
         record {
           many = column-length f n ∙ e;

@@ -21,7 +21,7 @@ use Rattle.bh.proofs.Order.{walk-undo, back-walk-lt, row-nought, row-suc, next-
 use Rattle.bh.proofs.Words.{shifted}
 use Rattle.bh.proofs.Place.{row-place, place-row}
 use Rattle.expression.specs.Expr.{sameℤ}
-use Rattle.expression.specs.Nodes.{signed, kept}
+use Rattle.expression.specs.Nodes.{decodeSigned, encodeSigned}
 
 -- ---- a distance as a signed number
 
@@ -53,20 +53,20 @@ module _ (d : ℕ) (h : d < 2 ^ 31) where
 
 -- ---- the number that a word keeps
 
-pub signed-back : (w : ℕ) → w < 2147483648 → signed w ≡ negℤ (pos (2147483648 - w))
+pub signed-back : (w : ℕ) → w < 2147483648 → decodeSigned w ≡ negℤ (pos (2147483648 - w))
 signed-back w h =
     ap (λ (t : Bool). cond t (negsuc (2147483648 - suc w)) (pos (w - 2147483648))) (lt-ltb w 2147483648 h)
     ∙ sym (ap (λ (n : ℕ). negℤ (pos n)) (let e : 2147483648 - w ≡ suc (2147483648 - suc w) = omega arith in e))
 
-pub signed-on : (w : ℕ) → 2147483648 ≤ w → signed w ≡ pos (w - 2147483648)
+pub signed-on : (w : ℕ) → 2147483648 ≤ w → decodeSigned w ≡ pos (w - 2147483648)
 signed-on w h =
     ap (λ (t : Bool). cond t (negsuc (2147483648 - suc w)) (pos (w - 2147483648))) (le-ltb w 2147483648 h)
 
 -- a word read as a signed number is kept as that word
-pub kept-signed : (w : ℕ) → kept (signed w) ≡ w
+pub kept-signed : (w : ℕ) → encodeSigned (decodeSigned w) ≡ w
 kept-signed w = by (ltb w 2147483648) refl
   where
-    by : (t : Bool) → ltb w 2147483648 ≡ t → kept (cond t (negsuc (2147483648 - suc w)) (pos (w - 2147483648))) ≡ w
+    by : (t : Bool) → ltb w 2147483648 ≡ t → encodeSigned (cond t (negsuc (2147483648 - suc w)) (pos (w - 2147483648))) ≡ w
     by true h = omega (arith, ltb-true w 2147483648 h)
     by false h = omega (arith, ltb-false w 2147483648 h)
 
@@ -82,26 +82,26 @@ module _ (z : ℤ) (fits : SFits w32 z) where
   wide : wider ≡ z
   wide = toZ-ofZ {w = w64} widens ∙ toZ-ofZ {w = w32} fits
 
-  plus-is : (y : ℤ) → SFits w32 y → y +ℤ pos 2147483648 ≡ pos (kept y)
+  plus-is : (y : ℤ) → SFits w32 y → y +ℤ pos 2147483648 ≡ pos (encodeSigned y)
   plus-is (pos n) f = refl
   plus-is (negsuc n) f =
       ap (λ (t : Bool). cond t (negsuc (suc n - suc 2147483648)) (pos (2147483648 - suc n)))
       (le-ltb 2147483648 (suc n) (let g = f .sfits in omega arith))
 
-  sum-is : wider +ℤ pos 2147483648 ≡ pos (kept z)
+  sum-is : wider +ℤ pos 2147483648 ≡ pos (encodeSigned z)
   sum-is = ap (λ (y : ℤ). y +ℤ pos 2147483648) wide ∙ plus-is z fits
 
-  kept-small : (y : ℤ) → SFits w32 y → kept y < 2 ^ 32
+  kept-small : (y : ℤ) → SFits w32 y → encodeSigned y < 2 ^ 32
   kept-small (pos n) f = let g = f .sfits in omega arith
   kept-small (negsuc n) f = omega arith
 
-  kept-fits : SFits w64 (pos (kept z))
+  kept-fits : SFits w64 (pos (encodeSigned z))
   kept-fits = record { sfits = let g = kept-small z fits in omega arith }
 
   pub sum-fits : SFits w64 (wider +ℤ pos 2147483648)
   sum-fits = subst⁻¹ (SFits w64) sum-is kept-fits
 
-  sum-read : toZ w64 (ofZ w64 (wider +ℤ pos 2147483648)) ≡ pos (kept z)
+  sum-read : toZ w64 (ofZ w64 (wider +ℤ pos 2147483648)) ≡ pos (encodeSigned z)
   sum-read = toZ-ofZ {w = w64} sum-fits ∙ sum-is
 
   Casts : ℤ → Type 0
@@ -111,33 +111,33 @@ module _ (z : ℤ) (fits : SFits w32 z) where
   unfolding Casts
   sum-casts = subst⁻¹ Casts sum-read (tt, record { fits = let g = kept-small z fits in omega arith })
 
-  pub kept-is : natAbs (toZ w64 (ofZ w64 (wider +ℤ pos 2147483648))) ≡ kept z
+  pub kept-is : natAbs (toZ w64 (ofZ w64 (wider +ℤ pos 2147483648))) ≡ encodeSigned z
   kept-is = ap natAbs sum-read
 
-  signed-of : (y : ℤ) → SFits w32 y → signed (kept y) ≡ y
+  signed-of : (y : ℤ) → SFits w32 y → decodeSigned (encodeSigned y) ≡ y
   signed-of (pos n) f = signed-on (n + 2147483648) (omega arith) ∙ ap pos (let e : n + 2147483648 - 2147483648 ≡ n = omega arith in e)
   signed-of (negsuc n) f =
       let g = f .sfits in
       signed-back (2147483648 - suc n) (omega arith)
       ∙ ap (λ (x : ℕ). negℤ (pos x)) (let e : 2147483648 - (2147483648 - suc n) ≡ suc n = omega arith in e)
 
-  pub signed-kept : signed (kept z) ≡ z
+  pub signed-kept : decodeSigned (encodeSigned z) ≡ z
   signed-kept = signed-of z fits
 
 -- two words keep one number only if they are one word
-pub signed-same : (v w : ℕ) → sameℤ (signed v) (signed w) ≡ eqb v w
+pub signed-same : (v w : ℕ) → sameℤ (decodeSigned v) (decodeSigned w) ≡ eqb v w
 signed-same v w = go (decLt v 2147483648) (decLt w 2147483648)
   where
     equal : (a b c d : ℕ) → (a ≡ b → c ≡ d) → (c ≡ d → a ≡ b) → eqb a b ≡ eqb c d
     equal a b c d f g = by-test (eqb c d) (λ t. eq-eqb a b (g (eqb-true c d t)) ∙ sym t) (λ t. ne-eqb a b (λ e. eqb-false c d t (f e)) ∙ sym t)
 
-    back : (u : ℕ) → u < 2147483648 → signed u ≡ negsuc (2147483648 - suc u)
+    back : (u : ℕ) → u < 2147483648 → decodeSigned u ≡ negsuc (2147483648 - suc u)
     back u h = ap (λ (t : Bool). cond t (negsuc (2147483648 - suc u)) (pos (u - 2147483648))) (lt-ltb u 2147483648 h)
 
     apart : v ≢ w → false ≡ eqb v w
     apart n = sym (ne-eqb v w n)
 
-    go : Dec (v < 2147483648) → Dec (w < 2147483648) → sameℤ (signed v) (signed w) ≡ eqb v w
+    go : Dec (v < 2147483648) → Dec (w < 2147483648) → sameℤ (decodeSigned v) (decodeSigned w) ≡ eqb v w
     go (yes h) (yes g) =
         ap₂ sameℤ (back v h) (back w g)
         ∙ equal (2147483648 - suc v) (2147483648 - suc w) v w (λ e. omega arith) (λ e. ap (λ (x : ℕ). 2147483648 - suc x) e)
@@ -213,7 +213,7 @@ module _ (k : ℕ) (h : 0 < k) (l : k < 21) where
 
   -- a distance that has the same remainder as a word's leads to the row that the word's number leads to
   pub keeps-on : (w d : ℕ) (z : ℤ) → 2147483648 ≤ w → d % (2 ^ k - 1) ≡ (w - 2147483648) % (2 ^ k - 1) → z ≡ pos d → (b : ℕ) → b < 2 ^ k
-      → rotated k b z ≡ rotated k b (signed w)
+      → rotated k b z ≡ rotated k b (decodeSigned w)
   keeps-on w d z g e f b m =
       ap (rotated k b) f ∙ rotated-on d b ∙ sym (on-round d b m) ∙ ap (λ (x : ℕ). iter (nextRow k) x b) e
       ∙ on-round (w - 2147483648) b m
@@ -222,7 +222,7 @@ module _ (k : ℕ) (h : 0 < k) (l : k < 21) where
 
   pub keeps-back : (w d : ℕ) (z : ℤ) → w < 2147483648 → d % (2 ^ k - 1) ≡ (2147483648 - w) % (2 ^ k - 1) → z ≡ negℤ (pos d) → (b : ℕ)
       → b < 2 ^ k
-      → rotated k b z ≡ rotated k b (signed w)
+      → rotated k b z ≡ rotated k b (decodeSigned w)
   keeps-back w d z g e f b m =
       ap (rotated k b) f ∙ rotated-back d b ∙ sym (back-round d b m) ∙ ap (λ (x : ℕ). iter (prevRow k) x b) e
       ∙ back-round (2147483648 - w) b m
@@ -242,16 +242,16 @@ module _ (k : ℕ) (h : 0 < k) (l : k < 21) where
   abs-back (suc n) = refl
 
   pub number-on : (w d : ℕ) (z : ℤ) → 2147483648 ≤ w → (w - 2147483648 ≤ 2 ^ k - 1 → d ≡ w - 2147483648) → z ≡ pos d
-      → natAbs (signed w) ≤ k
-      → z ≡ signed w
+      → natAbs (decodeSigned w) ≤ k
+      → z ≡ decodeSigned w
   number-on w d z g e f m =
       let n = subst (λ (y : ℤ). natAbs y ≤ k) (signed-on w g) m in
       let o = once-round k in
       f ∙ ap pos (e (omega arith)) ∙ sym (signed-on w g)
 
   pub number-back : (w d : ℕ) (z : ℤ) → w < 2147483648 → (2147483648 - w ≤ 2 ^ k - 1 → d ≡ 2147483648 - w) → z ≡ negℤ (pos d)
-      → natAbs (signed w) ≤ k
-      → z ≡ signed w
+      → natAbs (decodeSigned w) ≤ k
+      → z ≡ decodeSigned w
   number-back w d z g e f m =
       let n = subst (λ (y : ℤ). natAbs y ≤ k) (signed-back w g) m in
       let a = abs-back (2147483648 - w) in
@@ -282,11 +282,11 @@ module _ (k : ℕ) (l : k < 21) where
       let y : w ≡ N - suc r + B * N = omega arith in
       sym (ap (λ (a : ℕ). a % N) y ∙ add-mul-mod-self-right (N - suc r) B N ∙ mod-eq-of-lt (let z : N - suc r < N = omega arith in z))
 
-  pub mod-signed : (w : ℕ) → modZ (signed w) (2 ^ k) ≡ w % 2 ^ k
+  pub mod-signed : (w : ℕ) → modZ (decodeSigned w) (2 ^ k) ≡ w % 2 ^ k
   unfolding modZ
   mod-signed w = go (decLt w 2147483648)
     where
-      go : Dec (w < 2147483648) → modZ (signed w) (2 ^ k) ≡ w % 2 ^ k
+      go : Dec (w < 2147483648) → modZ (decodeSigned w) (2 ^ k) ≡ w % 2 ^ k
       go (yes h) =
           ap (λ (z : ℤ). modZ z (2 ^ k))
           (ap (λ (t : Bool). cond t (negsuc (2147483648 - suc w)) (pos (w - 2147483648))) (lt-ltb w 2147483648 h))
@@ -300,16 +300,16 @@ module _ (k : ℕ) (l : k < 21) where
           z)
 
 module _ (k : ℕ) (h : 0 < k) (l : k < 21) (row place w : ℕ) (m : row < 2 ^ k) (e : place ≡ placeOf k row) where
-  pub lagrange-here : w % 2 ^ k ≡ place → eqb row (lagrangeRow k (signed w)) ≡ true
+  pub lagrange-here : w % 2 ^ k ≡ place → eqb row (lagrangeRow k (decodeSigned w)) ≡ true
   unfolding lagrangeRow
   lagrange-here p =
-      eq-eqb row (rowAt k (modZ (signed w) (2 ^ k)))
+      eq-eqb row (rowAt k (modZ (decodeSigned w) (2 ^ k)))
       (sym (row-place k h l row m) ∙ ap (rowAt k) (sym e ∙ sym p ∙ sym (mod-signed k l w)))
 
-  pub lagrange-away : (w % 2 ^ k ≡ place → ⊥) → eqb row (lagrangeRow k (signed w)) ≡ false
+  pub lagrange-away : (w % 2 ^ k ≡ place → ⊥) → eqb row (lagrangeRow k (decodeSigned w)) ≡ false
   unfolding lagrangeRow
   lagrange-away p =
-      ne-eqb row (rowAt k (modZ (signed w) (2 ^ k)))
+      ne-eqb row (rowAt k (modZ (decodeSigned w) (2 ^ k)))
       (λ q.
       p
       (sym (place-row k h l (w % 2 ^ k) (mod-lt w (pow-pos k)))

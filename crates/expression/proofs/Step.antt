@@ -11,7 +11,7 @@ use Rattle.expression.specs.Read.{nodeAt}
 use Rattle.expression.specs.Nodes.{
   Kind,
   wordOf,
-  signed,
+  decodeSigned,
   kindOf,
   nodeOf,
   itemOf,
@@ -37,9 +37,9 @@ module _ (P : Expr → Type 0) (e : ℕ → Expr) (i : ℕ → Exprs) (a b v : �
   pub by-kind : (k : ℕ)
       → (k ≡ 1 → P (Expr.constant v))
       → (k ≡ 2 → P (Expr.identity))
-      → (k ≡ 3 → P (Expr.lagrange (signed v)))
+      → (k ≡ 3 → P (Expr.lagrange (decodeSigned v)))
       → (k ≡ 4 → P (Expr.eqXY v))
-      → (k ≡ 5 → P (Expr.poly a (signed v)))
+      → (k ≡ 5 → P (Expr.poly a (decodeSigned v)))
       → (k ≡ 6 → P (Expr.challenge a))
       → (k ≡ 7 → P (Expr.negated (e a)))
       → (k ≡ 8 → P (Expr.sum (e a) (e b)))

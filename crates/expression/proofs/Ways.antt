@@ -4,8 +4,8 @@ use mathlib.Core.Path.{_≡_, refl, sym, ap, ap₂, _∙_}
 use mathlib.Core.List.{List}
 use Prim.Native.Nat.{ℕ, _+_, _*_, _≤_, _<_}
 use Rattle.expression.specs.declared.node.Node.{Node}
-use Rattle.expression.specs.Expr.{Expr, Exprs, Ops, evaluate, spread, values, running, rest}
-use Rattle.expression.specs.Nodes.{signed, nodeOf, kindOf, under, noExpr, noExprs, exprOf, itemsOf}
+use Rattle.expression.specs.Expr.{Expr, Exprs, Ops, evaluate, powersFirst, values, running, powersRest}
+use Rattle.expression.specs.Nodes.{decodeSigned, nodeOf, kindOf, under, noExpr, noExprs, exprOf, itemsOf}
 use Rattle.expression.specs.Read.{nodeAt}
 use Rattle.expression.proofs.Step.{under-yes, under-no, by-kind, low, lowItems, node-read, of-kind, items-last, items-more}
 
@@ -28,7 +28,7 @@ module _ {T : Type 0} (o : Ops T) (ws : List ℕ) (n : ℕ) (d : Node) (read : d
   unfolding nodeOf kindOf evaluate
   met-identity k = sym (ap (evaluate o) (of-kind ws n d read 2 k))
 
-  pub met-lagrange : d .kind ≡ 3 → o .lagrangeOp (signed (d .value)) ≡ evaluate o (exprOf ws n)
+  pub met-lagrange : d .kind ≡ 3 → o .lagrangeOp (decodeSigned (d .value)) ≡ evaluate o (exprOf ws n)
   unfolding nodeOf kindOf evaluate
   met-lagrange k = sym (ap (evaluate o) (of-kind ws n d read 3 k))
 
@@ -36,7 +36,7 @@ module _ {T : Type 0} (o : Ops T) (ws : List ℕ) (n : ℕ) (d : Node) (read : d
   unfolding nodeOf kindOf evaluate
   met-eqXY k = sym (ap (evaluate o) (of-kind ws n d read 4 k))
 
-  pub met-poly : d .kind ≡ 5 → o .polyOp (d .first) (signed (d .value)) ≡ evaluate o (exprOf ws n)
+  pub met-poly : d .kind ≡ 5 → o .polyOp (d .first) (decodeSigned (d .value)) ≡ evaluate o (exprOf ws n)
   unfolding nodeOf kindOf evaluate
   met-poly k = sym (ap (evaluate o) (of-kind ws n d read 5 k))
 
@@ -62,77 +62,77 @@ module _ {T : Type 0} (o : Ops T) (ws : List ℕ) (n : ℕ) (d : Node) (read : d
     unfolding nodeOf kindOf evaluate
     met-scaled k = ap (λ (z : T). o .scaledOp z (d .value)) hx ∙ sym (ap (evaluate o) (of-kind ws n d read 10 k))
 
-  powers-is : d .kind ≡ 11 → evaluate o (exprOf ws n) ≡ spread o (evaluate o (low ws n (d .first))) (lowItems ws n (d .second))
+  powers-is : d .kind ≡ 11 → evaluate o (exprOf ws n) ≡ powersFirst o (evaluate o (low ws n (d .first))) (lowItems ws n (d .second))
   unfolding nodeOf kindOf evaluate
   powers-is k = ap (evaluate o) (of-kind ws n d read 11 k)
 
   -- the Item that the node names is b
   module _ (b : ℕ) (q : b ≡ d .second) where
     pub met-powers : (x : T) → x ≡ evaluate o (low ws n (d .first)) → (y : T) → d .kind ≡ 11 → b < n
-        → y ≡ spread o x (itemsOf ws b)
+        → y ≡ powersFirst o x (itemsOf ws b)
         → y ≡ evaluate o (exprOf ws n)
     met-powers x hx y k lt hy =
-        hy ∙ ap₂ (spread o) hx (sym (under-yes n noExprs (itemsOf ws) b lt) ∙ ap (lowItems ws n) q) ∙ sym (powers-is k)
+        hy ∙ ap₂ (powersFirst o) hx (sym (under-yes n noExprs (itemsOf ws) b lt) ∙ ap (lowItems ws n) q) ∙ sym (powers-is k)
 
     pub met-no-powers : d .kind ≡ 11 → n ≤ b → o .constantOp 0 ≡ evaluate o (exprOf ws n)
     unfolding evaluate
     met-no-powers k le =
-        sym (ap (spread o (evaluate o (low ws n (d .first)))) (under-no n noExprs (itemsOf ws) b le))
-        ∙ ap (λ (c : ℕ). spread o (evaluate o (low ws n (d .first))) (lowItems ws n c)) q
+        sym (ap (powersFirst o (evaluate o (low ws n (d .first)))) (under-no n noExprs (itemsOf ws) b le))
+        ∙ ap (λ (c : ℕ). powersFirst o (evaluate o (low ws n (d .first))) (lowItems ws n c)) q
         ∙ sym (powers-is k)
 
   module _ (base x : T) (hx : x ≡ evaluate o (low ws n (d .first))) where
-    pub met-last : d .value ≡ 0 → x ≡ spread o base (itemsOf ws n)
-    unfolding spread
-    met-last z = hx ∙ sym (ap (spread o base) (items-last ws n d read z))
+    pub met-last : d .value ≡ 0 → x ≡ powersFirst o base (itemsOf ws n)
+    unfolding powersFirst
+    met-last z = hx ∙ sym (ap (powersFirst o base) (items-last ws n d read z))
 
     module _ (z : d .value ≡ 0 → ⊥) (b : ℕ) (q : b ≡ d .second) where
-      more-is : spread o base (itemsOf ws n) ≡ rest o base base x (lowItems ws n (d .second))
-      unfolding spread
+      more-is : powersFirst o base (itemsOf ws n) ≡ powersRest o base base x (lowItems ws n (d .second))
+      unfolding powersFirst
       more-is =
-          ap (spread o base) (items-more ws n d read z)
-          ∙ ap (λ (a : T). rest o base base a (lowItems ws n (d .second))) (sym hx)
+          ap (powersFirst o base) (items-more ws n d read z)
+          ∙ ap (λ (a : T). powersRest o base base a (lowItems ws n (d .second))) (sym hx)
 
-      pub met-more : (y : T) → b < n → y ≡ rest o base base x (itemsOf ws b) → y ≡ spread o base (itemsOf ws n)
+      pub met-more : (y : T) → b < n → y ≡ powersRest o base base x (itemsOf ws b) → y ≡ powersFirst o base (itemsOf ws n)
       met-more y lt hy =
-          hy ∙ ap (rest o base base x) (sym (under-yes n noExprs (itemsOf ws) b lt) ∙ ap (lowItems ws n) q) ∙ sym more-is
+          hy ∙ ap (powersRest o base base x) (sym (under-yes n noExprs (itemsOf ws) b lt) ∙ ap (lowItems ws n) q) ∙ sym more-is
 
-      pub met-no-more : n ≤ b → o .sumOp x (o .productOp base (o .constantOp 0)) ≡ spread o base (itemsOf ws n)
+      pub met-no-more : n ≤ b → o .sumOp x (o .productOp base (o .constantOp 0)) ≡ powersFirst o base (itemsOf ws n)
       unfolding values running evaluate
       met-no-more le =
-          sym (ap (rest o base base x) (under-no n noExprs (itemsOf ws) b le))
-          ∙ ap (λ (c : ℕ). rest o base base x (lowItems ws n c)) q
+          sym (ap (powersRest o base base x) (under-no n noExprs (itemsOf ws) b le))
+          ∙ ap (λ (c : ℕ). powersRest o base base x (lowItems ws n c)) q
           ∙ sym more-is
 
   module _ (base power acc x u : T) (hx : x ≡ evaluate o (low ws n (d .first))) (hu : u ≡ o .sumOp acc (o .productOp power x)) where
     so-far : o .sumOp acc (o .productOp power (evaluate o (low ws n (d .first)))) ≡ u
     so-far = ap (λ (a : T). o .sumOp acc (o .productOp power a)) (sym hx) ∙ sym hu
 
-    pub met-rest-last : d .value ≡ 0 → u ≡ rest o base power acc (itemsOf ws n)
+    pub met-rest-last : d .value ≡ 0 → u ≡ powersRest o base power acc (itemsOf ws n)
     unfolding values running
-    met-rest-last z = sym (ap (rest o base power acc) (items-last ws n d read z) ∙ so-far)
+    met-rest-last z = sym (ap (powersRest o base power acc) (items-last ws n d read z) ∙ so-far)
 
     module _ (z : d .value ≡ 0 → ⊥) (b : ℕ) (q : b ≡ d .second) (p : T) (hp : p ≡ o .productOp power base) where
-      rest-is : rest o base power acc (itemsOf ws n) ≡ rest o base p u (lowItems ws n (d .second))
+      rest-is : powersRest o base power acc (itemsOf ws n) ≡ powersRest o base p u (lowItems ws n (d .second))
       unfolding values running
       rest-is =
-          ap (rest o base power acc) (items-more ws n d read z)
+          ap (powersRest o base power acc) (items-more ws n d read z)
           ∙ ap₂ (λ (a e : T). running o base a e (values o (lowItems ws n (d .second)))) (sym hp) so-far
 
-      pub met-rest-more : (y : T) → b < n → y ≡ rest o base p u (itemsOf ws b) → y ≡ rest o base power acc (itemsOf ws n)
+      pub met-rest-more : (y : T) → b < n → y ≡ powersRest o base p u (itemsOf ws b) → y ≡ powersRest o base power acc (itemsOf ws n)
       met-rest-more y lt hy =
-          hy ∙ ap (rest o base p u) (sym (under-yes n noExprs (itemsOf ws) b lt) ∙ ap (lowItems ws n) q) ∙ sym rest-is
+          hy ∙ ap (powersRest o base p u) (sym (under-yes n noExprs (itemsOf ws) b lt) ∙ ap (lowItems ws n) q) ∙ sym rest-is
 
-      pub met-rest-none : n ≤ b → o .sumOp u (o .productOp p (o .constantOp 0)) ≡ rest o base power acc (itemsOf ws n)
+      pub met-rest-none : n ≤ b → o .sumOp u (o .productOp p (o .constantOp 0)) ≡ powersRest o base power acc (itemsOf ws n)
       unfolding values running evaluate
       met-rest-none le =
-          sym (ap (rest o base p u) (under-no n noExprs (itemsOf ws) b le))
-          ∙ ap (λ (c : ℕ). rest o base p u (lowItems ws n c)) q
+          sym (ap (powersRest o base p u) (under-no n noExprs (itemsOf ws) b le))
+          ∙ ap (λ (c : ℕ). powersRest o base p u (lowItems ws n c)) q
           ∙ sym rest-is
 
   -- a node of another kind: its expression is one of the leaves left, or none
   pub met-other : (r : T) → (d .kind ≡ 1 → r ≡ o .constantOp (d .value)) → (d .kind ≡ 2 → r ≡ o .identityOp)
-      → (d .kind ≡ 3 → r ≡ o .lagrangeOp (signed (d .value)))
+      → (d .kind ≡ 3 → r ≡ o .lagrangeOp (decodeSigned (d .value)))
       → (d .kind ≡ 4 → r ≡ o .eqXYOp (d .value))
       → (d .kind ≡ 5 → ⊥)
       → (d .kind ≡ 6 → r ≡ o .challengeOp (d .first))

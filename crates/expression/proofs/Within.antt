@@ -9,7 +9,7 @@ use Rattle.expression.specs.Expr.{Expr, Exprs, exprsOf, distributePowers
 use Rattle.expression.specs.Within.{Scope, Within, WithinAll}
 use Rattle.expression.specs.Nodes.{
   wordOf,
-  signed,
+  decodeSigned,
   Kind,
   kindOf,
   noExpr,
@@ -54,9 +54,9 @@ module _ (S : Scope) where
   abbrev pub NodeWithin : Kind → ℕ → ℕ → ℕ → Type 0
   NodeWithin Kind.isConstant a b v = Unit {0}
   NodeWithin Kind.isIdentity a b v = Unit {0}
-  NodeWithin Kind.isLagrange a b v = S .lagrange (signed v)
+  NodeWithin Kind.isLagrange a b v = S .lagrange (decodeSigned v)
   NodeWithin Kind.isEqXY a b v = S .eqXY v
-  NodeWithin Kind.isPolynomial a b v = S .poly a (signed v)
+  NodeWithin Kind.isPolynomial a b v = S .poly a (decodeSigned v)
   NodeWithin Kind.isChallenge a b v = S .challenge a
   NodeWithin Kind.isNegated a b v = Unit {0}
   NodeWithin Kind.isSum a b v = Unit {0}

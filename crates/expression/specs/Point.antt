@@ -8,12 +8,12 @@ use Rattle.field.specs.Field.{𝔾, el}
 use Rattle.bh.specs.Rows.{placeOf, rotated}
 use Rattle.expression.specs.Expr.{Ops}
 use Rattle.expression.specs.Value.{Environment, polyOf, valueOps}
-use Rattle.expression.specs.Reader.{polysOf, Small}
+use Rattle.expression.specs.Reader.{polysOf, LayoutSmall}
 use Rattle.expression.specs.declared.poly.Layout.{Layout}
 use Rattle.expression.specs.declared.value.Point.{Point}
 
 -- the row is one of the order's, and the place is its
-pub record Placed (p : Point) : Type 0 where
+pub record PointInOrder (p : Point) : Type 0 where
   pub positive : 0 < p .k
   pub small : p .k < 21
   pub inside : p .row < 2 ^ (p .k)
@@ -35,8 +35,8 @@ environmentOf circuit witness columns challenges l p =
 abbrev pub pointOf : List ℕ → Point
 pointOf c = record { k = getD c 0 0; row = getD c 1 0; place = getD c 2 0; eq = getD c 3 0 }
 
-abbrev pub layoutOf : List ℕ → Layout
-layoutOf c =
+abbrev pub layoutIn : List ℕ → Layout
+layoutIn c =
     record {
       rows = getD c 4 0;
       instances = getD c 5 0;
@@ -54,14 +54,14 @@ contextOf l p =
     ∷ l .rest
     ∷ []
 
-pub record Ready (c : List ℕ) : Type 0 where
-  pub layout : Small (layoutOf c)
-  pub point : Placed (pointOf c)
+pub record ContextReady (c : List ℕ) : Type 0 where
+  pub layout : LayoutSmall (layoutIn c)
+  pub point : PointInOrder (pointOf c)
 
 unfoldable pub polyValue : List ℕ → List ℕ → List ℕ → List ℕ → ℕ → ℤ → 𝔾 .F
 polyValue circuit witness columns c q r =
-    polyOf 𝔾 (polysOf (layoutOf c) circuit witness columns) q (rotated (getD c 0 0) (getD c 1 0) r)
+    polyOf 𝔾 (polysOf (layoutIn c) circuit witness columns) q (rotated (getD c 0 0) (getD c 1 0) r)
 
 unfoldable pub opsOf : List ℕ → List ℕ → List ℕ → List ℕ → List ℕ → Ops (𝔾 .F)
 opsOf circuit witness columns challenges c =
-    valueOps 𝔾 (environmentOf circuit witness columns challenges (layoutOf c) (pointOf c)) (getD c 1 0)
+    valueOps 𝔾 (environmentOf circuit witness columns challenges (layoutIn c) (pointOf c)) (getD c 1 0)

@@ -6,7 +6,7 @@ use expression_nodes::read_node;
 ghost use mathlib.Core.Path.{_≡_};
 ghost use Prim.Native.Nat.{suc, _+_, _*_, _≤_, _<_, min, max};
 ghost use lib.ListN.{length};
-ghost use Rattle.expression.specs.Expr.{evaluate, spread, rest, degree};
+ghost use Rattle.expression.specs.Expr.{evaluate, powersFirst, powersRest, degree};
 ghost use Rattle.expression.specs.Nodes.{exprOf, itemsOf, under, noExpr, noExprs};
 ghost use Rattle.expression.specs.Flat.{size};
 ghost use Rattle.expression.specs.Walks.{capSum, capOps, listed};
@@ -98,7 +98,7 @@ fn lower_degree(ws: &[u64], n: usize, a: u64) -> u64
 // The degree of the chain that begins at Item n, by powers of base.
 fn chain_degree(ws: &[u64], n: usize, base: u64) -> u64
     requires { ⌜ n * 4 + 4 ≤ length (now ws) ⌝ }
-    ensures { λ r. ⌜ r ≡ spread capOps base (itemsOf (now (ws .entry)) n) ⌝ }
+    ensures { λ r. ⌜ r ≡ powersFirst capOps base (itemsOf (now (ws .entry)) n) ⌝ }
 {
     let d = read_node(ws, n);
     let x = lower_degree(ws, n, d.first);
@@ -115,7 +115,7 @@ fn chain_degree(ws: &[u64], n: usize, base: u64) -> u64
 // The rest of a chain, from Item n on.
 fn items_degree(ws: &[u64], n: usize, base: u64, power: u64, acc: u64) -> u64
     requires { ⌜ n * 4 + 4 ≤ length (now ws) ⌝ }
-    ensures { λ r. ⌜ r ≡ rest capOps base power acc (itemsOf (now (ws .entry)) n) ⌝ }
+    ensures { λ r. ⌜ r ≡ powersRest capOps base power acc (itemsOf (now (ws .entry)) n) ⌝ }
 {
     let d = read_node(ws, n);
     let x = lower_degree(ws, n, d.first);

@@ -26,12 +26,12 @@ ghost use Prim.Native.Nat.{_+_, _*_, _≤_, _<_};
 ghost use lib.ListN.{length};
 ghost use Rattle.field.specs.Field.{𝔾, el};
 ghost use Rattle.field.specs.Element.{elem};
-ghost use Rattle.expression.specs.Expr.{evaluate, spread, rest};
-ghost use Rattle.expression.specs.Nodes.{exprOf, itemsOf, under, noExpr, signed};
+ghost use Rattle.expression.specs.Expr.{evaluate, powersFirst, powersRest};
+ghost use Rattle.expression.specs.Nodes.{exprOf, itemsOf, under, noExpr, decodeSigned};
 ghost use Rattle.expression.specs.Read.{nodeAt};
 ghost use Rattle.expression.specs.Value.{valueAt, polyOf};
-ghost use Rattle.expression.specs.Reader.{Small, polysOf};
-ghost use Rattle.expression.specs.Point.{Placed, Ready, environmentOf, opsOf, polyValue};
+ghost use Rattle.expression.specs.Reader.{LayoutSmall, polysOf};
+ghost use Rattle.expression.specs.Point.{PointInOrder, ContextReady, environmentOf, opsOf, polyValue};
 ghost use Rattle.expression_evaluate.specs.Lent.{lent};
 ghost use lib.ListN.{getD};
 
@@ -46,7 +46,7 @@ pub fn value<'a>(
     point: Point,
     n: usize,
 ) -> Goldilocks
-    requires { ⌜ (n * 4 + 4 ≤ length (now nodes)) × (Small layout × Placed point) ⌝ }
+    requires { ⌜ (n * 4 + 4 ≤ length (now nodes)) × (LayoutSmall layout × PointInOrder point) ⌝ }
     ensures { λ r. ⌜ elem r ≡ valueAt 𝔾 (environmentOf (now (circuit .entry)) (now (witness .entry)) (now (columns .entry)) (now (challenges .entry)) layout point) (exprOf (now (nodes .entry)) n) (point .row) ⌝ }
 {
     let c = context(layout, point);
@@ -64,8 +64,8 @@ fn node_of<'a>(s: &[&'a [u64]; 5], n: usize) -> Node
 
 // A query at the point of the context.
 fn query_of<'a>(s: &[&'a [u64]; 5], c: &[usize; 12], polynomial: u64, rotation: u64) -> u64
-    requires { ⌜ Ready (now c) ⌝ }
-    ensures { λ r. ⌜ el r ≡ polyValue (lent (now (s .entry)) 1) (lent (now (s .entry)) 2) (lent (now (s .entry)) 3) (now (c .entry)) polynomial (signed rotation) ⌝ }
+    requires { ⌜ ContextReady (now c) ⌝ }
+    ensures { λ r. ⌜ el r ≡ polyValue (lent (now (s .entry)) 1) (lent (now (s .entry)) 2) (lent (now (s .entry)) 3) (now (c .entry)) polynomial (decodeSigned rotation) ⌝ }
 {
     let row = rotated_row(c, rotation);
     let layout = layout_of(c);
@@ -81,7 +81,7 @@ fn challenge_of<'a>(s: &[&'a [u64]; 5], i: usize) -> u64
 
 // The value of node n, at the point and with the layout of the context.
 fn node_value<'a>(s: &[&'a [u64]; 5], c: &[usize; 12], n: usize) -> u64
-    requires { ⌜ (n * 4 + 4 ≤ length (lent (now s) 0)) × Ready (now c) ⌝ }
+    requires { ⌜ (n * 4 + 4 ≤ length (lent (now s) 0)) × ContextReady (now c) ⌝ }
     ensures { λ r. ⌜ el r ≡ evaluate (opsOf (lent (now (s .entry)) 1) (lent (now (s .entry)) 2) (lent (now (s .entry)) 3) (lent (now (s .entry)) 4) (now (c .entry))) (exprOf (lent (now (s .entry)) 0) n) ⌝ }
 {
     let d = node_of(s, n);
@@ -122,7 +122,7 @@ fn node_value<'a>(s: &[&'a [u64]; 5], c: &[usize; 12], n: usize) -> u64
 
 // The value of node a where it is below n, else 0.
 pub fn lower<'a>(s: &[&'a [u64]; 5], c: &[usize; 12], n: usize, a: u64) -> u64
-    requires { ⌜ (n * 4 ≤ length (lent (now s) 0)) × Ready (now c) ⌝ }
+    requires { ⌜ (n * 4 ≤ length (lent (now s) 0)) × ContextReady (now c) ⌝ }
     ensures { λ r. ⌜ el r ≡ evaluate (opsOf (lent (now (s .entry)) 1) (lent (now (s .entry)) 2) (lent (now (s .entry)) 3) (lent (now (s .entry)) 4) (now (c .entry))) (under n noExpr (exprOf (lent (now (s .entry)) 0)) a) ⌝ }
 {
     let b = index(a);
@@ -142,8 +142,8 @@ pub fn lower<'a>(s: &[&'a [u64]; 5], c: &[usize; 12], n: usize, a: u64) -> u64
 
 // The sum of the chain that begins at Item n, by powers of base.
 fn chain<'a>(s: &[&'a [u64]; 5], c: &[usize; 12], n: usize, base: u64) -> u64
-    requires { ⌜ (n * 4 + 4 ≤ length (lent (now s) 0)) × Ready (now c) ⌝ }
-    ensures { λ r. ⌜ el r ≡ spread (opsOf (lent (now (s .entry)) 1) (lent (now (s .entry)) 2) (lent (now (s .entry)) 3) (lent (now (s .entry)) 4) (now (c .entry))) (el base) (itemsOf (lent (now (s .entry)) 0) n) ⌝ }
+    requires { ⌜ (n * 4 + 4 ≤ length (lent (now s) 0)) × ContextReady (now c) ⌝ }
+    ensures { λ r. ⌜ el r ≡ powersFirst (opsOf (lent (now (s .entry)) 1) (lent (now (s .entry)) 2) (lent (now (s .entry)) 3) (lent (now (s .entry)) 4) (now (c .entry))) (el base) (itemsOf (lent (now (s .entry)) 0) n) ⌝ }
 {
     let d = node_of(s, n);
     let x = lower(s, c, n, d.first);
@@ -159,8 +159,8 @@ fn chain<'a>(s: &[&'a [u64]; 5], c: &[usize; 12], n: usize, base: u64) -> u64
 
 // The rest of a chain, from Item n on.
 fn items<'a>(s: &[&'a [u64]; 5], c: &[usize; 12], n: usize, base: u64, power: u64, acc: u64) -> u64
-    requires { ⌜ (n * 4 + 4 ≤ length (lent (now s) 0)) × Ready (now c) ⌝ }
-    ensures { λ r. ⌜ el r ≡ rest (opsOf (lent (now (s .entry)) 1) (lent (now (s .entry)) 2) (lent (now (s .entry)) 3) (lent (now (s .entry)) 4) (now (c .entry))) (el base) (el power) (el acc) (itemsOf (lent (now (s .entry)) 0) n) ⌝ }
+    requires { ⌜ (n * 4 + 4 ≤ length (lent (now s) 0)) × ContextReady (now c) ⌝ }
+    ensures { λ r. ⌜ el r ≡ powersRest (opsOf (lent (now (s .entry)) 1) (lent (now (s .entry)) 2) (lent (now (s .entry)) 3) (lent (now (s .entry)) 4) (now (c .entry))) (el base) (el power) (el acc) (itemsOf (lent (now (s .entry)) 0) n) ⌝ }
 {
     let d = node_of(s, n);
     let x = lower(s, c, n, d.first);
@@ -200,7 +200,7 @@ fn circuit_cell<'a>(s: &[&'a [u64]; 5], start: usize, i: usize, rows: usize, row
 
 // Polynomial q at a row, 0 where there is none.
 fn poly_of<'a>(s: &[&'a [u64]; 5], layout: Layout, q: u64, row: usize) -> u64
-    requires { ⌜ Small layout × (row < 1048576) ⌝ }
+    requires { ⌜ LayoutSmall layout × (row < 1048576) ⌝ }
     ensures { λ r. ⌜ el r ≡ polyOf 𝔾 (polysOf layout (lent (now (s .entry)) 1) (lent (now (s .entry)) 2) (lent (now (s .entry)) 3)) q row ⌝ }
 {
     let rows = layout.rows;

@@ -12,8 +12,8 @@ ghost use Prim.Native.Nat.{_^_, _<_};
 ghost use lib.Dec.{eqb};
 ghost use Rattle.bh.specs.Rows.{placeOf, rotated, lagrangeRow};
 ghost use Rattle.field.specs.Field.{𝔾, el};
-ghost use Rattle.expression.specs.Nodes.{signed};
-ghost use Rattle.expression.specs.Point.{Ready, pointOf, layoutOf, contextOf};
+ghost use Rattle.expression.specs.Nodes.{decodeSigned};
+ghost use Rattle.expression.specs.Point.{ContextReady, pointOf, layoutIn, contextOf};
 
 // Where each number of the context stands.
 pub const K: usize = 0;
@@ -63,7 +63,7 @@ pub fn context(layout: Layout, point: Point) -> [usize; 12]
 // Lagrange at a row, by the row's place: 2^k divides 2^31, so the number kept in a word has the word's remainder.
 pub fn lagrange(word: u64, k: usize, row: usize, place: usize) -> u64
     requires { ⌜ ((0 < k) × (k < 21)) × ((row < 2 ^ k) × (place ≡ placeOf k row)) ⌝ }
-    ensures { λ r. ⌜ el r ≡ cond (eqb row (lagrangeRow k (signed word))) (𝔾 .one) (𝔾 .zero) ⌝ }
+    ensures { λ r. ⌜ el r ≡ cond (eqb row (lagrangeRow k (decodeSigned word))) (𝔾 .one) (𝔾 .zero) ⌝ }
 {
     if index(word & ((1 << k) - 1)) == place {
         return Goldilocks::ONE.word();
@@ -79,7 +79,7 @@ pub fn word(x: usize) -> u64
 }
 
 pub fn layout_of(c: &[usize; 12]) -> Layout
-    ensures { λ r. ⌜ r ≡ layoutOf (now (c .entry)) ⌝ }
+    ensures { λ r. ⌜ r ≡ layoutIn (now (c .entry)) ⌝ }
 {
     let rows = c[ROWS];
     let instances = c[INSTANCES];
@@ -103,8 +103,8 @@ pub fn layout_of(c: &[usize; 12]) -> Layout
 
 // The row that the rotation kept in a word leads to.
 pub fn rotated_row(c: &[usize; 12], rotation: u64) -> usize
-    requires { ⌜ Ready (now c) ⌝ }
-    ensures { λ r. ⌜ (r ≡ rotated (pointOf (now (c .entry)) .k) (pointOf (now (c .entry)) .row) (signed rotation)) × (r < 1048576) ⌝ }
+    requires { ⌜ ContextReady (now c) ⌝ }
+    ensures { λ r. ⌜ (r ≡ rotated (pointOf (now (c .entry)) .k) (pointOf (now (c .entry)) .row) (decodeSigned rotation)) × (r < 1048576) ⌝ }
 {
     let k = c[K];
     let row = c[ROW];

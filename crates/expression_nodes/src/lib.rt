@@ -10,7 +10,7 @@ ghost use Prim.Native.Nat.{ℕ, _+_, _*_, _^_, _≤_, _<_, _%_};
 ghost use lib.ListN.{length};
 ghost use lib.IntN.{pos, negℤ, natAbs};
 ghost use Rattle.bh.specs.Rows.{rotated};
-ghost use Rattle.expression.specs.Nodes.{signed};
+ghost use Rattle.expression.specs.Nodes.{decodeSigned};
 ghost use Rattle.expression.specs.Read.{nodeAt};
 
 // The words of node n.
@@ -68,8 +68,8 @@ fn mod_period(d: u64, n: u64) -> u64
 // leads from each row to the row that the word's number leads to.
 pub fn rotation_of(word: u64, k: usize) -> Rotation
     requires { ⌜ (0 < k) × (k < 21) ⌝ }
-    ensures leads { λ r. ⌜ ((b : ℕ) → b < 2 ^ k → rotated k b (r .0) ≡ rotated k b (signed word)) ⌝ }
-    ensures number { λ r. ⌜ (natAbs (signed word) ≤ k → r .0 ≡ signed word) ⌝ }
+    ensures leads { λ r. ⌜ ((b : ℕ) → b < 2 ^ k → rotated k b (r .0) ≡ rotated k b (decodeSigned word)) ⌝ }
+    ensures number { λ r. ⌜ (natAbs (decodeSigned word) ≤ k → r .0 ≡ decodeSigned word) ⌝ }
 {
     let n: u64 = (1 << k) - 1;
     if word < SIGNED_OFFSET {

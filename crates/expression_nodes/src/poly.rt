@@ -7,7 +7,7 @@ ghost use Prim.Native.Nat.{_+_, _*_, _≤_, _<_};
 ghost use lib.ListN.{getD};
 ghost use Rattle.field.specs.Field.{𝔾, el};
 ghost use Rattle.expression.specs.Value.{polyOf};
-ghost use Rattle.expression.specs.Reader.{polysOf, Small};
+ghost use Rattle.expression.specs.Reader.{polysOf, LayoutSmall};
 
 // Column i of columns that begin at a word, at a row; 0 where there is none.
 pub fn cell(ws: &[u64], start: usize, i: usize, rows: usize, row: usize) -> u64
@@ -26,7 +26,7 @@ pub fn poly_at(
     q: u64,
     row: usize,
 ) -> u64
-    requires { ⌜ Small layout × (row < 1048576) ⌝ }
+    requires { ⌜ LayoutSmall layout × (row < 1048576) ⌝ }
     ensures { λ r. ⌜ el r ≡ polyOf 𝔾 (polysOf layout (now (circuit .entry)) (now (witness .entry)) (now (columns .entry))) q row ⌝ }
 {
     let rows = layout.rows;

@@ -7,8 +7,8 @@ ghost use mathlib.Core.Bool.{cond, _&&_, _||_};
 ghost use Prim.Native.Nat.{_+_, _-_, _*_, _≤_, _<_};
 ghost use lib.Dec.{eqb, leb};
 ghost use lib.ListN.{length};
-ghost use Rattle.lists.specs.Lists.{written};
-ghost use Rattle.expression.specs.Expr.{evaluate, spread, rest};
+ghost use Rattle.lists.specs.Lists.{writePrefix};
+ghost use Rattle.expression.specs.Expr.{evaluate, powersFirst, powersRest};
 ghost use Rattle.expression.specs.Nodes.{exprOf, itemsOf, under, noExpr};
 ghost use Rattle.expression.specs.Walks.{usedOps};
 ghost use Rattle.expression.specs.Queries.{queryOf, usedQueries, queriesInto};
@@ -75,7 +75,7 @@ fn lower_uses(ws: &[u64], n: usize, a: u64, polynomial: u64, word: u64) -> bool
 // The same of the chain that begins at Item n; `base`: is it used by the base?
 fn chain_uses(ws: &[u64], n: usize, polynomial: u64, word: u64, base: bool) -> bool
     requires { ⌜ n * 4 + 4 ≤ length (now ws) ⌝ }
-    ensures { λ r. ⌜ r ≡ spread (usedOps (queryOf polynomial word)) base (itemsOf (now (ws .entry)) n) ⌝ }
+    ensures { λ r. ⌜ r ≡ powersFirst (usedOps (queryOf polynomial word)) base (itemsOf (now (ws .entry)) n) ⌝ }
 {
     let d = read_node(ws, n);
     let x = lower_uses(ws, n, d.first, polynomial, word);
@@ -99,7 +99,7 @@ fn items_uses(
     acc: bool,
 ) -> bool
     requires { ⌜ n * 4 + 4 ≤ length (now ws) ⌝ }
-    ensures { λ r. ⌜ r ≡ rest (usedOps (queryOf polynomial word)) base power acc (itemsOf (now (ws .entry)) n) ⌝ }
+    ensures { λ r. ⌜ r ≡ powersRest (usedOps (queryOf polynomial word)) base power acc (itemsOf (now (ws .entry)) n) ⌝ }
 {
     let d = read_node(ws, n);
     let x = lower_uses(ws, n, d.first, polynomial, word);

@@ -9,15 +9,15 @@ ghost use mathlib.Core.Path.{_≡_};
 ghost use Prim.Native.Nat.{_+_, _*_, _≤_, _<_};
 ghost use mathlib.Core.List.{[], _∷_};
 ghost use lib.ListN.{length};
-ghost use Rattle.lists.specs.Lists.{laid};
+ghost use Rattle.lists.specs.Lists.{writeWindow};
 ghost use Rattle.expression.specs.Expr.{Expr};
 ghost use Rattle.expression.specs.Nodes.{exprOf, itemsOf, under, noExpr, noExprs};
 ghost use Rattle.expression.specs.Flat.{size, sizes, extra};
-ghost use Rattle.expression.specs.Written.{mostWords, Pushed, Written, WrittenOne, WrittenPair, WrittenBase, WrittenList};
+ghost use Rattle.expression.specs.Written.{mostWords, Pushed, ExprWritten, WrittenOne, WrittenPair, WrittenBase, WrittenList};
 
 // Word i, if it falls into the buffer, which stands for the words from `from` on.
 fn put(nodes: &mut [u64], from: usize, i: usize, word: u64)
-    ensures { λ r. ⌜ now (nodes .exit) ≡ laid from (now (nodes .entry)) i (word ∷ []) ⌝ }
+    ensures { λ r. ⌜ now (nodes .exit) ≡ writeWindow from (now (nodes .entry)) i (word ∷ []) ⌝ }
 {
     if from <= i {
         let j = i - from;
@@ -51,7 +51,7 @@ pub fn push(
 // Writes the expression at node n of ws from node `at` on, and returns the next node's number.
 pub fn copy_expr(ws: &[u64], nodes: &mut [u64], from: usize, n: usize, at: usize) -> usize
     requires { ⌜ (n * 4 + 4 ≤ length (now ws)) × ((at + size (exprOf (now ws) n)) * 4 ≤ mostWords) ⌝ }
-    ensures { λ r. ⌜ Written from (exprOf (now (ws .entry)) n) at (now (nodes .entry)) (now (nodes .exit)) r ⌝ }
+    ensures { λ r. ⌜ ExprWritten from (exprOf (now (ws .entry)) n) at (now (nodes .entry)) (now (nodes .exit)) r ⌝ }
 {
     let d = read_node(ws, n);
     let k = d.kind;
@@ -74,7 +74,7 @@ pub fn copy_expr(ws: &[u64], nodes: &mut [u64], from: usize, n: usize, at: usize
 // The expression at node a, if it is below n: else Constant 0.
 fn copy_low(ws: &[u64], nodes: &mut [u64], from: usize, n: usize, at: usize, a: u64) -> usize
     requires { ⌜ (n * 4 + 4 ≤ length (now ws)) × ((at + size (under n noExpr (exprOf (now ws)) a)) * 4 ≤ mostWords) ⌝ }
-    ensures { λ r. ⌜ Written from (under n noExpr (exprOf (now (ws .entry))) a) at (now (nodes .entry)) (now (nodes .exit)) r ⌝ }
+    ensures { λ r. ⌜ ExprWritten from (under n noExpr (exprOf (now (ws .entry))) a) at (now (nodes .entry)) (now (nodes .exit)) r ⌝ }
 {
     let c = index(a);
     if c < n {
@@ -131,7 +131,7 @@ fn copy_powers(
     item: u64,
 ) -> usize
     requires { ⌜ (n * 4 + 4 ≤ length (now ws)) × ((at + sizes (under n noExprs (itemsOf (now ws)) item) + size (under n noExpr (exprOf (now ws)) base) + extra (under n noExprs (itemsOf (now ws)) item) + 2) * 4 ≤ mostWords) ⌝ }
-    ensures { λ r. ⌜ Written from (Expr.powers (under n noExprs (itemsOf (now (ws .entry))) item) (under n noExpr (exprOf (now (ws .entry))) base)) at (now (nodes .entry)) (now (nodes .exit)) r ⌝ }
+    ensures { λ r. ⌜ ExprWritten from (Expr.powers (under n noExprs (itemsOf (now (ws .entry))) item) (under n noExpr (exprOf (now (ws .entry))) base)) at (now (nodes .entry)) (now (nodes .exit)) r ⌝ }
 {
     let l = copy_items(ws, nodes, from, n, at, base, n, item);
     push(

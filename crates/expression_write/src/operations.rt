@@ -6,21 +6,21 @@ use expression::node::SIGNED_OFFSET;
 ghost use Prim.Native.Nat.{_+_, _-_, _*_, _≤_, _<_};
 ghost use lib.IntN.{pos};
 ghost use Rattle.expression.specs.Expr.{Expr};
-ghost use Rattle.expression.specs.Written.{mostWords, Pushed, Written, WrittenBase};
+ghost use Rattle.expression.specs.Written.{mostWords, Pushed, ExprWritten, WrittenBase};
 
 // ---- leaves, pairs
 
 // A query with rotation 0.
 pub fn query(out: &mut [u64], from: usize, at: usize, q: u64) -> usize
     requires { ⌜ at * 4 + 4 ≤ mostWords ⌝ }
-    ensures { λ r. ⌜ Written from (Expr.poly q (pos 0)) at (now (out .entry)) (now (out .exit)) r ⌝ }
+    ensures { λ r. ⌜ ExprWritten from (Expr.poly q (pos 0)) at (now (out .entry)) (now (out .exit)) r ⌝ }
 {
     push(out, from, at, kind::POLYNOMIAL, q, 0, SIGNED_OFFSET)
 }
 
 pub fn challenge(out: &mut [u64], from: usize, at: usize, i: u64) -> usize
     requires { ⌜ at * 4 + 4 ≤ mostWords ⌝ }
-    ensures { λ r. ⌜ Written from (Expr.challenge i) at (now (out .entry)) (now (out .exit)) r ⌝ }
+    ensures { λ r. ⌜ ExprWritten from (Expr.challenge i) at (now (out .entry)) (now (out .exit)) r ⌝ }
 {
     push(out, from, at, kind::CHALLENGE, i, 0, 0)
 }

@@ -7,7 +7,7 @@ use native.Mathlib.Omega.{arith}
 use lib.Dec.{leb}
 use lib.ListN.{length, set}
 use borrow.Author.Tests.{le-leb, lt-leb}
-use Rattle.lists.specs.Lists.{written}
+use Rattle.lists.specs.Lists.{writePrefix}
 use Rattle.lists.proofs.Over.{over-sets, over-written}
 use Rattle.hyperplonk_spec.specs.Build.{Output}
 use Rattle.hyperplonk_spec.specs.Entries.{BuildEntry, SumEntry, answered, buildEntry, sumEntry}
@@ -17,11 +17,11 @@ use Rattle.hyperplonk_spec.specs.declared.RowSum.{RowSum}
 -- a buffer that is too short
 pub kept : (ws d : List ℕ) → length d < length ws → d ≡ answered ws d
 unfolding answered
-kept ws d h = sym (ap (λ (t : Bool). cond t (written ws d) d) (lt-leb (length ws) (length d) h))
+kept ws d h = sym (ap (λ (t : Bool). cond t (writePrefix ws d) d) (lt-leb (length ws) (length d) h))
 
-room : (ws d : List ℕ) → length ws ≤ length d → written ws d ≡ answered ws d
+room : (ws d : List ℕ) → length ws ≤ length d → writePrefix ws d ≡ answered ws d
 unfolding answered
-room ws d h = sym (ap (λ (t : Bool). cond t (written ws d) d) (le-leb (length ws) (length d) h))
+room ws d h = sym (ap (λ (t : Bool). cond t (writePrefix ws d) d) (le-leb (length ws) (length d) h))
 
 pub one : (d : List ℕ) (a : ℕ) → 1 ≤ length d → set d 0 a ≡ answered (a ∷ []) d
 one d a h = over-sets (a ∷ []) d 0 (omega arith) ∙ sym (over-written (a ∷ []) d) ∙ room (a ∷ []) d h

@@ -8,7 +8,7 @@ use lib.ListN.{length, take, replicate, length-take}
 use lib.Dec.{leb}
 use borrow.Author.Tests.{leb-true}
 use Rattle.field.specs.Field.{𝔾}
-use Rattle.lists.specs.Lists.{written}
+use Rattle.lists.specs.Lists.{writePrefix}
 use Rattle.lists.proofs.Tests.{and-left, and-right}
 use Rattle.lists.proofs.Over.{over-written}
 use Rattle.backend.specs.Circuit.{circuitOf, rowsOf, copied, numCopied}
@@ -49,8 +49,8 @@ module _ (ws instances witness challenges columns nodes : List ℕ) where
 
   abbrev columnsAfter : Bool → List ℕ
   columnsAfter t =
-      cond t (written (wordsOf (rowsOf (circuitOf ws)) (writtenPolys 𝔾 (logOf ws instances witness challenges))) columns)
-      (written (replicate (columnWords (circuitOf ws)) 0) columns)
+      cond t (writePrefix (wordsOf (rowsOf (circuitOf ws)) (writtenPolys 𝔾 (logOf ws instances witness challenges))) columns)
+      (writePrefix (replicate (columnWords (circuitOf ws)) 0) columns)
 
   -- 15
   pub is-fifteen : (r : Built) (d : List ℕ) (t : Bool) → t ≡ allCovered 𝔾 (logOf ws instances witness challenges) → t ≡ false
@@ -83,14 +83,14 @@ module _ (ws instances witness challenges columns nodes : List ℕ) where
   unfolding buildLog made logOf
   is-made d n t words count parts a f e w p room c =
       let yes : allCovered 𝔾 (logOf ws instances witness challenges) ≡ true = sym a ∙ f in
-      let nodes-are : n ≡ written (composedWords (circuitOf ws)) nodes =
+      let nodes-are : n ≡ writePrefix (composedWords (circuitOf ws)) nodes =
       composed-over room c ∙ sym (over-written (composedWords (circuitOf ws)) nodes) in
       let buffers : _≡_ {A = Output}
       (record { answer = record { number = 0; «column_words» = words; nodes = count; «z_columns» = parts }; columns = d; nodes = n })
       (record {
         answer = record { number = 0; «column_words» = words; nodes = count; «z_columns» = parts };
         columns = columnsAfter true;
-        nodes = written (composedWords (circuitOf ws)) nodes;
+        nodes = writePrefix (composedWords (circuitOf ws)) nodes;
       }) =
       ap₂
       (λ (x y : List ℕ).
@@ -105,7 +105,7 @@ module _ (ws instances witness challenges columns nodes : List ℕ) where
       record { number = 0; «column_words» = columnWords (circuitOf ws); nodes = composedNodes (circuitOf ws); «z_columns» = z })
       p in
       buffers
-      ∙ ap (λ (b : Built). record { answer = b; columns = columnsAfter true; nodes = written (composedWords (circuitOf ws)) nodes }) counts
+      ∙ ap (λ (b : Built). record { answer = b; columns = columnsAfter true; nodes = writePrefix (composedWords (circuitOf ws)) nodes }) counts
       ∙ sym
       (ap
       (λ (t : Bool).

@@ -10,10 +10,10 @@ use lib.Dec.{eqb}
 use borrow.Author.Tests.{eqb-true}
 use Rattle.field.specs.Prime.{P}
 use Rattle.field.specs.Field.{𝔾, el}
-use Rattle.lists.specs.Lists.{over, total, written}
+use Rattle.lists.specs.Lists.{writeAt, total, writePrefix}
 use Rattle.lists.proofs.Tests.{and-left, and-right}
 use Rattle.lists.proofs.Over.{drop-more, drop-past}
-use Rattle.backend.specs.Circuit.{Circuit, Section, bodyOf, circuitOf, rowsOf, numInstance, numWitness, numUser, copied, numCopied, numLookups}
+use Rattle.backend.specs.Circuit.{Circuit, Section, bodyOf, circuitOf, rowsOf, numInstance, numWitness, numChallenges, copied, numCopied, numLookups}
 use Rattle.preprocessor.specs.Compose.{numZ, paramsOf}
 use Rattle.preprocessor.specs.declared.CircuitParams.{CircuitParams}
 use Rattle.prover.specs.Log.{Log}
@@ -22,7 +22,7 @@ use Rattle.prover.specs.Words.{wordsOf, Small}
 use Rattle.prover.specs.Lent.{Given}
 use Rattle.prover.proofs.Words.{words-length}
 use Rattle.hyperplonk_spec.specs.Build.{logOf, columnWords, q12}
-use Rattle.hyperplonk_prepare.specs.Prepared.{Accepted, layoutOf, permutationOffset, compressedOffset, mOffset, hOffset, zOffset}
+use Rattle.hyperplonk_prepare.specs.Prepared.{Accepted, layoutFromWords, permutationOffset, compressedOffset, mOffset, hOffset, zOffset}
 use Rattle.hyperplonk_prepare.proofs.Accepted.{k-pos, k-few, rows-few, rows-is, few-user, given, instances-entries}
 use Rattle.hyperplonk_prepare.proofs.Computed.{columns-low}
 use Rattle.prover_lookup.specs.Lookups.{coveredFrom, countsFrom, hsFrom, CountsWritten}
@@ -66,15 +66,15 @@ module _ (c : Circuit) (instances witness challenges : List ℕ) (yes : q12 c in
   second = eqb (length witness) (numWitness c * rowsOf c)
 
   abbrev third : Bool
-  third = eqb (length challenges) (numUser c + 2)
+  third = eqb (length challenges) (numChallenges c + 2)
 
   pub exact-instances : length instances ≡ total (c .instances)
   unfolding q12
   exact-instances = eqb-true (length instances) (total (c .instances)) (and-left first second (and-left (first && second) third yes))
 
-  pub exact-challenges : length challenges ≡ numUser c + 2
+  pub exact-challenges : length challenges ≡ numChallenges c + 2
   unfolding q12
-  exact-challenges = eqb-true (length challenges) (numUser c + 2) (and-right (first && second) third yes)
+  exact-challenges = eqb-true (length challenges) (numChallenges c + 2) (and-right (first && second) third yes)
 
 -- ---- the words that the stages write
 
@@ -88,7 +88,7 @@ module _ (ws instances witness challenges : List ℕ) (a : Accepted ws) where
   abbrev rows : ℕ
   rows = rowsOf (circuitOf ws)
 
-  given-here : Given (circuitOf ws .k) (layoutOf ws)
+  given-here : Given (circuitOf ws .k) (layoutFromWords ws)
   unfolding circuitOf
   given-here = given ws a
 
@@ -102,10 +102,10 @@ module _ (ws instances witness challenges : List ℕ) (a : Accepted ws) where
 
   -- the columns before the counts
   pub before-m-end : (d₀ d₁ d₂ d₃ : List ℕ) → columnWords c ≤ length d₀
-      → d₁ ≡ over d₀ 0 (instanceWords ws instances)
-      → d₂ ≡ over d₁ (permutationOffset c) (permutationWords ws)
-      → d₃ ≡ over d₂ (compressedOffset c) (compressedWords ws witness d₂ challenges)
-      → d₃ ≡ over d₀ 0 (wordsOf rows (polysBeforeM 𝔾 log))
+      → d₁ ≡ writeAt d₀ 0 (instanceWords ws instances)
+      → d₂ ≡ writeAt d₁ (permutationOffset c) (permutationWords ws)
+      → d₃ ≡ writeAt d₂ (compressedOffset c) (compressedWords ws witness d₂ challenges)
+      → d₃ ≡ writeAt d₀ 0 (wordsOf rows (polysBeforeM 𝔾 log))
   unfolding logOf instancePolys permutationPolys permutationAt
   before-m-end d₀ d₁ d₂ d₃ room first second third =
       before-m-written ws instances witness challenges pos-here small-here given-here (instances-entries ws a) d₀ d₁ d₂ d₃ room first second third
@@ -113,35 +113,35 @@ module _ (ws instances witness challenges : List ℕ) (a : Accepted ws) where
   -- h and z behind the counts
   pub last-end : (d₄ d₅ d₆ : List ℕ) → columnWords c ≤ length d₄
       → take (hOffset c) d₄ ≡ wordsOf rows (polysThroughM 𝔾 log)
-      → d₅ ≡ over d₄ (hOffset c) (wordsOf rows (hPolys 𝔾 log))
-      → d₆ ≡ over d₅ (zOffset c) (zWords ws witness d₅ challenges)
-      → d₆ ≡ over d₄ (hOffset c) (wordsOf rows (polysAfterM 𝔾 log))
+      → d₅ ≡ writeAt d₄ (hOffset c) (wordsOf rows (hPolys 𝔾 log))
+      → d₆ ≡ writeAt d₅ (zOffset c) (zWords ws witness d₅ challenges)
+      → d₆ ≡ writeAt d₄ (hOffset c) (wordsOf rows (polysAfterM 𝔾 log))
   last-end d₄ d₅ d₆ room front fifth sixth =
       last-written ws instances witness challenges pos-here small-here given-here (instances-entries ws a) d₄ d₅ d₆ room front fifth sixth
 
-  module _ (d₀ d₃ : List ℕ) (room : columnWords c ≤ length d₀) (before : d₃ ≡ over d₀ 0 (wordsOf rows (polysBeforeM 𝔾 log))) where
+  module _ (d₀ d₃ : List ℕ) (room : columnWords c ≤ length d₀) (before : d₃ ≡ writeAt d₀ 0 (wordsOf rows (polysBeforeM 𝔾 log))) where
     -- all of them
-    pub all-end : (d₄ d₆ : List ℕ) → d₄ ≡ over d₃ (mOffset c) (wordsOf rows (mPolys 𝔾 log))
-        → (take (hOffset c) d₄ ≡ wordsOf rows (polysThroughM 𝔾 log) → d₆ ≡ over d₄ (hOffset c) (wordsOf rows (polysAfterM 𝔾 log)))
-        → d₆ ≡ written (wordsOf rows (writtenPolys 𝔾 log)) d₀
+    pub all-end : (d₄ d₆ : List ℕ) → d₄ ≡ writeAt d₃ (mOffset c) (wordsOf rows (mPolys 𝔾 log))
+        → (take (hOffset c) d₄ ≡ wordsOf rows (polysThroughM 𝔾 log) → d₆ ≡ writeAt d₄ (hOffset c) (wordsOf rows (polysAfterM 𝔾 log)))
+        → d₆ ≡ writePrefix (wordsOf rows (writtenPolys 𝔾 log)) d₀
     unfolding logOf
     all-end d₄ d₆ fourth last =
-        let counted : d₄ ≡ over d₀ 0 (wordsOf rows (polysThroughM 𝔾 log)) =
-        fourth ∙ ap (λ (d : List ℕ). over d (mOffset c) (wordsOf rows (mPolys 𝔾 log))) before ∙ through-m-more log d₀ room in
+        let counted : d₄ ≡ writeAt d₀ 0 (wordsOf rows (polysThroughM 𝔾 log)) =
+        fourth ∙ ap (λ (d : List ℕ). writeAt d (mOffset c) (wordsOf rows (mPolys 𝔾 log))) before ∙ through-m-more log d₀ room in
         last (ap (take (hOffset c)) counted ∙ counted-taken log d₀)
-        ∙ ap (λ (d : List ℕ). over d (hOffset c) (wordsOf rows (polysAfterM 𝔾 log))) counted
+        ∙ ap (λ (d : List ℕ). writeAt d (hOffset c) (wordsOf rows (polysAfterM 𝔾 log))) counted
         ∙ written-more log d₀ room
 
     -- question 15: "the column words needed become 0"
     pub none-end : (d₄ d₆ : List ℕ) (words : ℕ) → drop (mOffset c + numLookups c * rows) d₄ ≡ drop (mOffset c + numLookups c * rows) d₃
         → words ≡ columnWords c
-        → d₆ ≡ over d₄ 0 (replicate words 0)
-        → d₆ ≡ written (replicate (columnWords c) 0) d₀
+        → d₆ ≡ writeAt d₄ 0 (replicate words 0)
+        → d₆ ≡ writePrefix (replicate (columnWords c) 0) d₀
     unfolding logOf
     none-end d₄ d₆ words behind q zeros =
         let p = placed c in
         zeros
-        ∙ ap (λ (n : ℕ). over d₄ 0 (replicate n 0)) q
+        ∙ ap (λ (n : ℕ). writeAt d₄ 0 (replicate n 0)) q
         ∙ cleared (columnWords c) d₀ d₄
         (drop-more (mOffset c + numLookups c * rows) (columnWords c) d₄ d₃ (omega arith) behind
         ∙ ap (drop (columnWords c)) before
@@ -166,7 +166,7 @@ module _ (ws : List ℕ) (a : Accepted ws) (v : CircuitParams) (e : v ≡ params
   unfolding paramsOf
   parts-are = ap (λ (v : CircuitParams). v .«num_chunks») e
 
-  pub user-is : v .«num_challenges» ≡ numUser (circuitOf ws)
+  pub user-is : v .«num_challenges» ≡ numChallenges (circuitOf ws)
   unfolding paramsOf
   user-is = ap (λ (v : CircuitParams). v .«num_challenges») e
 
@@ -213,7 +213,7 @@ module _ (ws instances witness challenges : List ℕ) (a : Accepted ws)
 
   pub compressed-asked : (names : List ℕ) → names ≡ copied circuit → (m : ℕ) → m ≡ n
       → Accepted ws
-      × (length challenges ≡ numUser circuit + 2)
+      × (length challenges ≡ numChallenges circuit + 2)
       × (length names ≡ numCopied circuit)
       × (compressedOffset circuit + numLookups circuit * 2 * rowsOf circuit ≤ m)
   compressed-asked names e m l =
@@ -228,7 +228,7 @@ module _ (ws : List ℕ) (a : Accepted ws) (v : CircuitParams) (e : v ≡ params
   count-words = ap₂ (λ (l r : ℕ). l * r) (lookups-are ws a v e) (rows-are ws a v e)
 
   pub counts-asked : (instances witness challenges d₀ d : List ℕ)
-      → d ≡ over d₀ 0 (wordsOf (rowsOf (circuitOf ws)) (polysBeforeM 𝔾 (logOf ws instances witness challenges)))
+      → d ≡ writeAt d₀ 0 (wordsOf (rowsOf (circuitOf ws)) (polysBeforeM 𝔾 (logOf ws instances witness challenges)))
       → length d ≡ n
       → (x + v .«num_lookups» * 2 * v .rows ≤ y)
       × (y + v .«num_lookups» * v .rows ≤ length d)
@@ -244,7 +244,7 @@ module _ (ws : List ℕ) (a : Accepted ws) (v : CircuitParams) (e : v ≡ params
             subst (λ (z : ℕ). z < P)
             (ap₂ (λ (d : List ℕ) (i : ℕ). getD d (i + b) 0) (sym before) (sym x-is))
             (lookups-small (logOf ws instances witness challenges)
-            (over d₀ 0 (wordsOf (rowsOf (circuitOf ws)) (polysBeforeM 𝔾 (logOf ws instances witness challenges))))
+            (writeAt d₀ 0 (wordsOf (rowsOf (circuitOf ws)) (polysBeforeM 𝔾 (logOf ws instances witness challenges))))
             (compressedOffset (circuitOf ws))
             (compressed-before-m (logOf ws instances witness challenges) d₀)
             b
@@ -261,24 +261,24 @@ module _ (ws : List ℕ) (a : Accepted ws) (v : CircuitParams) (e : v ≡ params
 
     pub hs-written : (γ : 𝔾 .F) (instances witness challenges d d' : List ℕ) → γ ≡ el (getD challenges (v .«num_challenges» + 1) 0)
         → take (hOffset (circuitOf ws)) d ≡ wordsOf (rowsOf (circuitOf ws)) (polysThroughM 𝔾 (logOf ws instances witness challenges))
-        → d' ≡ over d z (hsFrom d x (v .rows) γ y (v .«num_lookups»))
-        → d' ≡ over d (hOffset (circuitOf ws)) (wordsOf (rowsOf (circuitOf ws)) (hPolys 𝔾 (logOf ws instances witness challenges)))
+        → d' ≡ writeAt d z (hsFrom d x (v .rows) γ y (v .«num_lookups»))
+        → d' ≡ writeAt d (hOffset (circuitOf ws)) (wordsOf (rowsOf (circuitOf ws)) (hPolys 𝔾 (logOf ws instances witness challenges)))
     unfolding logOf
     hs-written γ instances witness challenges d d' γ-is front eq =
         let log' : Log 𝔾 = logOf ws instances witness challenges in
         let R : ℕ = rowsOf (circuitOf ws) in
         let L : ℕ = numLookups (circuitOf ws) in
         eq
-        ∙ ap₂ (λ (r l : ℕ). over d z (hsFrom d x r γ y l)) (rows-are ws a v e) (lookups-are ws a v e)
-        ∙ ap₂ (λ (x y : ℕ). over d z (hsFrom d x R γ y L)) x-is y-is
-        ∙ ap (λ (z : ℕ). over d z (hsFrom d (compressedOffset (circuitOf ws)) R γ (mOffset (circuitOf ws)) L)) z-is
-        ∙ ap (over d (hOffset (circuitOf ws)))
+        ∙ ap₂ (λ (r l : ℕ). writeAt d z (hsFrom d x r γ y l)) (rows-are ws a v e) (lookups-are ws a v e)
+        ∙ ap₂ (λ (x y : ℕ). writeAt d z (hsFrom d x R γ y L)) x-is y-is
+        ∙ ap (λ (z : ℕ). writeAt d z (hsFrom d (compressedOffset (circuitOf ws)) R γ (mOffset (circuitOf ws)) L)) z-is
+        ∙ ap (writeAt d (hOffset (circuitOf ws)))
         (hs-are log' d (compressedOffset (circuitOf ws)) (compressed-counted log' d front) (mOffset (circuitOf ws)) (counts-counted log' d front)
         γ (sym (γ-is ∙ ap (λ (u : ℕ). el (getD challenges (u + 1) 0)) (user-is ws a v e))))
 
   -- ---- the counts, and question 15
   module _ (instances witness challenges d₀ d d' : List ℕ) (answer : Bool)
-      (before : d ≡ over d₀ 0 (wordsOf (rowsOf (circuitOf ws)) (polysBeforeM 𝔾 (logOf ws instances witness challenges))))
+      (before : d ≡ writeAt d₀ 0 (wordsOf (rowsOf (circuitOf ws)) (polysBeforeM 𝔾 (logOf ws instances witness challenges))))
       (w : CountsWritten d (v .«num_lookups») x y (v .rows) answer d') where
     abbrev here : Log 𝔾
     here = logOf ws instances witness challenges
@@ -297,13 +297,13 @@ module _ (ws : List ℕ) (a : Accepted ws) (v : CircuitParams) (e : v ≡ params
         ∙ ap (λ (x : ℕ). coveredFrom d x (rowsOf (circuitOf ws)) (numLookups (circuitOf ws))) x-is
         ∙ all-covered-is here d (compressedOffset (circuitOf ws)) compressed-there
 
-    pub counts-written : answer ≡ true → d' ≡ over d (mOffset (circuitOf ws)) (wordsOf (rowsOf (circuitOf ws)) (mPolys 𝔾 here))
+    pub counts-written : answer ≡ true → d' ≡ writeAt d (mOffset (circuitOf ws)) (wordsOf (rowsOf (circuitOf ws)) (mPolys 𝔾 here))
     unfolding logOf
     counts-written t =
         w .counts t
-        ∙ ap₂ (λ (r l : ℕ). over d y (countsFrom d x r l)) (rows-are ws a v e) (lookups-are ws a v e)
-        ∙ ap₂ (λ (x y : ℕ). over d y (countsFrom d x (rowsOf (circuitOf ws)) (numLookups (circuitOf ws)))) x-is y-is
-        ∙ ap (over d (mOffset (circuitOf ws)))
+        ∙ ap₂ (λ (r l : ℕ). writeAt d y (countsFrom d x r l)) (rows-are ws a v e) (lookups-are ws a v e)
+        ∙ ap₂ (λ (x y : ℕ). writeAt d y (countsFrom d x (rowsOf (circuitOf ws)) (numLookups (circuitOf ws)))) x-is y-is
+        ∙ ap (writeAt d (mOffset (circuitOf ws)))
         (counts-are here d (compressedOffset (circuitOf ws)) compressed-there refl
         (let r = rows-few ws a in let t = rows-is ws a in omega arith))
 

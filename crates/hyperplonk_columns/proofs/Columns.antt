@@ -6,12 +6,12 @@ use native.Mathlib.Nat.{mul-le-mul, zero-add, zero-mul, add-mul}
 use native.Mathlib.Omega.{arith}
 use lib.ListN.{length, getD, take, length-append}
 use Rattle.field.specs.Field.{𝔾, el, el-val}
-use Rattle.lists.specs.Lists.{column, over, written}
+use Rattle.lists.specs.Lists.{tabulate, writeAt, writePrefix}
 use Rattle.lists.proofs.Columns.{get-column, map-below}
 use Rattle.lists.proofs.Turns.{grid-lt}
 use Rattle.lists.proofs.Over.{over-written}
 use Rattle.expression.specs.Value.{polyOf}
-use Rattle.backend.specs.Circuit.{Circuit, Section, circuitOf, entries, rowsOf, numInstance, numUser, copied, numCopied, numLookups}
+use Rattle.backend.specs.Circuit.{Circuit, Section, circuitOf, entries, rowsOf, numInstance, numChallenges, copied, numCopied, numLookups}
 use Rattle.preprocessor.specs.Compose.{numZ}
 use Rattle.prover.specs.Log.{Log}
 use Rattle.prover.specs.Columns.{permutationAt, instancePolys, permutationPolys, compressedPolys, mPolys, hPolys, zPolys, writtenPolys}
@@ -23,7 +23,7 @@ use Rattle.prover.proofs.Lengths.{instances-length, permutations-length, compre
 use Rattle.prover.proofs.Lent.{Reads, compressed-agree}
 use Rattle.prover.proofs.Z.{z-agree}
 use Rattle.hyperplonk_spec.specs.Build.{logOf, columnWords}
-use Rattle.hyperplonk_prepare.specs.Prepared.{layoutOf, permutationOffset, compressedOffset, mOffset, hOffset, zOffset}
+use Rattle.hyperplonk_prepare.specs.Prepared.{layoutFromWords, permutationOffset, compressedOffset, mOffset, hOffset, zOffset}
 use Rattle.hyperplonk_columns.specs.Kinds.{polysBeforeM, polysThroughM, polysAfterM}
 use Rattle.hyperplonk_columns.proofs.Fronts.{over-take, take-over, front-get}
 
@@ -83,8 +83,8 @@ module _ (g : Log 𝔾) where
 
   -- the permutation columns behind the instance columns
   named-more : (d : List ℕ) → Room d
-      → over (over d 0 (wordsOf R (instancePolys 𝔾 g))) (permutationOffset c) (wordsOf R (permutationPolys 𝔾 g))
-      ≡ over d 0 (wordsOf R (instancePolys 𝔾 g ++ permutationPolys 𝔾 g))
+      → writeAt (writeAt d 0 (wordsOf R (instancePolys 𝔾 g))) (permutationOffset c) (wordsOf R (permutationPolys 𝔾 g))
+      ≡ writeAt d 0 (wordsOf R (instancePolys 𝔾 g ++ permutationPolys 𝔾 g))
   named-more d r =
       over-columns R d 0 (instancePolys 𝔾 g) (permutationPolys 𝔾 g) (permutationOffset c)
       (permutations-at ∙ sym (zero-add (length (instancePolys 𝔾 g) * R)))
@@ -92,8 +92,8 @@ module _ (g : Log 𝔾) where
 
   -- the compressed columns behind both
   before-m-more : (d : List ℕ) → Room d
-      → over (over d 0 (wordsOf R (instancePolys 𝔾 g ++ permutationPolys 𝔾 g))) (compressedOffset c) (wordsOf R (compressedPolys 𝔾 g))
-      ≡ over d 0 (wordsOf R (polysBeforeM 𝔾 g))
+      → writeAt (writeAt d 0 (wordsOf R (instancePolys 𝔾 g ++ permutationPolys 𝔾 g))) (compressedOffset c) (wordsOf R (compressedPolys 𝔾 g))
+      ≡ writeAt d 0 (wordsOf R (polysBeforeM 𝔾 g))
   before-m-more d r =
       over-columns R d 0 (instancePolys 𝔾 g ++ permutationPolys 𝔾 g) (compressedPolys 𝔾 g) (compressedOffset c)
       (compressed-at ∙ sym (zero-add (length (instancePolys 𝔾 g ++ permutationPolys 𝔾 g) * R)))
@@ -101,8 +101,8 @@ module _ (g : Log 𝔾) where
 
   -- m behind these
   pub through-m-more : (d : List ℕ) → Room d
-      → over (over d 0 (wordsOf R (polysBeforeM 𝔾 g))) (mOffset c) (wordsOf R (mPolys 𝔾 g))
-      ≡ over d 0 (wordsOf R (polysThroughM 𝔾 g))
+      → writeAt (writeAt d 0 (wordsOf R (polysBeforeM 𝔾 g))) (mOffset c) (wordsOf R (mPolys 𝔾 g))
+      ≡ writeAt d 0 (wordsOf R (polysThroughM 𝔾 g))
   through-m-more d r =
       over-columns R d 0 (polysBeforeM 𝔾 g) (mPolys 𝔾 g) (mOffset c)
       (counts-at ∙ sym (zero-add (length (polysBeforeM 𝔾 g) * R)))
@@ -110,8 +110,8 @@ module _ (g : Log 𝔾) where
 
   -- z behind h
   last-more : (d : List ℕ) → Room d
-      → over (over d (hOffset c) (wordsOf R (hPolys 𝔾 g))) (zOffset c) (wordsOf R (zPolys 𝔾 g))
-      ≡ over d (hOffset c) (wordsOf R (polysAfterM 𝔾 g))
+      → writeAt (writeAt d (hOffset c) (wordsOf R (hPolys 𝔾 g))) (zOffset c) (wordsOf R (zPolys 𝔾 g))
+      ≡ writeAt d (hOffset c) (wordsOf R (polysAfterM 𝔾 g))
   last-more d r =
       over-columns R d (hOffset c) (hPolys 𝔾 g) (zPolys 𝔾 g) (zOffset c) zs-at
       (room-of d (numInstance c + numCopied c + numLookups c * 4) (omega arith) r)
@@ -122,19 +122,19 @@ module _ (g : Log 𝔾) where
   written-grouped = simp append-assoc
 
   pub written-more : (d : List ℕ) → Room d
-      → over (over d 0 (wordsOf R (polysThroughM 𝔾 g))) (hOffset c) (wordsOf R (polysAfterM 𝔾 g))
-      ≡ written (wordsOf R (writtenPolys 𝔾 g)) d
+      → writeAt (writeAt d 0 (wordsOf R (polysThroughM 𝔾 g))) (hOffset c) (wordsOf R (polysAfterM 𝔾 g))
+      ≡ writePrefix (wordsOf R (writtenPolys 𝔾 g)) d
   written-more d r =
       over-columns R d 0 (polysThroughM 𝔾 g) (polysAfterM 𝔾 g) (hOffset c)
       (hs-at ∙ sym (zero-add (length (polysThroughM 𝔾 g) * R)))
       (room-of d (numInstance c + numCopied c + numLookups c * 3) (omega arith) r)
-      ∙ ap (λ (ps : List (ℕ → 𝔾 .F)). over d 0 (wordsOf R ps)) written-grouped
+      ∙ ap (λ (ps : List (ℕ → 𝔾 .F)). writeAt d 0 (wordsOf R ps)) written-grouped
       ∙ sym (over-written (wordsOf R (writtenPolys 𝔾 g)) d)
 
   -- ---- what a buffer with columns at its front reads as
 
   -- the instance columns
-  instances-read : (e d : List ℕ) (rs all : List (ℕ → 𝔾 .F)) → all ≡ instancePolys 𝔾 g ++ rs → d ≡ over e 0 (wordsOf R all)
+  instances-read : (e d : List ℕ) (rs all : List (ℕ → 𝔾 .F)) → all ≡ instancePolys 𝔾 g ++ rs → d ≡ writeAt e 0 (wordsOf R all)
       → (j : ℕ) → j < numInstance c * R → getD d j 0 ≡ getD (wordsOf R (instancePolys 𝔾 g)) j 0
   instances-read e d rs all parts front j l =
       ap (λ (n : ℕ). getD d n 0) (sym (zero-add j))
@@ -143,7 +143,7 @@ module _ (g : Log 𝔾) where
 
   -- the label of a copied column
   labels-read : (e d : List ℕ) (rs all : List (ℕ → 𝔾 .F)) → all ≡ (instancePolys 𝔾 g ++ permutationPolys 𝔾 g) ++ rs
-      → d ≡ over e 0 (wordsOf R all)
+      → d ≡ writeAt e 0 (wordsOf R all)
       → (i b : ℕ) → i < numCopied c → b < R → el (getD d ((numInstance c + i) * R + b) 0) ≡ permutationAt 𝔾 g i b
   unfolding permutationPolys
   labels-read e d rs all parts front i b hi hb =
@@ -160,20 +160,20 @@ module _ (g : Log 𝔾) where
       ∙ ap (λ (p : ℕ → 𝔾 .F). p b) (get-column (permutationAt 𝔾 g) (numCopied c) i (λ r. 𝔾 .zero) hi)
 
   -- the compressed columns, before and after the counts
-  compressed-read : (e d : List ℕ) (rs all : List (ℕ → 𝔾 .F)) → all ≡ polysBeforeM 𝔾 g ++ rs → d ≡ over e 0 (wordsOf R all)
+  compressed-read : (e d : List ℕ) (rs all : List (ℕ → 𝔾 .F)) → all ≡ polysBeforeM 𝔾 g ++ rs → d ≡ writeAt e 0 (wordsOf R all)
       → (j : ℕ) → j < numLookups c * 2 * R → getD d (compressedOffset c + j) 0 ≡ getD (wordsOf R (compressedPolys 𝔾 g)) j 0
   compressed-read e d rs all parts front j l =
       front-get R e d (instancePolys 𝔾 g ++ permutationPolys 𝔾 g) (compressedPolys 𝔾 g) rs all parts front (compressedOffset c) compressed-at j
       (let q : length (compressedPolys 𝔾 g) * R ≡ numLookups c * 2 * R = ap (λ (n : ℕ). n * R) (compressed-length 𝔾 g) in omega arith)
 
   pub compressed-before-m : (d : List ℕ) (j : ℕ) → j < numLookups c * 2 * R
-      → getD (over d 0 (wordsOf R (polysBeforeM 𝔾 g))) (compressedOffset c + j) 0 ≡ getD (wordsOf R (compressedPolys 𝔾 g)) j 0
+      → getD (writeAt d 0 (wordsOf R (polysBeforeM 𝔾 g))) (compressedOffset c + j) 0 ≡ getD (wordsOf R (compressedPolys 𝔾 g)) j 0
   compressed-before-m d =
-      compressed-read d (over d 0 (wordsOf R (polysBeforeM 𝔾 g))) [] (polysBeforeM 𝔾 g) (sym (append-nil (polysBeforeM 𝔾 g))) refl
+      compressed-read d (writeAt d 0 (wordsOf R (polysBeforeM 𝔾 g))) [] (polysBeforeM 𝔾 g) (sym (append-nil (polysBeforeM 𝔾 g))) refl
 
   -- a buffer that has the columns to the counts at its front
   module _ (d : List ℕ) (front : take (hOffset c) d ≡ wordsOf R (polysThroughM 𝔾 g)) where
-    counted-front : d ≡ over d 0 (wordsOf R (polysThroughM 𝔾 g))
+    counted-front : d ≡ writeAt d 0 (wordsOf R (polysThroughM 𝔾 g))
     counted-front = take-over R d (polysThroughM 𝔾 g) (hOffset c) hs-at front
 
     pub compressed-counted : (j : ℕ) → j < numLookups c * 2 * R → getD d (compressedOffset c + j) 0 ≡ getD (wordsOf R (compressedPolys 𝔾 g)) j 0
@@ -186,14 +186,14 @@ module _ (g : Log 𝔾) where
         (let q : length (mPolys 𝔾 g) * R ≡ numLookups c * R = ap (λ (n : ℕ). n * R) (m-length 𝔾 g) in omega arith)
 
   -- which it has when m is written
-  pub counted-taken : (d : List ℕ) → take (hOffset c) (over d 0 (wordsOf R (polysThroughM 𝔾 g))) ≡ wordsOf R (polysThroughM 𝔾 g)
+  pub counted-taken : (d : List ℕ) → take (hOffset c) (writeAt d 0 (wordsOf R (polysThroughM 𝔾 g))) ≡ wordsOf R (polysThroughM 𝔾 g)
   counted-taken d =
-      ap (λ (n : ℕ). take n (over d 0 (wordsOf R (polysThroughM 𝔾 g)))) hs-at ∙ over-take R d (polysThroughM 𝔾 g)
+      ap (λ (n : ℕ). take n (writeAt d 0 (wordsOf R (polysThroughM 𝔾 g)))) hs-at ∙ over-take R d (polysThroughM 𝔾 g)
 
 -- ---- the log of the words
 
 module _ (ws instances witness challenges : List ℕ) (positive : 0 < circuitOf ws .k) (small : circuitOf ws .k < 21)
-    (given : Given (circuitOf ws .k) (layoutOf ws)) (all-instances : entries ws Section.instances ≡ numInstance (circuitOf ws)) where
+    (given : Given (circuitOf ws .k) (layoutFromWords ws)) (all-instances : entries ws Section.instances ≡ numInstance (circuitOf ws)) where
   abbrev log : Log 𝔾
   log = logOf ws instances witness challenges
 
@@ -201,9 +201,9 @@ module _ (ws instances witness challenges : List ℕ) (positive : 0 < circuitOf 
   rows = rowsOf (circuitOf ws)
 
   -- instance columns at the front are those that a user expression reads
-  reads : (e d : List ℕ) (rs all : List (ℕ → 𝔾 .F)) → all ≡ instancePolys 𝔾 log ++ rs → d ≡ over e 0 (wordsOf rows all)
-      → Reads log (layoutOf ws) ws witness d (take (numUser (circuitOf ws)) challenges)
-  unfolding logOf layoutOf
+  reads : (e d : List ℕ) (rs all : List (ℕ → 𝔾 .F)) → all ≡ instancePolys 𝔾 log ++ rs → d ≡ writeAt e 0 (wordsOf rows all)
+      → Reads log (layoutFromWords ws) ws witness d (take (numChallenges (circuitOf ws)) challenges)
+  unfolding logOf layoutFromWords
   reads e d rs all parts front =
       record {
         circuit-is = refl;
@@ -222,77 +222,77 @@ module _ (ws instances witness challenges : List ℕ) (positive : 0 < circuitOf 
       }
 
   module _ (d₀ d₁ d₂ d₃ : List ℕ) (room : columnWords (circuitOf ws) ≤ length d₀)
-      (first : d₁ ≡ over d₀ 0 (wordsOf rows (instancePolys 𝔾 log)))
-      (second : d₂ ≡ over d₁ (permutationOffset (circuitOf ws)) (wordsOf rows (permutationPolys 𝔾 log)))
+      (first : d₁ ≡ writeAt d₀ 0 (wordsOf rows (instancePolys 𝔾 log)))
+      (second : d₂ ≡ writeAt d₁ (permutationOffset (circuitOf ws)) (wordsOf rows (permutationPolys 𝔾 log)))
       (third : d₃
-      ≡ over d₂ (compressedOffset (circuitOf ws))
+      ≡ writeAt d₂ (compressedOffset (circuitOf ws))
       (wordsOf rows
       (compressedPolysIn 𝔾
-      (environmentFromWords ws witness d₂ (take (numUser (circuitOf ws)) challenges) (layoutOf ws) (circuitOf ws .k))
-      (el (getD challenges (numUser (circuitOf ws)) 0))
+      (environmentFromWords ws witness d₂ (take (numChallenges (circuitOf ws)) challenges) (layoutFromWords ws) (circuitOf ws .k))
+      (el (getD challenges (numChallenges (circuitOf ws)) 0))
       (circuitOf ws .lookups)))) where
-    named-front : d₂ ≡ over d₀ 0 (wordsOf rows (instancePolys 𝔾 log ++ permutationPolys 𝔾 log))
+    named-front : d₂ ≡ writeAt d₀ 0 (wordsOf rows (instancePolys 𝔾 log ++ permutationPolys 𝔾 log))
     unfolding logOf
     named-front =
         second
-        ∙ ap (λ (d : List ℕ). over d (permutationOffset (circuitOf ws)) (wordsOf rows (permutationPolys 𝔾 log))) first
+        ∙ ap (λ (d : List ℕ). writeAt d (permutationOffset (circuitOf ws)) (wordsOf rows (permutationPolys 𝔾 log))) first
         ∙ named-more log d₀ room
 
     -- the columns before the counts are the log's
-    pub before-m-written : d₃ ≡ over d₀ 0 (wordsOf rows (polysBeforeM 𝔾 log))
+    pub before-m-written : d₃ ≡ writeAt d₀ 0 (wordsOf rows (polysBeforeM 𝔾 log))
     unfolding logOf
     before-m-written =
         third
-        ∙ ap (over d₂ (compressedOffset (circuitOf ws)))
-        (compressed-agree log (layoutOf ws) ws witness d₂ (take (numUser (circuitOf ws)) challenges)
+        ∙ ap (writeAt d₂ (compressedOffset (circuitOf ws)))
+        (compressed-agree log (layoutFromWords ws) ws witness d₂ (take (numChallenges (circuitOf ws)) challenges)
         (reads d₀ d₂ (permutationPolys 𝔾 log) (instancePolys 𝔾 log ++ permutationPolys 𝔾 log) refl named-front)
-        (getD challenges (numUser (circuitOf ws)) 0) refl)
-        ∙ ap (λ (d : List ℕ). over d (compressedOffset (circuitOf ws)) (wordsOf rows (compressedPolys 𝔾 log))) named-front
+        (getD challenges (numChallenges (circuitOf ws)) 0) refl)
+        ∙ ap (λ (d : List ℕ). writeAt d (compressedOffset (circuitOf ws)) (wordsOf rows (compressedPolys 𝔾 log))) named-front
         ∙ before-m-more log d₀ room
 
   module _ (d₄ d₅ d₆ : List ℕ) (room : columnWords (circuitOf ws) ≤ length d₄)
       (front : take (hOffset (circuitOf ws)) d₄ ≡ wordsOf rows (polysThroughM 𝔾 log))
-      (fifth : d₅ ≡ over d₄ (hOffset (circuitOf ws)) (wordsOf rows (hPolys 𝔾 log)))
+      (fifth : d₅ ≡ writeAt d₄ (hOffset (circuitOf ws)) (wordsOf rows (hPolys 𝔾 log)))
       (sixth : d₆
-      ≡ over d₅ (zOffset (circuitOf ws))
+      ≡ writeAt d₅ (zOffset (circuitOf ws))
       (wordsOf rows
-      (column
+      (tabulate
       (zOf 𝔾
-      (ratioInWords (layoutOf ws) ws witness d₅ (copied (circuitOf ws)) (el (getD challenges (numUser (circuitOf ws)) 0))
-      (el (getD challenges (numUser (circuitOf ws) + 1) 0)))
+      (ratioInWords (layoutFromWords ws) ws witness d₅ (copied (circuitOf ws)) (el (getD challenges (numChallenges (circuitOf ws)) 0))
+      (el (getD challenges (numChallenges (circuitOf ws) + 1) 0)))
       (circuitOf ws .k)
       (numCopied (circuitOf ws))
       (numZ (circuitOf ws)))
       (numZ (circuitOf ws))))) where
-    fronted : d₅ ≡ over d₄ 0 (wordsOf rows (polysThroughM 𝔾 log ++ hPolys 𝔾 log))
+    fronted : d₅ ≡ writeAt d₄ 0 (wordsOf rows (polysThroughM 𝔾 log ++ hPolys 𝔾 log))
     unfolding logOf
     fronted =
         fifth
-        ∙ ap (λ (d : List ℕ). over d (hOffset (circuitOf ws)) (wordsOf rows (hPolys 𝔾 log))) (counted-front log d₄ front)
+        ∙ ap (λ (d : List ℕ). writeAt d (hOffset (circuitOf ws)) (wordsOf rows (hPolys 𝔾 log))) (counted-front log d₄ front)
         ∙ over-columns rows d₄ 0 (polysThroughM 𝔾 log) (hPolys 𝔾 log) (hOffset (circuitOf ws))
         (hs-at log ∙ sym (zero-add (length (polysThroughM 𝔾 log) * rows)))
         (room-of log d₄ (numInstance (circuitOf ws) + numCopied (circuitOf ws) + numLookups (circuitOf ws) * 3) (omega arith) room)
 
     -- h and z behind the counts are the log's
-    pub last-written : d₆ ≡ over d₄ (hOffset (circuitOf ws)) (wordsOf rows (polysAfterM 𝔾 log))
-    unfolding logOf layoutOf
+    pub last-written : d₆ ≡ writeAt d₄ (hOffset (circuitOf ws)) (wordsOf rows (polysAfterM 𝔾 log))
+    unfolding logOf layoutFromWords
     last-written =
         sixth
-        ∙ ap (over d₅ (zOffset (circuitOf ws)))
-        (z-agree log (layoutOf ws) ws witness d₅ (take (numUser (circuitOf ws)) challenges)
+        ∙ ap (writeAt d₅ (zOffset (circuitOf ws)))
+        (z-agree log (layoutFromWords ws) ws witness d₅ (take (numChallenges (circuitOf ws)) challenges)
         (reads d₄ d₅ (permutationPolys 𝔾 log ++ (compressedPolys 𝔾 log ++ (mPolys 𝔾 log ++ hPolys 𝔾 log)))
         (polysThroughM 𝔾 log ++ hPolys 𝔾 log) (simp append-assoc) fronted)
         positive
-        (getD challenges (numUser (circuitOf ws)) 0)
-        (getD challenges (numUser (circuitOf ws) + 1) 0)
+        (getD challenges (numChallenges (circuitOf ws)) 0)
+        (getD challenges (numChallenges (circuitOf ws) + 1) 0)
         refl
         refl
         labels)
-        ∙ ap (λ (d : List ℕ). over d (zOffset (circuitOf ws)) (wordsOf rows (zPolys 𝔾 log))) fifth
+        ∙ ap (λ (d : List ℕ). writeAt d (zOffset (circuitOf ws)) (wordsOf rows (zPolys 𝔾 log))) fifth
         ∙ last-more log d₄ room
       where
         labels : (i b : ℕ) → i < numCopied (circuitOf ws) → b < rows
-            → el (getD d₅ ((layoutOf ws .instances + i) * rows + b) 0) ≡ permutationAt 𝔾 log i b
+            → el (getD d₅ ((layoutFromWords ws .instances + i) * rows + b) 0) ≡ permutationAt 𝔾 log i b
         labels i b hi hb =
             ap (λ (n : ℕ). el (getD d₅ ((n + i) * rows + b) 0)) all-instances
             ∙ labels-read log d₄ d₅ (compressedPolys 𝔾 log ++ (mPolys 𝔾 log ++ hPolys 𝔾 log)) (polysThroughM 𝔾 log ++ hPolys 𝔾 log)

@@ -7,20 +7,20 @@ use native.Mathlib.Omega.{arith}
 use lib.ListN.{length, getD, take, drop, replicate, length-append, length-replicate, take-append-drop}
 use lib.Seq.{take-at}
 use Rattle.field.specs.Field.{𝔾}
-use Rattle.lists.specs.Lists.{over, written}
+use Rattle.lists.specs.Lists.{writeAt, writePrefix}
 use Rattle.lists.proofs.Lists.{get-left, get-past}
 use Rattle.lists.proofs.Over.{over-front, over-inside, over-written}
 use Rattle.prover.specs.Words.{wordsOf}
 use Rattle.prover.proofs.Words.{words-length, words-append}
 
 module _ (rows : ℕ) (d : List ℕ) (ps : List (ℕ → 𝔾 .F)) where
-  pub over-take : take (length ps * rows) (over d 0 (wordsOf rows ps)) ≡ wordsOf rows ps
+  pub over-take : take (length ps * rows) (writeAt d 0 (wordsOf rows ps)) ≡ wordsOf rows ps
   over-take =
       ap (take (length ps * rows)) (over-front d (wordsOf rows ps))
       ∙ take-at (wordsOf rows ps) (drop (length (wordsOf rows ps)) d) (length ps * rows) (words-length rows ps)
 
   -- a buffer that has them is itself with them written
-  pub take-over : (n : ℕ) → n ≡ length ps * rows → take n d ≡ wordsOf rows ps → d ≡ over d 0 (wordsOf rows ps)
+  pub take-over : (n : ℕ) → n ≡ length ps * rows → take n d ≡ wordsOf rows ps → d ≡ writeAt d 0 (wordsOf rows ps)
   take-over n q e =
       sym (take-append-drop n d)
       ∙ ap₂ (λ (x : List ℕ) (m : ℕ). x ++ drop m d) e (q ∙ sym (words-length rows ps))
@@ -28,7 +28,7 @@ module _ (rows : ℕ) (d : List ℕ) (ps : List (ℕ → 𝔾 .F)) where
 
 -- the words of some of the columns
 module _ (rows : ℕ) (e d : List ℕ) (ps qs rs all : List (ℕ → 𝔾 .F)) (parts : all ≡ (ps ++ qs) ++ rs)
-    (front : d ≡ over e 0 (wordsOf rows all)) (at : ℕ) (at-is : at ≡ length ps * rows) where
+    (front : d ≡ writeAt e 0 (wordsOf rows all)) (at : ℕ) (at-is : at ≡ length ps * rows) where
   pub front-get : (j : ℕ) → j < length qs * rows → getD d (at + j) 0 ≡ getD (wordsOf rows qs) j 0
   front-get j l =
       let wp : List ℕ = wordsOf rows ps in
@@ -40,15 +40,15 @@ module _ (rows : ℕ) (e d : List ℕ) (ps qs rs all : List (ℕ → 𝔾 .F)) (
       let nq : length wq ≡ length qs * rows = words-length rows qs in
       let npq : length (wp ++ wq) ≡ length wp + length wq = length-append wp wq in
       let n : length ((wp ++ wq) ++ wr) ≡ length (wp ++ wq) + length wr = length-append (wp ++ wq) wr in
-      ap (λ (x : List ℕ). getD x (at + j) 0) (front ∙ ap (over e 0) whole)
-      ∙ ap (λ (m : ℕ). getD (over e 0 ((wp ++ wq) ++ wr)) m 0) (sym (zero-add (at + j)))
+      ap (λ (x : List ℕ). getD x (at + j) 0) (front ∙ ap (writeAt e 0) whole)
+      ∙ ap (λ (m : ℕ). getD (writeAt e 0 ((wp ++ wq) ++ wr)) m 0) (sym (zero-add (at + j)))
       ∙ over-inside e 0 ((wp ++ wq) ++ wr) (at + j) 0 (omega arith) (omega arith)
       ∙ get-left (wp ++ wq) wr (at + j) 0 (omega arith)
       ∙ get-past wp wq (at + j) j 0 (omega arith)
 
 -- ---- words that become 0
 
-pub cleared : (n : ℕ) (d d' : List ℕ) → drop n d' ≡ drop n d → over d' 0 (replicate n 0) ≡ written (replicate n 0) d
+pub cleared : (n : ℕ) (d d' : List ℕ) → drop n d' ≡ drop n d → writeAt d' 0 (replicate n 0) ≡ writePrefix (replicate n 0) d
 cleared n d d' e =
     let zeros : List ℕ = replicate n 0 in
     let len : length zeros ≡ n = length-replicate n 0 in

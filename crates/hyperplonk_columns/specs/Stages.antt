@@ -3,25 +3,25 @@ use mathlib.Core.List.{List, map}
 use Prim.Native.Nat.{ℕ, _+_}
 use lib.ListN.{getD, take}
 use Rattle.field.specs.Field.{𝔾, el}
-use Rattle.lists.specs.Lists.{below, column, split}
-use Rattle.backend.specs.Circuit.{circuitOf, rowsOf, numUser, copied, numCopied}
+use Rattle.lists.specs.Lists.{range, tabulate, split}
+use Rattle.backend.specs.Circuit.{circuitOf, rowsOf, numChallenges, copied, numCopied}
 use Rattle.preprocessor.specs.Compose.{numZ}
 use Rattle.preprocessor.specs.Permutation.{label}
 use Rattle.prover.specs.Columns.{instanceAt}
 use Rattle.prover.specs.Running.{zOf}
 use Rattle.prover.specs.Words.{wordsOf}
 use Rattle.prover.specs.Lent.{environmentFromWords, compressedPolysIn, ratioInWords}
-use Rattle.hyperplonk_prepare.specs.Prepared.{layoutOf}
+use Rattle.hyperplonk_prepare.specs.Prepared.{layoutFromWords}
 
 -- "challenges (the user's, then β, γ)"
 abbrev pub lentUser : List ℕ → List ℕ → List ℕ
-lentUser circuit challenges = take (numUser (circuitOf circuit)) challenges
+lentUser circuit challenges = take (numChallenges (circuitOf circuit)) challenges
 
 abbrev pub lentBeta : List ℕ → List ℕ → 𝔾 .F
-lentBeta circuit challenges = el (getD challenges (numUser (circuitOf circuit)) 0)
+lentBeta circuit challenges = el (getD challenges (numChallenges (circuitOf circuit)) 0)
 
 abbrev pub lentGamma : List ℕ → List ℕ → 𝔾 .F
-lentGamma circuit challenges = el (getD challenges (numUser (circuitOf circuit) + 1) 0)
+lentGamma circuit challenges = el (getD challenges (numChallenges (circuitOf circuit) + 1) 0)
 
 -- `instance_polys`: "value t (from 0) stands at place t + 1 of the row order; other rows 0"
 abbrev pub instanceWords : List ℕ → List ℕ → List ℕ
@@ -32,14 +32,14 @@ instanceWords circuit instance =
 -- `permutation_polys`: the label of each cell of the copied columns
 abbrev pub permutationWords : List ℕ → List ℕ
 permutationWords circuit =
-    wordsOf (rowsOf (circuitOf circuit)) (map (λ i b. el (label (circuitOf circuit) i b)) (below (numCopied (circuitOf circuit))))
+    wordsOf (rowsOf (circuitOf circuit)) (map (λ i b. el (label (circuitOf circuit) i b)) (range (numCopied (circuitOf circuit))))
 
 -- "compressed input and table per lookup": "sum of β^i × expression i at each row". Of the column words the instance columns are read
 abbrev pub compressedWords : List ℕ → List ℕ → List ℕ → List ℕ → List ℕ
 compressedWords circuit witness columns challenges =
     wordsOf (rowsOf (circuitOf circuit))
     (compressedPolysIn 𝔾
-    (environmentFromWords circuit witness columns (lentUser circuit challenges) (layoutOf circuit) (circuitOf circuit .k))
+    (environmentFromWords circuit witness columns (lentUser circuit challenges) (layoutFromWords circuit) (circuitOf circuit .k))
     (lentBeta circuit challenges)
     (circuitOf circuit .lookups))
 
@@ -48,9 +48,9 @@ compressedWords circuit witness columns challenges =
 abbrev pub zWords : List ℕ → List ℕ → List ℕ → List ℕ → List ℕ
 zWords circuit witness columns challenges =
     wordsOf (rowsOf (circuitOf circuit))
-    (column
+    (tabulate
     (zOf 𝔾
-    (ratioInWords (layoutOf circuit) circuit witness columns (copied (circuitOf circuit)) (lentBeta circuit challenges)
+    (ratioInWords (layoutFromWords circuit) circuit witness columns (copied (circuitOf circuit)) (lentBeta circuit challenges)
     (lentGamma circuit challenges))
     (circuitOf circuit .k)
     (numCopied (circuitOf circuit))

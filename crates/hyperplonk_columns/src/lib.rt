@@ -18,8 +18,8 @@ ghost use mathlib.Core.List.{List};
 ghost use Prim.Native.Nat.{ℕ, _+_, _≤_};
 ghost use lib.ListN.{length, take, replicate};
 ghost use Rattle.field.specs.Field.{𝔾};
-ghost use Rattle.lists.specs.Lists.{over, written};
-ghost use Rattle.backend.specs.Circuit.{circuitOf, rowsOf, numUser, copied as copiedOf};
+ghost use Rattle.lists.specs.Lists.{writeAt, writePrefix};
+ghost use Rattle.backend.specs.Circuit.{circuitOf, rowsOf, numChallenges, copied as copiedOf};
 ghost use Rattle.preprocessor.specs.Compose.{paramsOf};
 ghost use Rattle.prover.specs.Columns.{allCovered, writtenPolys};
 ghost use Rattle.prover.specs.Words.{wordsOf};
@@ -57,7 +57,7 @@ fn columns_before_m<'a>(
     copied: &[u64],
 )
     requires { ⌜ Accepted (now circuit) × (now copied ≡ copiedOf (circuitOf (now circuit))) × (q12 (circuitOf (now circuit)) (now instance) (now witness) (now challenges) ≡ true) × (columnWords (circuitOf (now circuit)) ≤ length (now columns)) ⌝ }
-    ensures { λ _. ⌜ now (columns .exit) ≡ over (now (columns .entry)) 0 (wordsOf (rowsOf (circuitOf (now (circuit .entry)))) (polysBeforeM 𝔾 (logOf (now (circuit .entry)) (now (instance .entry)) (now (witness .entry)) (now (challenges .entry))))) ⌝ }
+    ensures { λ _. ⌜ now (columns .exit) ≡ writeAt (now (columns .entry)) 0 (wordsOf (rowsOf (circuitOf (now (circuit .entry)))) (polysBeforeM 𝔾 (logOf (now (circuit .entry)) (now (instance .entry)) (now (witness .entry)) (now (challenges .entry))))) ⌝ }
 {
     instance_columns(circuit, instance, columns);
     permutation_columns(circuit, copied, columns);
@@ -73,8 +73,8 @@ fn columns_after_m(
     copied: &[u64],
     params: CircuitParams,
 )
-    requires { ⌜ Prepared (now circuit) (now copied) params × (length (now challenges) ≡ numUser (circuitOf (now circuit)) + 2) × (columnWords (circuitOf (now circuit)) ≤ length (now columns)) ⌝ }
-    ensures { λ _. ⌜ ((instances : List ℕ) → take (hOffset (circuitOf (now (circuit .entry)))) (now (columns .entry)) ≡ wordsOf (rowsOf (circuitOf (now (circuit .entry)))) (polysThroughM 𝔾 (logOf (now (circuit .entry)) instances (now (witness .entry)) (now (challenges .entry)))) → now (columns .exit) ≡ over (now (columns .entry)) (hOffset (circuitOf (now (circuit .entry)))) (wordsOf (rowsOf (circuitOf (now (circuit .entry)))) (lastPolys 𝔾 (logOf (now (circuit .entry)) instances (now (witness .entry)) (now (challenges .entry)))))) ⌝ }
+    requires { ⌜ Prepared (now circuit) (now copied) params × (length (now challenges) ≡ numChallenges (circuitOf (now circuit)) + 2) × (columnWords (circuitOf (now circuit)) ≤ length (now columns)) ⌝ }
+    ensures { λ _. ⌜ ((instances : List ℕ) → take (hOffset (circuitOf (now (circuit .entry)))) (now (columns .entry)) ≡ wordsOf (rowsOf (circuitOf (now (circuit .entry)))) (polysThroughM 𝔾 (logOf (now (circuit .entry)) instances (now (witness .entry)) (now (challenges .entry)))) → now (columns .exit) ≡ writeAt (now (columns .entry)) (hOffset (circuitOf (now (circuit .entry)))) (wordsOf (rowsOf (circuitOf (now (circuit .entry)))) (lastPolys 𝔾 (logOf (now (circuit .entry)) instances (now (witness .entry)) (now (challenges .entry)))))) ⌝ }
 {
     let at = places_of(circuit, params);
     let user = params.num_challenges;
@@ -103,7 +103,7 @@ pub fn write_columns<'a>(
     params: CircuitParams,
 ) -> bool
     requires { ⌜ Prepared (now circuit) (now copied) params × (q12 (circuitOf (now circuit)) (now instance) (now witness) (now challenges) ≡ true) × (columnWords (circuitOf (now circuit)) ≤ length (now columns)) ⌝ }
-    ensures { λ r. ⌜ (r ≡ allCovered 𝔾 (logOf (now (circuit .entry)) (now (instance .entry)) (now (witness .entry)) (now (challenges .entry)))) × (now (columns .exit) ≡ cond (allCovered 𝔾 (logOf (now (circuit .entry)) (now (instance .entry)) (now (witness .entry)) (now (challenges .entry)))) (written (wordsOf (rowsOf (circuitOf (now (circuit .entry)))) (writtenPolys 𝔾 (logOf (now (circuit .entry)) (now (instance .entry)) (now (witness .entry)) (now (challenges .entry))))) (now (columns .entry))) (written (replicate (columnWords (circuitOf (now (circuit .entry)))) 0) (now (columns .entry)))) ⌝ }
+    ensures { λ r. ⌜ (r ≡ allCovered 𝔾 (logOf (now (circuit .entry)) (now (instance .entry)) (now (witness .entry)) (now (challenges .entry)))) × (now (columns .exit) ≡ cond (allCovered 𝔾 (logOf (now (circuit .entry)) (now (instance .entry)) (now (witness .entry)) (now (challenges .entry)))) (writePrefix (wordsOf (rowsOf (circuitOf (now (circuit .entry)))) (writtenPolys 𝔾 (logOf (now (circuit .entry)) (now (instance .entry)) (now (witness .entry)) (now (challenges .entry))))) (now (columns .entry))) (writePrefix (replicate (columnWords (circuitOf (now (circuit .entry)))) 0) (now (columns .entry)))) ⌝ }
 {
     columns_before_m(circuit, instance, witness, challenges, columns, copied);
     let at = places_of(circuit, params);

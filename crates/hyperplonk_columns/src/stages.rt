@@ -28,18 +28,18 @@ ghost use Prim.Native.Nat.{_+_, _*_, _^_, _≤_};
 ghost use lib.ListN.{length};
 ghost use Rattle.field.specs.Field.{𝔾};
 ghost use Rattle.field.specs.Element.{elem};
-ghost use Rattle.lists.specs.Lists.{over, total};
-ghost use Rattle.backend.specs.Circuit.{Section, bodyOf, circuitOf, rowsOf, numInstance, numUser, numLookups, copied as copiedOf, numCopied};
+ghost use Rattle.lists.specs.Lists.{writeAt, total};
+ghost use Rattle.backend.specs.Circuit.{Section, bodyOf, circuitOf, rowsOf, numInstance, numChallenges, numLookups, copied as copiedOf, numCopied};
 ghost use Rattle.preprocessor.specs.Compose.{numZ};
 ghost use Rattle.prover.specs.Words.{wordsOf};
 ghost use Rattle.prover.specs.Lent.{environmentFromWords, compressedPolysIn};
-ghost use Rattle.hyperplonk_prepare.specs.Prepared.{Accepted, layoutOf, permutationOffset, compressedOffset, zOffset};
+ghost use Rattle.hyperplonk_prepare.specs.Prepared.{Accepted, layoutFromWords, permutationOffset, compressedOffset, zOffset};
 ghost use Rattle.hyperplonk_columns.specs.Stages.{instanceWords, permutationWords, compressedWords, zWords};
 
 // Where the polynomials that are given stand.
 pub fn layout_of(circuit: &[u64]) -> Layout
     requires { ⌜ Accepted (now circuit) ⌝ }
-    ensures { λ r. ⌜ r ≡ layoutOf (now (circuit .entry)) ⌝ }
+    ensures { λ r. ⌜ r ≡ layoutFromWords (now (circuit .entry)) ⌝ }
 {
     let all = rows(circuit);
     let witness = num_witness(circuit);
@@ -58,7 +58,7 @@ pub fn layout_of(circuit: &[u64]) -> Layout
 // The instance columns, at the front of the buffer.
 pub fn instance_columns(circuit: &[u64], instance: &[u64], columns: &mut [u64])
     requires { ⌜ Accepted (now circuit) × (total (bodyOf (now circuit) Section.instances) ≡ length (now instance)) × (numInstance (circuitOf (now circuit)) * rowsOf (circuitOf (now circuit)) ≤ length (now columns)) ⌝ }
-    ensures { λ _. ⌜ now (columns .exit) ≡ over (now (columns .entry)) 0 (instanceWords (now (circuit .entry)) (now (instance .entry))) ⌝ }
+    ensures { λ _. ⌜ now (columns .exit) ≡ writeAt (now (columns .entry)) 0 (instanceWords (now (circuit .entry)) (now (instance .entry))) ⌝ }
 {
     let k = index(k_of(circuit));
     let lengths = instances_of(circuit);
@@ -68,7 +68,7 @@ pub fn instance_columns(circuit: &[u64], instance: &[u64], columns: &mut [u64])
 // The permutation columns, behind the instance columns. `copied` are the copied columns.
 pub fn permutation_columns(circuit: &[u64], copied: &[u64], columns: &mut [u64])
     requires { ⌜ Accepted (now circuit) × (now copied ≡ copiedOf (circuitOf (now circuit))) × (compressedOffset (circuitOf (now circuit)) ≤ length (now columns)) ⌝ }
-    ensures { λ _. ⌜ now (columns .exit) ≡ over (now (columns .entry)) (permutationOffset (circuitOf (now (circuit .entry)))) (permutationWords (now (circuit .entry))) ⌝ }
+    ensures { λ _. ⌜ now (columns .exit) ≡ writeAt (now (columns .entry)) (permutationOffset (circuitOf (now (circuit .entry)))) (permutationWords (now (circuit .entry))) ⌝ }
 {
     let layout = layout_of(circuit);
     let at = layout.instances * layout.rows;
@@ -88,8 +88,8 @@ fn compressed_from<'a>(
     beta: Goldilocks,
     to: usize,
 )
-    requires { ⌜ Accepted (now circuit) × (layout ≡ layoutOf (now circuit)) × (k ≡ circuitOf (now circuit) .k) × (numInstance (circuitOf (now circuit)) * 2 ^ k ≤ to) × (to + numLookups (circuitOf (now circuit)) * (2 ^ k + 2 ^ k) ≤ length (now columns)) ⌝ }
-    ensures { λ _. ⌜ now (columns .exit) ≡ over (now (columns .entry)) to (wordsOf (2 ^ k) (compressedPolysIn 𝔾 (environmentFromWords (now (circuit .entry)) (now (witness .entry)) (now (columns .entry)) (now (user .entry)) layout k) (elem beta) (circuitOf (now (circuit .entry)) .lookups))) ⌝ }
+    requires { ⌜ Accepted (now circuit) × (layout ≡ layoutFromWords (now circuit)) × (k ≡ circuitOf (now circuit) .k) × (numInstance (circuitOf (now circuit)) * 2 ^ k ≤ to) × (to + numLookups (circuitOf (now circuit)) * (2 ^ k + 2 ^ k) ≤ length (now columns)) ⌝ }
+    ensures { λ _. ⌜ now (columns .exit) ≡ writeAt (now (columns .entry)) to (wordsOf (2 ^ k) (compressedPolysIn 𝔾 (environmentFromWords (now (circuit .entry)) (now (witness .entry)) (now (columns .entry)) (now (user .entry)) layout k) (elem beta) (circuitOf (now (circuit .entry)) .lookups))) ⌝ }
 {
     let nodes = nodes_of(circuit);
     let widths = widths_of(circuit);
@@ -112,8 +112,8 @@ pub fn compressed_columns<'a>(
     challenges: &'a [u64],
     copied: usize,
 )
-    requires { ⌜ Accepted (now circuit) × (length (now challenges) ≡ numUser (circuitOf (now circuit)) + 2) × (copied ≡ numCopied (circuitOf (now circuit))) × (compressedOffset (circuitOf (now circuit)) + numLookups (circuitOf (now circuit)) * 2 * rowsOf (circuitOf (now circuit)) ≤ length (now columns)) ⌝ }
-    ensures { λ _. ⌜ now (columns .exit) ≡ over (now (columns .entry)) (compressedOffset (circuitOf (now (circuit .entry)))) (compressedWords (now (circuit .entry)) (now (witness .entry)) (now (columns .entry)) (now (challenges .entry))) ⌝ }
+    requires { ⌜ Accepted (now circuit) × (length (now challenges) ≡ numChallenges (circuitOf (now circuit)) + 2) × (copied ≡ numCopied (circuitOf (now circuit))) × (compressedOffset (circuitOf (now circuit)) + numLookups (circuitOf (now circuit)) * 2 * rowsOf (circuitOf (now circuit)) ≤ length (now columns)) ⌝ }
+    ensures { λ _. ⌜ now (columns .exit) ≡ writeAt (now (columns .entry)) (compressedOffset (circuitOf (now (circuit .entry)))) (compressedWords (now (circuit .entry)) (now (witness .entry)) (now (columns .entry)) (now (challenges .entry))) ⌝ }
 {
     let k = index(k_of(circuit));
     let layout = layout_of(circuit);
@@ -143,7 +143,7 @@ pub fn z_columns(
     chunks: usize,
 )
     requires { ⌜ Accepted (now circuit) × (now copied ≡ copiedOf (circuitOf (now circuit))) × (chunks ≡ numZ (circuitOf (now circuit))) × (zOffset (circuitOf (now circuit)) + numZ (circuitOf (now circuit)) * rowsOf (circuitOf (now circuit)) ≤ length (now columns)) ⌝ }
-    ensures { λ _. ⌜ now (columns .exit) ≡ over (now (columns .entry)) (zOffset (circuitOf (now (circuit .entry)))) (zWords (now (circuit .entry)) (now (witness .entry)) (now (columns .entry)) (now (challenges .entry))) ⌝ }
+    ensures { λ _. ⌜ now (columns .exit) ≡ writeAt (now (columns .entry)) (zOffset (circuitOf (now (circuit .entry)))) (zWords (now (circuit .entry)) (now (witness .entry)) (now (columns .entry)) (now (challenges .entry))) ⌝ }
 {
     let k = index(k_of(circuit));
     let layout = layout_of(circuit);

@@ -10,7 +10,7 @@ use lib.ListN.{length, getD}
 use lib.Dec.{leb}
 use lib.Pow.{pow-pos, pow-mono}
 use borrow.Author.Tests.{leb-true}
-use Rattle.lists.specs.Lists.{below, allOf, largest, total, concat, split, ceilDiv}
+use Rattle.lists.specs.Lists.{range, allOf, maximum, total, concat, split, ceilDiv}
 use Rattle.lists.proofs.Tests.{and-left, and-right, all-each}
 use Rattle.lists.proofs.All.{all-from}
 use Rattle.lists.proofs.Columns.{below-length}
@@ -18,11 +18,11 @@ use Rattle.lists.proofs.Lists.{split-length}
 use Rattle.lists.proofs.Totals.{ceil-le}
 use Rattle.lists.proofs.Searches.{count-le}
 use Rattle.expression.specs.Expr.{Expr, degree}
-use Rattle.backend.specs.Circuit.{Section, entry, entries, wordK, bodyOf, Cell, cellsOf, cellsName, statedOf, circuitOf, rowsOf, numInstance, numWitness, numUser, numPoly, numLookups, copiedIn, copied, numCopied}
+use Rattle.backend.specs.Circuit.{Section, entry, entries, wordK, bodyOf, Cell, cellsOf, cellsName, statedOf, circuitOf, rowsOf, numInstance, numWitness, numChallenges, numPoly, numLookups, copiedIn, copied, numCopied}
 use Rattle.backend.specs.Constraints.{lookupConstraints, leastD, maxDegree}
 use Rattle.backend.specs.Layout.{laidOut}
 use Rattle.backend.specs.Questions.{roundsGood, atMost, q5, q7, q10}
-use Rattle.backend.specs.Laid.{Laid, Counted}
+use Rattle.backend.specs.Laid.{ContentsValid, BodiesValid}
 use Rattle.backend.proofs.Sections.{body-length}
 use Rattle.backend.proofs.Numbers.{polys}
 use Rattle.backend.proofs.Passed.{Yes, yes-all}
@@ -33,12 +33,12 @@ use Rattle.preprocessor.specs.ComposeWords.{IsNode, Limits, Words, ComposeInput
 use Rattle.preprocessor.proofs.Copied.{walkable, cells-of}
 use Rattle.preprocessor.proofs.Composed.{circuit-decoded}
 use Rattle.prover.specs.Lent.{Given}
-use Rattle.hyperplonk_prepare.specs.Prepared.{Accepted, layoutOf}
+use Rattle.hyperplonk_prepare.specs.Prepared.{Accepted, layoutFromWords}
 
 pub answers : (ws : List ℕ) → Accepted ws → Yes ws
 answers ws a = yes-all ws a
 
-pub laid-counted : (ws : List ℕ) → Accepted ws → Laid ws × Counted ws
+pub laid-counted : (ws : List ℕ) → Accepted ws → ContentsValid ws × BodiesValid ws
 laid-counted ws a = (answers ws a .laid, answers ws a .counted)
 
 -- ---- over plain numbers and lists
@@ -46,7 +46,7 @@ laid-counted ws a = (answers ws a .laid, answers ws a .counted)
 -- the copied columns are some of the polynomials
 copied-le : (polys : ℕ) (xs : List Cell) → length (copiedIn polys xs) ≤ polys
 unfolding copiedIn
-copied-le polys xs = let q = count-le (cellsName xs) (below polys) in let e = below-length polys in omega arith
+copied-le polys xs = let q = count-le (cellsName xs) (range polys) in let e = below-length polys in omega arith
 
 ceil-fewer : (n d : ℕ) → 0 < d → ceilDiv n d ≤ n
 ceil-fewer n d h = ceil-le n d n h (let e = mul-one n in let m : n * 1 ≤ n * d = mul-le-mul (omega arith) h in omega arith)
@@ -60,10 +60,10 @@ least-in w h = go (decLt 3 w)
     go (no l) = let e = least-low w (omega arith) in (omega arith, omega arith)
 
 module _ (ws : List ℕ) (a : Accepted ws) where
-  pub laid-of : Laid ws
+  pub laid-of : ContentsValid ws
   laid-of = answers ws a .laid
 
-  pub counted-of : Counted ws
+  pub counted-of : BodiesValid ws
   counted-of = answers ws a .counted
 
   -- ---- k and the rows
@@ -154,7 +154,7 @@ module _ (ws : List ℕ) (a : Accepted ws) where
   pub few-witness : numWitness (circuitOf ws) ≤ 32
   few-witness = counted-of .few-witness
 
-  pub few-user : numUser (circuitOf ws) ≤ 16
+  pub few-user : numChallenges (circuitOf ws) ≤ 16
   few-user = counted-of .few-user
 
   pub few-polys : numPoly (circuitOf ws) ≤ 72
@@ -177,18 +177,18 @@ module _ (ws : List ℕ) (a : Accepted ws) where
   unfolding circuitOf
   stated-in = least-in (getD ws 1 0) (laid-of .degree)
 
-  degrees-in : largest (map degree (circuitOf ws .constraints ++ lookupConstraints (circuitOf ws))) ≤ 1024
+  degrees-in : maximum (map degree (circuitOf ws .constraints ++ lookupConstraints (circuitOf ws))) ≤ 1024
   unfolding q10
   degrees-in =
       let es : List Expr = circuitOf ws .constraints ++ lookupConstraints (circuitOf ws) in
-      leb-true (largest (map degree es)) 1024
+      leb-true (maximum (map degree es)) 1024
       (sym (all-most degree 1024 es)
       ∙ and-left (allOf (λ e. leb (degree e) 1024) es) (allOf (λ e. atMost (circuitOf ws .stated) (degree e)) (circuitOf ws .constraints))
       (answers ws a .ten))
 
   degree-is : maxDegree (circuitOf ws)
-      ≡ max (leastD (circuitOf ws .stated)) (largest (map degree (circuitOf ws .constraints ++ lookupConstraints (circuitOf ws))))
-  unfolding maxDegree largest
+      ≡ max (leastD (circuitOf ws .stated)) (maximum (map degree (circuitOf ws .constraints ++ lookupConstraints (circuitOf ws))))
+  unfolding maxDegree maximum
   degree-is = refl
 
   pub two-degree : 2 ≤ maxDegree (circuitOf ws)
@@ -257,8 +257,8 @@ module _ (ws : List ℕ) (a : Accepted ws) where
       (walkable (circuitOf ws) (answers ws a .eleven) few-polys)
 
   -- ---- where the given polynomials stand
-  pub given : Given (wordK ws) (layoutOf ws)
-  unfolding layoutOf
+  pub given : Given (wordK ws) (layoutFromWords ws)
+  unfolding layoutFromWords
   given =
       record {
         small =

@@ -4,7 +4,7 @@ use mathlib.Core.Bool.{true, false}
 use mathlib.Core.List.{List, [], _∷_, _++_, map}
 use Prim.Native.Nat.{ℕ, suc, _-_}
 use native.Mathlib.Omega.{arith}
-use Rattle.lists.specs.Lists.{Asked, asked, askedOf, firstNo}
+use Rattle.lists.specs.Lists.{Question, question, questionOf, firstNo}
 use Rattle.lists.proofs.First.{first-none, first-next, first-number, first-append, first-refused, first-of, numbered-of}
 use Rattle.backend.specs.Circuit.{circuitOf}
 use Rattle.backend.specs.Questions.{circuitQuestions}
@@ -24,14 +24,14 @@ module _ (ws instances witness challenges columns nodes : List ℕ) where
         nodes = nodes;
       }
 
-  abbrev first : List (Asked Lent)
-  first = map (askedOf (λ (l : Lent). l .circuit)) circuitQuestions
+  abbrev first : List (Question Lent)
+  first = map (questionOf (λ (l : Lent). l .circuit)) circuitQuestions
 
-  abbrev last : List (Asked Lent)
+  abbrev last : List (Question Lent)
   last =
-      asked 12 (λ (l : Lent). q12 (circuitOf (l .circuit)) (l .instances) (l .witness) (l .challenges))
-      ∷ asked 13 (λ (l : Lent). q13 (l .instances) (l .witness) (l .challenges))
-      ∷ asked 14 (λ (l : Lent). q14 (circuitOf (l .circuit)) (l .columns) (l .nodes))
+      question 12 (λ (l : Lent). q12 (circuitOf (l .circuit)) (l .instances) (l .witness) (l .challenges))
+      ∷ question 13 (λ (l : Lent). q13 (l .instances) (l .witness) (l .challenges))
+      ∷ question 14 (λ (l : Lent). q14 (circuitOf (l .circuit)) (l .columns) (l .nodes))
       ∷ []
 
   check-is : checkBuild (lentBuild ws instances witness challenges columns nodes) ≡ firstNo (first ++ last) lent

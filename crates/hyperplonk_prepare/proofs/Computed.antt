@@ -15,7 +15,7 @@ use Rattle.lists.proofs.All.{all-from}
 use Rattle.lists.proofs.Columns.{column-length}
 use Rattle.lists.proofs.Once.{same-tests}
 use Rattle.lists.proofs.Parts.{concat-split}
-use Rattle.backend.specs.Circuit.{Section, wordK, bodyOf, wordEach, cellAt, cellsOf, statedOf, circuitOf, rowsOf, numWitness, numUser, numPoly, numLookups, copiedIn, copied, numCopied}
+use Rattle.backend.specs.Circuit.{Section, wordK, bodyOf, wordEach, cellAt, cellsOf, statedOf, circuitOf, rowsOf, numWitness, numChallenges, numPoly, numLookups, copiedIn, copied, numCopied}
 use Rattle.backend.specs.Constraints.{maxDegree}
 use Rattle.backend.specs.Degrees.{largestDegree, degreesFit}
 use Rattle.backend.proofs.Numbers.{each-one, not-past}
@@ -88,7 +88,7 @@ module _ (ws : List ℕ) (a : Accepted ws) where
 
   pub numbers-from : (polys copies lookups user rows degree : ℕ) → polys ≡ numPoly (circuitOf ws) → copies ≡ numCopied (circuitOf ws)
       → lookups ≡ numLookups (circuitOf ws)
-      → user ≡ numUser (circuitOf ws)
+      → user ≡ numChallenges (circuitOf ws)
       → rows ≡ 2 ^ wordK ws
       → degree ≡ maxDegree (circuitOf ws)
       → _≡_ {A = CircuitParams}
@@ -156,7 +156,7 @@ module _ (ws : List ℕ) (a : Accepted ws) where
   pub twelve : (is ss cs : List ℕ) (values columns rows user : ℕ) → values ≡ total (circuitOf ws .instances)
       → columns ≡ numWitness (circuitOf ws)
       → rows ≡ 2 ^ wordK ws
-      → user ≡ numUser (circuitOf ws)
+      → user ≡ numChallenges (circuitOf ws)
       → (eqb (length is) values && eqb (length ss) (columns * rows) && eqb (length cs) (user + 2)) ≡ q12 (circuitOf ws) is ss cs
   unfolding q12
   twelve is ss cs values columns rows user v c r u = rw (v, c, r ∙ sym (known.rows-is ws a), u)

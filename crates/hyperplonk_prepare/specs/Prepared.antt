@@ -20,8 +20,8 @@ pub record Prepared (ws names : List ℕ) (params : CircuitParams) : Type 0 wher
   pub params-are : params ≡ paramsOf (circuitOf ws)
 
 -- where the polynomials that are given stand
-unfoldable pub layoutOf : List ℕ → Layout
-layoutOf ws =
+unfoldable pub layoutFromWords : List ℕ → Layout
+layoutFromWords ws =
     record {
       rows = 2 ^ wordK ws;
       instances = entries ws Section.instances;

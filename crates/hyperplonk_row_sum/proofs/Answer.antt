@@ -9,7 +9,7 @@ use lib.ListN.{length, getD, take}
 use lib.Seq.{length-take-le}
 use borrow.Author.Tests.{ne-eqb}
 use Rattle.field.specs.Field.{val}
-use Rattle.lists.specs.Lists.{askedOf, firstNo}
+use Rattle.lists.specs.Lists.{questionOf, firstNo}
 use Rattle.lists.proofs.First.{first-next, first-number, first-append, first-refused, first-of, numbered-of}
 use Rattle.expression.specs.declared.poly.Layout.{Layout}
 use Rattle.backend.specs.Circuit.{wordK, circuitOf, copied}
@@ -48,7 +48,7 @@ module _ (ws witness columns nodes challenges y : List ℕ) where
   refused-early n e h =
       let s : n ≡ suc (n - 1) = omega arith in
       let told : number ≡ n =
-      first-refused (map (askedOf (λ (l : LentSum). l .circuit)) circuitQuestions) _ lent (n - 1)
+      first-refused (map (questionOf (λ (l : LentSum). l .circuit)) circuitQuestions) _ lent (n - 1)
       (first-of (λ (l : LentSum). l .circuit) circuitQuestions lent ∙ sym e ∙ s)
       ∙ sym s
       in
@@ -67,7 +67,7 @@ module _ (ws witness columns nodes challenges y : List ℕ) where
     unfolding checkSum sumQuestions
     refused-late r e h =
         let told : number ≡ 16 =
-        first-append (map (askedOf (λ (l : LentSum). l .circuit)) circuitQuestions) _ lent
+        first-append (map (questionOf (λ (l : LentSum). l .circuit)) circuitQuestions) _ lent
         (first-of (λ (l : LentSum). l .circuit) circuitQuestions lent ∙ a)
         (numbered-of (λ (l : LentSum). l .circuit) circuitQuestions numbered)
         ∙ first-number _ _ lent (says-no r sixteen e h)
@@ -94,7 +94,7 @@ module _ (ws witness columns nodes challenges y : List ℕ) where
       unfolding checkSum sumQuestions
       answered s q =
           let told : number ≡ 0 =
-          first-append (map (askedOf (λ (l : LentSum). l .circuit)) circuitQuestions) _ lent
+          first-append (map (questionOf (λ (l : LentSum). l .circuit)) circuitQuestions) _ lent
           (first-of (λ (l : LentSum). l .circuit) circuitQuestions lent ∙ a)
           (numbered-of (λ (l : LentSum). l .circuit) circuitQuestions numbered)
           ∙ first-next _ _ lent yes-16 ∙ none-asked

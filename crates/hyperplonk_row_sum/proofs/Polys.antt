@@ -7,7 +7,7 @@ use lib.ListN.{getD, length-map}
 use Rattle.field.specs.Field.{𝔾, el}
 use Rattle.bh.specs.Rows.{rotated}
 use Rattle.bh.proofs.Turn.{rotated-lt}
-use Rattle.lists.specs.Lists.{column}
+use Rattle.lists.specs.Lists.{tabulate}
 use Rattle.lists.proofs.Columns.{column-length}
 use Rattle.lists.proofs.Lists.{get-map}
 use Rattle.expression.specs.Expr.{Expr}
@@ -23,7 +23,7 @@ use Rattle.preprocessor.specs.Compose.{numZ}
 use Rattle.prover.specs.Columns.{preprocessPolys, witnessPolys}
 use Rattle.prover.proofs.Lent.{preprocess-word}
 use Rattle.hyperplonk_spec.specs.Build.{logOf}
-use Rattle.hyperplonk_spec.specs.RowSum.{lentPolys, environmentFromWords}
+use Rattle.hyperplonk_spec.specs.RowSum.{lentPolys, rowSumEnvironment}
 use Rattle.expression.proofs.SameRows.{Same, same-refl, same-append, same-column, same-at}
 use Rattle.hyperplonk_prepare.specs.Prepared.{Accepted}
 use Rattle.hyperplonk_prepare.proofs.Accepted.{instances-entries}
@@ -48,7 +48,7 @@ module _ (ws witness columns : List ℕ) (accepted : Accepted ws) where
   columnAt i b = el (getD columns (i * rows + b) 0)
 
   preprocess-same : Same 𝔾 rows
-      (column (λ i b. el (getD ws (startOf ws Section.preprocess + i * rows + b) 0)) (entries ws Section.preprocess))
+      (tabulate (λ i b. el (getD ws (startOf ws Section.preprocess + i * rows + b) 0)) (entries ws Section.preprocess))
       (preprocessPolys 𝔾 (logOf ws [] witness []))
   unfolding preprocessPolys logOf
   preprocess-same =
@@ -63,23 +63,23 @@ module _ (ws witness columns : List ℕ) (accepted : Accepted ws) where
   abbrev n : ℕ
   n = numInstance (circuitOf ws)
 
-  instance-same : column columnAt (entries ws Section.instances) ≡ column (λ i b. el (getD columns (i * 2 ^ circuitOf ws .k + b) 0)) n
+  instance-same : tabulate columnAt (entries ws Section.instances) ≡ tabulate (λ i b. el (getD columns (i * 2 ^ circuitOf ws .k + b) 0)) n
   unfolding circuitOf
-  instance-same = ap (column columnAt) instances-are
+  instance-same = ap (tabulate columnAt) instances-are
 
-  witness-same : column (λ i b. el (getD witness (i * rows + b) 0)) (numWitness (circuitOf ws)) ≡ witnessPolys 𝔾 (logOf ws [] witness [])
+  witness-same : tabulate (λ i b. el (getD witness (i * rows + b) 0)) (numWitness (circuitOf ws)) ≡ witnessPolys 𝔾 (logOf ws [] witness [])
   unfolding circuitOf witnessPolys logOf
   witness-same = refl
 
-  permutation-same : column (λ i. columnAt (entries ws Section.instances + i)) (numCopied (circuitOf ws))
-      ≡ column (λ i b. el (getD columns ((n + i) * 2 ^ circuitOf ws .k + b) 0)) (numCopied (circuitOf ws))
+  permutation-same : tabulate (λ i. columnAt (entries ws Section.instances + i)) (numCopied (circuitOf ws))
+      ≡ tabulate (λ i b. el (getD columns ((n + i) * 2 ^ circuitOf ws .k + b) 0)) (numCopied (circuitOf ws))
   unfolding circuitOf
-  permutation-same = ap (λ (m : ℕ). column (λ i. columnAt (m + i)) (numCopied (circuitOf ws))) instances-are
+  permutation-same = ap (λ (m : ℕ). tabulate (λ i. columnAt (m + i)) (numCopied (circuitOf ws))) instances-are
 
-  rest-same : column (λ i. columnAt (entries ws Section.instances + numCopied (circuitOf ws) + numLookups (circuitOf ws) * 2 + i)) (numLookups (circuitOf ws) * 2 + numZ (circuitOf ws))
-      ≡ column (λ i b. el (getD columns ((n + numCopied (circuitOf ws) + numLookups (circuitOf ws) * 2 + i) * 2 ^ circuitOf ws .k + b) 0)) (numLookups (circuitOf ws) * 2 + numZ (circuitOf ws))
+  rest-same : tabulate (λ i. columnAt (entries ws Section.instances + numCopied (circuitOf ws) + numLookups (circuitOf ws) * 2 + i)) (numLookups (circuitOf ws) * 2 + numZ (circuitOf ws))
+      ≡ tabulate (λ i b. el (getD columns ((n + numCopied (circuitOf ws) + numLookups (circuitOf ws) * 2 + i) * 2 ^ circuitOf ws .k + b) 0)) (numLookups (circuitOf ws) * 2 + numZ (circuitOf ws))
   unfolding circuitOf
-  rest-same = ap (λ (m : ℕ). column (λ i. columnAt (m + numCopied (circuitOf ws) + numLookups (circuitOf ws) * 2 + i)) (numLookups (circuitOf ws) * 2 + numZ (circuitOf ws))) instances-are
+  rest-same = ap (λ (m : ℕ). tabulate (λ i. columnAt (m + numCopied (circuitOf ws) + numLookups (circuitOf ws) * 2 + i)) (numLookups (circuitOf ws) * 2 + numZ (circuitOf ws))) instances-are
 
   pub sum-polys : Same 𝔾 rows (polysOf (sumLayout ws) ws witness columns) (lentPolys ws witness columns)
   unfolding polysOf sumLayout lentPolys
@@ -98,8 +98,8 @@ module _ (ws witness columns challenges y : List ℕ) (accepted : Accepted ws) (
 
   pub point-value : (e : Expr)
       → valueAt 𝔾 (environmentOf ws witness columns challenges (sumLayout ws) p) e (p .row)
-      ≡ valueAt 𝔾 (environmentFromWords ws witness columns challenges y) e (p .row)
-  unfolding environmentOf environmentFromWords
+      ≡ valueAt 𝔾 (rowSumEnvironment ws witness columns challenges y) e (p .row)
+  unfolding environmentOf rowSumEnvironment
   point-value e =
       agree-value 𝔾 anything _ _ (p .row)
       (record {

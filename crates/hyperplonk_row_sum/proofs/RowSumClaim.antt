@@ -6,7 +6,7 @@ use Prim.Native.Nat.{ℕ, _-_}
 use native.Mathlib.Decide.{ℕ-discrete}
 use borrow.Author.Tests.{ne-eqb}
 use Rattle.field.specs.Field.{𝔾, val}
-use Rattle.lists.specs.Lists.{askedOf}
+use Rattle.lists.specs.Lists.{questionOf}
 use Rattle.lists.proofs.First.{first-yes, first-both, numbered-of}
 use Rattle.expression.specs.Expr.{Expr}
 use Rattle.expression.specs.Nodes.{exprOf}
@@ -15,7 +15,7 @@ use Rattle.backend.specs.Circuit.{circuitOf, rowsOf}
 use Rattle.backend.specs.Questions.{circuitQuestions}
 use Rattle.preprocessor.specs.Compose.{compose, composedWords, composedNodes}
 use Rattle.prover.specs.Lookup.{sumRows}
-use Rattle.hyperplonk_spec.specs.RowSum.{q16, LentSum, sumQuestions, checkSum, environmentFromWords, sumOf, rowSumOf, lentSum}
+use Rattle.hyperplonk_spec.specs.RowSum.{q16, LentSum, sumQuestions, checkSum, rowSumEnvironment, sumOf, rowSumOf, lentSum}
 use Rattle.hyperplonk_spec.specs.declared.RowSum.{RowSum}
 use Rattle.hyperplonk_spec.proofs.ReadsBack.{reads-back}
 use Rattle.backend.proofs.Passed.{numbered}
@@ -50,7 +50,7 @@ module _ (ws witness columns nodes challenges y : List ℕ) where
   unfolding checkSum sumQuestions
   yes-16 e =
       first-yes _ _ lent 15 refl
-      (first-both (map (askedOf (λ (l : LentSum). l .circuit)) circuitQuestions) _ lent e
+      (first-both (map (questionOf (λ (l : LentSum). l .circuit)) circuitQuestions) _ lent e
       (numbered-of (λ (l : LentSum). l .circuit) circuitQuestions numbered)
       .1)
       .0
@@ -58,10 +58,10 @@ module _ (ws witness columns nodes challenges y : List ℕ) where
   -- the nodes are read as the composed expression
   sum-composed : nodes ≡ composedWords (circuitOf ws)
       → sumOf (lentSum ws witness columns nodes challenges y)
-      ≡ sumRows 𝔾 (rowsOf (circuitOf ws)) (valueAt 𝔾 (environmentFromWords ws witness columns challenges y) (compose (circuitOf ws)))
+      ≡ sumRows 𝔾 (rowsOf (circuitOf ws)) (valueAt 𝔾 (rowSumEnvironment ws witness columns challenges y) (compose (circuitOf ws)))
   unfolding sumOf
   sum-composed e =
-      ap (λ (x : Expr). sumRows 𝔾 (rowsOf (circuitOf ws)) (valueAt 𝔾 (environmentFromWords ws witness columns challenges y) x))
+      ap (λ (x : Expr). sumRows 𝔾 (rowsOf (circuitOf ws)) (valueAt 𝔾 (rowSumEnvironment ws witness columns challenges y) x))
       (ap (λ (ns : List ℕ). exprOf ns (composedNodes (circuitOf ws) - 1)) e ∙ reads-back ws)
 
   same-lent : (cs cs' ns ns' vs vs' : List ℕ) → cs ≡ cs' → ns ≡ ns' → vs ≡ vs' → rowSumOf (lentSum ws witness cs ns vs y) ≡ rowSumOf (lentSum ws witness cs' ns' vs' y)

@@ -14,7 +14,7 @@ use Rattle.lists.proofs.Tests.{false-true, by-test, and-left, and-right}
 use Rattle.lists.proofs.Same.{words-same}
 use Rattle.expression.specs.declared.poly.Layout.{Layout}
 use Rattle.expression.proofs.FlatLength.{flat-length}
-use Rattle.backend.specs.Circuit.{Circuit, wordK, circuitOf, rowsOf, numWitness, numUser}
+use Rattle.backend.specs.Circuit.{Circuit, wordK, circuitOf, rowsOf, numWitness, numChallenges}
 use Rattle.backend.specs.Questions.{small}
 use Rattle.backend.proofs.Answers.{says-no, says-yes}
 use Rattle.backend.proofs.Numbers.{polys}
@@ -25,7 +25,7 @@ use Rattle.hyperplonk_spec.specs.Build.{columnWords}
 use Rattle.hyperplonk_spec.specs.RowSum.{q16}
 use Rattle.hyperplonk_prepare.specs.Prepared.{Accepted}
 use Rattle.hyperplonk_prepare.proofs.Accepted as known
-use Rattle.hyperplonk_row_sum.specs.Sum.{lengthsRight, valuesSmall, sumLayout}
+use Rattle.hyperplonk_row_sum.specs.Sum.{lengthsRight, lentSmall, sumLayout}
 
 -- ---- words that are the same are as many
 composed-length : (c : Circuit) → length (composedWords c) ≡ composedNodes c * 4
@@ -65,7 +65,7 @@ module _ (x l s a b c d : Bool) where
 module _ (c : Circuit) (witness columns nodes challenges y : List ℕ) where
   abbrev others : Bool
   others =
-      eqb (length witness) (numWitness c * rowsOf c) && eqb (length columns) (columnWords c) && eqb (length challenges) (numUser c + 3)
+      eqb (length witness) (numWitness c * rowsOf c) && eqb (length columns) (columnWords c) && eqb (length challenges) (numChallenges c + 3)
       && eqb (length y) (c .k)
 
   abbrev many : Bool
@@ -88,9 +88,9 @@ module _ (c : Circuit) (witness columns nodes challenges y : List ℕ) where
   unfolding q16
   nodes-no r e h = no-nodes others many same (allOf small witness) (allOf small columns) (allOf small challenges) (allOf small y) (says-no r same e h)
 
-  pub rest-is : (r s t : Bool) → r ≡ lengths → not r ≡ false → s ≡ same → not s ≡ false → t ≡ valuesSmall witness columns challenges y
+  pub rest-is : (r s t : Bool) → r ≡ lengths → not r ≡ false → s ≡ same → not s ≡ false → t ≡ lentSmall witness columns challenges y
       → t ≡ q16 c witness columns nodes challenges y
-  unfolding lengthsRight valuesSmall q16
+  unfolding lengthsRight lentSmall q16
   rest-is r s t e h f i v =
       v
       ∙ yes-both others many same (allOf small witness) (allOf small columns) (allOf small challenges) (allOf small y) (says-yes r lengths e h)
@@ -106,7 +106,7 @@ module _ (c : Circuit) (witness columns nodes challenges y : List ℕ) where
   sixteen-yes e =
       let p = yes-lengths others many same (allOf small witness) (allOf small columns) (allOf small challenges) (allOf small y) e in
       let three : Bool =
-      eqb (length witness) (numWitness c * rowsOf c) && eqb (length columns) (columnWords c) && eqb (length challenges) (numUser c + 3) in
+      eqb (length witness) (numWitness c * rowsOf c) && eqb (length columns) (columnWords c) && eqb (length challenges) (numChallenges c + 3) in
       (eqb-true (length y) (c .k) (and-right three (eqb (length y) (c .k)) (p .0)), same-many c nodes (p .1))
 
   pub sixteen-nodes : q16 c witness columns nodes challenges y ≡ true → nodes ≡ composedWords c
@@ -128,8 +128,8 @@ counted-nodes n composed nodes e h = go (decLt n most)
 pub small-all : (ws xs ys zs : List ℕ) (p q r s : Bool) → p ≡ allOf (λ w. ltb w P) ws → q ≡ allOf (λ w. ltb w P) xs
     → r ≡ allOf (λ w. ltb w P) ys
     → s ≡ allOf (λ w. ltb w P) zs
-    → (p && q && r && s) ≡ valuesSmall ws xs ys zs
-unfolding valuesSmall
+    → (p && q && r && s) ≡ lentSmall ws xs ys zs
+unfolding lentSmall
 small-all ws xs ys zs p q r s a b c d = ap₂ _&&_ (ap₂ _&&_ (ap₂ _&&_ a b) c) d
 
 module _ (ws : List ℕ) (a : Accepted ws) (v : CircuitParams) (e : v ≡ paramsOf (circuitOf ws)) where

@@ -9,15 +9,15 @@ use Rattle.bh.specs.Rows.{rowAt}
 use Rattle.bh.proofs.Rows.{row-in, placed-at}
 use Rattle.expression.specs.Nodes.{exprOf}
 use Rattle.expression.specs.Value.{valueAt}
-use Rattle.expression.specs.Reader.{Small}
-use Rattle.expression.specs.Point.{Placed, environmentOf}
+use Rattle.expression.specs.Reader.{LayoutSmall}
+use Rattle.expression.specs.Point.{PointInOrder, environmentOf}
 use Rattle.expression.specs.declared.poly.Layout.{Layout}
 use Rattle.expression.specs.declared.value.Point.{Point}
 use Rattle.multilinear.specs.EqXY.{eqAt}
 use Rattle.backend.specs.Circuit.{circuitOf, wordK}
 use Rattle.preprocessor.specs.Compose.{composedNodes}
 use Rattle.prover.specs.Lookup.{sumRows}
-use Rattle.hyperplonk_spec.specs.RowSum.{environmentFromWords, sumOf, lentSum}
+use Rattle.hyperplonk_spec.specs.RowSum.{rowSumEnvironment, sumOf, lentSum}
 use Rattle.hyperplonk_prepare.specs.Prepared.{Accepted}
 use Rattle.hyperplonk_prepare.proofs.Accepted as known
 use Rattle.hyperplonk_row_sum.specs.Sum.{sumLayout, Summable}
@@ -28,7 +28,7 @@ pub some-nodes : (ws : List ℕ) → 0 < composedNodes (circuitOf ws)
 unfolding composedNodes
 some-nodes ws = omega arith
 
-pub sum-layout-small : (ws : List ℕ) → Accepted ws → Small (sumLayout ws)
+pub sum-layout-small : (ws : List ℕ) → Accepted ws → LayoutSmall (sumLayout ws)
 unfolding sumLayout
 sum-layout-small ws a =
     let n = known.few-copied ws a in
@@ -68,11 +68,11 @@ module _ (ws nodes y : List ℕ) (l : Layout) (k : ℕ) (s : Summable ws nodes y
   root-is : length nodes / 4 - 1 ≡ composedNodes (circuitOf ws) - 1
   root-is = let e = s .nodes-are in omega arith
 
-  pub layout-small : Small l
+  pub layout-small : LayoutSmall l
   layout-small = rw (s .layout-is) (sum-layout-small ws (s .accepted))
 
   module _ (row place : ℕ) (inside : place < 2 ^ k) (row-is : row ≡ rowAt k place) where
-    pub placed : (eq : ℕ) → Placed (record { k = k; row = row; place = place; eq = eq })
+    pub placed : (eq : ℕ) → PointInOrder (record { k = k; row = row; place = place; eq = eq })
     placed eq =
         record {
           positive = k-low;
@@ -84,9 +84,9 @@ module _ (ws nodes y : List ℕ) (l : Layout) (k : ℕ) (s : Summable ws nodes y
   module _ (witness columns challenges : List ℕ) where
     -- the value of the last node
     abbrev pub rootValue : ℕ → 𝔾 .F
-    rootValue = valueAt 𝔾 (environmentFromWords ws witness columns challenges y) (exprOf nodes (composedNodes (circuitOf ws) - 1))
+    rootValue = valueAt 𝔾 (rowSumEnvironment ws witness columns challenges y) (exprOf nodes (composedNodes (circuitOf ws) - 1))
 
-    pub value-is : (p : Point) (x : 𝔾 .F) → p .k ≡ k → Placed p → el (p .eq) ≡ eqAt 𝔾 k (λ i. el (getD y i 0)) (p .row)
+    pub value-is : (p : Point) (x : 𝔾 .F) → p .k ≡ k → PointInOrder p → el (p .eq) ≡ eqAt 𝔾 k (λ i. el (getD y i 0)) (p .row)
         → x ≡ valueAt 𝔾 (environmentOf ws witness columns challenges l p) (exprOf nodes (length nodes / 4 - 1)) (p .row)
         → x ≡ rootValue (p .row)
     value-is p x same h eq-is e =
@@ -95,7 +95,7 @@ module _ (ws nodes y : List ℕ) (l : Layout) (k : ℕ) (s : Summable ws nodes y
         ∙ point-value ws witness columns challenges y (s .accepted) p (same ∙ s .k-is) (h .small) (h .inside)
         (eq-is ∙ ap (λ (k : ℕ). eqAt 𝔾 k (λ i. el (getD y i 0)) (p .row)) (sym same))
         (exprOf nodes (length nodes / 4 - 1))
-        ∙ ap (λ (n : ℕ). valueAt 𝔾 (environmentFromWords ws witness columns challenges y) (exprOf nodes n) (p .row)) root-is
+        ∙ ap (λ (n : ℕ). valueAt 𝔾 (rowSumEnvironment ws witness columns challenges y) (exprOf nodes n) (p .row)) root-is
 
     pub sum-is : (sum : 𝔾 .F) (t : ℕ) → Added k rootValue sum t → t ≡ 2 ^ k → sum ≡ sumOf (lentSum ws witness columns nodes challenges y)
     unfolding sumOf

@@ -7,7 +7,7 @@ use lib.ListN.{length}
 use lib.Dec.{eqb}
 use Rattle.lists.specs.Lists.{allOf}
 use Rattle.expression.specs.declared.poly.Layout.{Layout}
-use Rattle.backend.specs.Circuit.{Section, Circuit, circuitOf, wordK, entries, startOf, rowsOf, numWitness, numUser, numCopied, numLookups}
+use Rattle.backend.specs.Circuit.{Section, Circuit, circuitOf, wordK, entries, startOf, rowsOf, numWitness, numChallenges, numCopied, numLookups}
 use Rattle.backend.specs.Questions.{small}
 use Rattle.preprocessor.specs.Compose.{numZ, composedNodes}
 use Rattle.hyperplonk_spec.specs.Build.{columnWords}
@@ -16,12 +16,12 @@ use Rattle.hyperplonk_prepare.specs.Prepared.{Accepted}
 -- "witness, columns, nodes, challenges with α, and y (k values) of the exact length", by their lengths
 unfoldable pub lengthsRight : Circuit → ℕ → ℕ → ℕ → ℕ → ℕ → Bool
 lengthsRight c witness columns nodes challenges y =
-    eqb witness (numWitness c * rowsOf c) && eqb columns (columnWords c) && eqb challenges (numUser c + 3) && eqb y (c .k)
+    eqb witness (numWitness c * rowsOf c) && eqb columns (columnWords c) && eqb challenges (numChallenges c + 3) && eqb y (c .k)
     && eqb nodes (composedNodes c * 4)
 
 -- "and all other values below p"
-unfoldable pub valuesSmall : List ℕ → List ℕ → List ℕ → List ℕ → Bool
-valuesSmall witness columns challenges y =
+unfoldable pub lentSmall : List ℕ → List ℕ → List ℕ → List ℕ → Bool
+lentSmall witness columns challenges y =
     allOf small witness && allOf small columns && allOf small challenges && allOf small y
 
 -- "Polynomial numbers run instance, preprocess, witness, permutation, m, h, z"; in the column words the compressed columns, two for

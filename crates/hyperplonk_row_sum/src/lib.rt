@@ -27,7 +27,7 @@ ghost use Rattle.backend.specs.Circuit.{circuitOf, copied};
 ghost use Rattle.preprocessor.specs.Compose.{paramsOf};
 ghost use Rattle.hyperplonk_spec.specs.RowSum.{q16, sumOf, rowSumOf, lentSum};
 ghost use Rattle.hyperplonk_prepare.specs.Prepared.{Accepted, Prepared};
-ghost use Rattle.hyperplonk_row_sum.specs.Sum.{lengthsRight, valuesSmall, sumLayout, Summable};
+ghost use Rattle.hyperplonk_row_sum.specs.Sum.{lengthsRight, lentSmall, sumLayout, Summable};
 ghost use Rattle.hyperplonk_spec.specs.RowSumClaim.{RowSumClaim};
 
 // Where the polynomials stand that the row sum reads.
@@ -76,7 +76,7 @@ fn lengths_right(
 
 // Question 16, of the values.
 fn values_small(witness: &[u64], columns: &[u64], challenges: &[u64], y: &[u64]) -> bool
-    ensures { λ r. ⌜ r ≡ valuesSmall (now (witness .entry)) (now (columns .entry)) (now (challenges .entry)) (now (y .entry)) ⌝ }
+    ensures { λ r. ⌜ r ≡ lentSmall (now (witness .entry)) (now (columns .entry)) (now (challenges .entry)) (now (y .entry)) ⌝ }
 {
     let first = all_elements(witness);
     let second = all_elements(columns);

@@ -17,7 +17,7 @@ use Rattle.bh.specs.Rows.{rotated, iter, nextRow, rowAt, modZ, lagrangeRow}
 use Rattle.identities.proofs.Fields.{sub-zero}
 use Rattle.expression.specs.Expr.{Expr, evaluate, productFrom, productOf}
 use Rattle.expression.specs.Value.{Environment, polyOf, valueOps, valueAt}
-use Rattle.backend.specs.Circuit.{Circuit, numUser, zNumber}
+use Rattle.backend.specs.Circuit.{Circuit, numChallenges, zNumber}
 use Rattle.backend.specs.Constraints.{lookupConstraint}
 use Rattle.preprocessor.specs.Compose.{numZ, constraintCut, nextZ, identityFactor, permutationFactor, startConstraint, nextTree, paramsOf, partTree, startTree}
 use Rattle.hyperplonk_spec.specs.Meaning.{Embeds}
@@ -51,8 +51,8 @@ module _ (𝓕 : Field) where
     unfolding valueAt valueOps evaluate lookupConstraint inputIn tableIn rotated iter
     lookup-zero j b =
         rw (
-          add-comm 𝓕 (getD (s .challenges) (numUser c + 1) zero) (inputIn 𝓕 s c j b),
-          add-comm 𝓕 (getD (s .challenges) (numUser c + 1) zero) (tableIn 𝓕 s c j b),
+          add-comm 𝓕 (getD (s .challenges) (numChallenges c + 1) zero) (inputIn 𝓕 s c j b),
+          add-comm 𝓕 (getD (s .challenges) (numChallenges c + 1) zero) (tableIn 𝓕 s c j b),
         )
         (moved _ _ _)
 

@@ -8,7 +8,7 @@ use lib.ListN.{length, getD}
 use Rattle.field.specs.Algebra.{Field, add-assoc, add-zero, mul-assoc, mul-add, mul-zero, one-mul, pow}
 use Rattle.bh.specs.Sums.{upTo}
 use Rattle.bh.specs.Rows.{rotated, iter}
-use Rattle.lists.specs.Lists.{column, All}
+use Rattle.lists.specs.Lists.{tabulate, All}
 use Rattle.lists.proofs.Columns.{map-column, column-first}
 use Rattle.identities.proofs.Totals.{upTo-first, upTo-units, upTo-cong, upTo-op}
 use Rattle.identities.proofs.Fields.{adds, mul-sum}
@@ -48,22 +48,22 @@ module _ (𝓕 : Field) where
   -- columns by powers, and last one that is zero: together they sum to zero where each column does
   pub sum-composed : (α : F) (H : ℕ → ℕ → F) (v : ℕ → F) (n rows : ℕ)
       → ((j : ℕ) → j < n → upTo add zero (λ b. H j b) rows ≡ zero) → ((b : ℕ) → b < rows → v b ≡ zero)
-      → upTo add zero (λ b. powerSum 𝓕 α (column (λ j. H j b) n ++ (v b ∷ []))) rows ≡ zero
-  unfolding column
-  sum-composed α H v ℕ.zero rows h z = upTo-units add zero (adds 𝓕) _ rows (λ b l. power-zeros α (column (λ j. H j b) 0 ++ (v b ∷ [])) (none b l))
+      → upTo add zero (λ b. powerSum 𝓕 α (tabulate (λ j. H j b) n ++ (v b ∷ []))) rows ≡ zero
+  unfolding tabulate
+  sum-composed α H v ℕ.zero rows h z = upTo-units add zero (adds 𝓕) _ rows (λ b l. power-zeros α (tabulate (λ j. H j b) 0 ++ (v b ∷ [])) (none b l))
     where
-      none : (b : ℕ) → b < rows → All (λ x. x ≡ zero) (column (λ j. H j b) 0 ++ (v b ∷ []))
+      none : (b : ℕ) → b < rows → All (λ x. x ≡ zero) (tabulate (λ j. H j b) 0 ++ (v b ∷ []))
       none b l = (z b l, tt)
   sum-composed α H v (suc n) rows h z =
       upTo-cong add zero _ (λ b. add (H 0 b) (mul α (rest b))) rows
-      (λ b l. ap (λ (xs : List F). powerSum 𝓕 α (xs ++ (v b ∷ []))) (column-first (λ j. H j b) n) ∙ power-cons α (H 0 b) (column (λ j. H (suc j) b) n ++ (v b ∷ [])))
+      (λ b l. ap (λ (xs : List F). powerSum 𝓕 α (xs ++ (v b ∷ []))) (column-first (λ j. H j b) n) ∙ power-cons α (H 0 b) (tabulate (λ j. H (suc j) b) n ++ (v b ∷ [])))
       ∙ upTo-op add zero (adds 𝓕) (λ b. H 0 b) (λ b. mul α (rest b)) rows
       ∙ ap₂ add (h 0 (omega arith))
       (sym (mul-sum 𝓕 α rest rows) ∙ ap (mul α) (sum-composed α (λ j. H (suc j)) v n rows (λ j l. h (suc j) (omega arith)) z) ∙ mul-zero 𝓕 α)
       ∙ add-zero 𝓕 zero
     where
       rest : ℕ → F
-      rest b = powerSum 𝓕 α (column (λ j. H (suc j) b) n ++ (v b ∷ []))
+      rest b = powerSum 𝓕 α (tabulate (λ j. H (suc j) b) n ++ (v b ∷ []))
 
   module _ (s : Environment 𝓕) where
     running-value : (b : ℕ) (base power acc : F) (vs : List F)
@@ -115,8 +115,8 @@ module _ (𝓕 : Field) where
       unfolding composeTree outerTrees paramsOf evaluate valueAt valueOps rotated iter
       compose-value h b =
           let hs : ℕ → Expr = λ j. at (hNumber c j) in
-          powers-value h (column hs (numLookups c) ++ (zeroCheck c ∷ [])) (alphaOf c) b
+          powers-value h (tabulate hs (numLookups c) ++ (zeroCheck c ∷ [])) (alphaOf c) b
           ∙ ap (powerSum 𝓕 (valueAt 𝓕 s (alphaOf c) b))
-          (map-append (λ e. valueAt 𝓕 s e b) (column hs (numLookups c)) (zeroCheck c ∷ [])
+          (map-append (λ e. valueAt 𝓕 s e b) (tabulate hs (numLookups c)) (zeroCheck c ∷ [])
           ∙ ap (λ (l : List F). l ++ (valueAt 𝓕 s (zeroCheck c) b ∷ [])) (map-column (λ e. valueAt 𝓕 s e b) hs (numLookups c))
-          ∙ ap (λ (v : F). column (λ j. valueAt 𝓕 s (hs j) b) (numLookups c) ++ (v ∷ [])) (zero-check-value h b))
+          ∙ ap (λ (v : F). tabulate (λ j. valueAt 𝓕 s (hs j) b) (numLookups c) ++ (v ∷ [])) (zero-check-value h b))

@@ -6,10 +6,10 @@ use Prim.Native.Nat.{ℕ, suc, _+_, _-_, _*_, _≤_, _<_}
 use lib.Dec.{eqb, ltb}
 use lib.IntN.{pos}
 use lib.ListN.{getD}
-use Rattle.lists.specs.Lists.{column, All}
+use Rattle.lists.specs.Lists.{tabulate, All}
 use Rattle.lists.proofs.All.{all-getD, all-join, all-column, all-split, all-mapped, all-map}
 use Rattle.expression.specs.Expr.{Expr, distributePowers, at}
-use Rattle.expression.specs.Nodes.{kept, exprOf}
+use Rattle.expression.specs.Nodes.{encodeSigned, exprOf}
 use Rattle.expression.proofs.Within.{powers-within, product-within}
 use Rattle.expression.proofs.ReadBack.{kept-signs, Kept, read-kept, read-back}
 use Rattle.backend.specs.Circuit.{
@@ -45,7 +45,7 @@ circuit-kept ws =
           all-map Kept (exprOf (bodyOf ws Section.nodes)) (read-kept (bodyOf ws Section.nodes)) (bodyOf ws Section.constraints);
       lookups =
           all-split PairKept (bodyOf ws Section.widths)
-          (column (pairAt (bodyOf ws Section.nodes) (bodyOf ws Section.pairs)) (entries ws Section.pairs))
+          (tabulate (pairAt (bodyOf ws Section.nodes) (bodyOf ws Section.pairs)) (entries ws Section.pairs))
           (all-column PairKept (pairAt (bodyOf ws Section.nodes) (bodyOf ws Section.pairs)) (entries ws Section.pairs)
           (λ i l. (read-kept (bodyOf ws Section.nodes) _, read-kept (bodyOf ws Section.nodes) _)));
     }
@@ -94,7 +94,7 @@ module _ (c : Circuit) (k : CircuitKept c) where
   unfolding permutationTrees paramsOf
   permutations-kept = go (eqb (numCopied c) 0)
     where
-      go : (t : Bool) → All Kept (cond t [] (startConstraint c ∷ column (partConstraint c) (numZ c)))
+      go : (t : Bool) → All Kept (cond t [] (startConstraint c ∷ tabulate (partConstraint c) (numZ c)))
       go true = tt
       go false = (start-kept, all-column Kept (partConstraint c) (numZ c) (λ i l. part-kept i))
 
@@ -110,7 +110,7 @@ module _ (c : Circuit) (k : CircuitKept c) where
   unfolding composeTree outerTrees paramsOf zeroTree
   compose-kept =
       powers-within kept-signs _ (alphaOf c)
-      (all-join Kept (column (λ j. at (hNumber c j)) (numLookups c)) (zeroCheck c ∷ [])
+      (all-join Kept (tabulate (λ j. at (hNumber c j)) (numLookups c)) (zeroCheck c ∷ [])
       (all-column Kept (λ j. at (hNumber c j)) (numLookups c) (λ j l. refl))
       ((powers-within kept-signs (composedConstraints c) (alphaOf c) composed-kept tt, tt), tt))
       tt

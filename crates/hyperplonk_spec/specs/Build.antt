@@ -5,8 +5,8 @@ use Prim.Native.Nat.{ℕ, _+_, _*_}
 use lib.ListN.{length, getD, take, drop, replicate}
 use lib.Dec.{eqb, leb}
 use Rattle.field.specs.Field.{𝔾, el, val}
-use Rattle.lists.specs.Lists.{column, concat, allOf, total, written, Asked, asked, askedOf, firstNo}
-use Rattle.backend.specs.Circuit.{Circuit, circuitOf, rowsOf, numInstance, numWitness, numUser, numCopied, numLookups}
+use Rattle.lists.specs.Lists.{tabulate, concat, allOf, total, writePrefix, Question, question, questionOf, firstNo}
+use Rattle.backend.specs.Circuit.{Circuit, circuitOf, rowsOf, numInstance, numWitness, numChallenges, numCopied, numLookups}
 use Rattle.backend.specs.Questions.{circuitQuestions, small}
 use Rattle.preprocessor.specs.Compose.{numZ, composedWords, composedNodes}
 use Rattle.prover.specs.Log.{Log}
@@ -22,9 +22,9 @@ logOf ws instances witness challenges =
       el = el;
       instances = instances;
       witness = witness;
-      user = map el (take (numUser (circuitOf ws)) challenges);
-      β = el (getD challenges (numUser (circuitOf ws)) 0);
-      γ = el (getD challenges (numUser (circuitOf ws) + 1) 0);
+      user = map el (take (numChallenges (circuitOf ws)) challenges);
+      β = el (getD challenges (numChallenges (circuitOf ws)) 0);
+      γ = el (getD challenges (numChallenges (circuitOf ws) + 1) 0);
     }
 
 -- the column words needed: instance, permutation, two compressed, m and h for each lookup, z
@@ -35,7 +35,7 @@ columnWords c = (numInstance c + numCopied c + numLookups c * 4 + numZ c) * rows
 unfoldable pub q12 : Circuit → List ℕ → List ℕ → List ℕ → Bool
 q12 c instances witness challenges =
     eqb (length instances) (total (c .instances)) && eqb (length witness) (numWitness c * rowsOf c)
-    && eqb (length challenges) (numUser c + 2)
+    && eqb (length challenges) (numChallenges c + 2)
 
 -- "Are they all below p?"
 unfoldable pub q13 : List ℕ → List ℕ → List ℕ → Bool
@@ -66,12 +66,12 @@ lentBuild circuit instances witness challenges columns nodes =
     }
 
 -- questions 1 to 14
-unfoldable pub buildQuestions : List (Asked Lent)
+unfoldable pub buildQuestions : List (Question Lent)
 buildQuestions =
-    map (askedOf (λ (l : Lent). l .circuit)) circuitQuestions
-    ++ (asked 12 (λ (l : Lent). q12 (circuitOf (l .circuit)) (l .instances) (l .witness) (l .challenges))
-    ∷ asked 13 (λ (l : Lent). q13 (l .instances) (l .witness) (l .challenges))
-    ∷ asked 14 (λ (l : Lent). q14 (circuitOf (l .circuit)) (l .columns) (l .nodes))
+    map (questionOf (λ (l : Lent). l .circuit)) circuitQuestions
+    ++ (question 12 (λ (l : Lent). q12 (circuitOf (l .circuit)) (l .instances) (l .witness) (l .challenges))
+    ∷ question 13 (λ (l : Lent). q13 (l .instances) (l .witness) (l .challenges))
+    ∷ question 14 (λ (l : Lent). q14 (circuitOf (l .circuit)) (l .columns) (l .nodes))
     ∷ [])
 
 -- the number that they give, 0 when all are yes
@@ -97,14 +97,14 @@ refusal n columns nodes = record { answer = refused n; columns = columns; nodes 
 
 unfoldable pub zeroed : Circuit → List ℕ → List ℕ → Output
 zeroed c columns nodes =
-    record { answer = refused 15; columns = written (replicate (columnWords c) 0) columns; nodes = nodes }
+    record { answer = refused 15; columns = writePrefix (replicate (columnWords c) 0) columns; nodes = nodes }
 
 unfoldable pub made : Log 𝔾 → List ℕ → List ℕ → Output
 made g columns nodes =
     record {
       answer = success (g .circuit);
-      columns = written (wordsOf (rowsOf (g .circuit)) (writtenPolys 𝔾 g)) columns;
-      nodes = written (composedWords (g .circuit)) nodes;
+      columns = writePrefix (wordsOf (rowsOf (g .circuit)) (writtenPolys 𝔾 g)) columns;
+      nodes = writePrefix (composedWords (g .circuit)) nodes;
     }
 
 -- question 15 and after

@@ -14,8 +14,8 @@ use Rattle.hyperplonk_spec.specs.declared.Summed.{Summed}
 unfoldable pub beforeAlpha : List ℕ → List ℕ
 beforeAlpha challenges = take (length challenges - 1) challenges
 
-unfoldable pub alphaOf : List ℕ → ℕ
-alphaOf challenges = getD challenges (length challenges - 1) 0
+unfoldable pub alphaWord : List ℕ → ℕ
+alphaWord challenges = getD challenges (length challenges - 1) 0
 
 -- what the call returns, and what both buffers hold then
 pub record Left : Type 0 where

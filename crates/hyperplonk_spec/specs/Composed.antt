@@ -10,11 +10,11 @@ use lib.Dec.{ltb}
 use Rattle.field.specs.Algebra.{Field}
 use Rattle.field.specs.Algebra as Algebra
 use Rattle.bh.specs.Rows.{nextRow}
-use Rattle.lists.specs.Lists.{column}
+use Rattle.lists.specs.Lists.{tabulate}
 use Rattle.expression.specs.Expr.{Expr, degree, distributePowers}
 use Rattle.expression.specs.Nodes.{exprOf}
 use Rattle.expression.specs.Value.{Environment, polyOf, valueAt}
-use Rattle.backend.specs.Circuit.{Circuit, Pair, circuitOf, rowsOf, numUser, numCopied, numLookups, mNumber, hNumber, zNumber}
+use Rattle.backend.specs.Circuit.{Circuit, Pair, circuitOf, rowsOf, numChallenges, numCopied, numLookups, mNumber, hNumber, zNumber}
 use Rattle.backend.specs.Constraints.{betaOf, inputsOf, tablesOf, lookupConstraint, maxDegree}
 use Rattle.preprocessor.specs.Compose.{
   numZ,
@@ -72,8 +72,8 @@ module _ (𝓕 : Field) where
     abbrev pub column-at : ℕ → ℕ → F
     column-at q b = polyOf 𝓕 (s .polys) q b
 
-    abbrev pub gamma : F
-    gamma = getD (s .challenges) (numUser c + 1) zero
+    abbrev pub gammaIn : F
+    gammaIn = getD (s .challenges) (numChallenges c + 1) zero
 
     -- "input and table being the compressed expressions' values there"
     unfoldable pub inputIn : ℕ → ℕ → F
@@ -85,8 +85,8 @@ module _ (𝓕 : Field) where
     -- h × (γ + input) × (γ + table) = (γ + table) − m × (γ + input)
     abbrev pub LookupHolds : ℕ → ℕ → Type 0
     LookupHolds j b =
-        mul (mul (column-at (hNumber c j) b) (add gamma (inputIn j b))) (add gamma (tableIn j b))
-        ≡ add (add gamma (tableIn j b)) (neg (mul (column-at (mNumber c j) b) (add gamma (inputIn j b))))
+        mul (mul (column-at (hNumber c j) b) (add gammaIn (inputIn j b))) (add gammaIn (tableIn j b))
+        ≡ add (add gammaIn (tableIn j b)) (neg (mul (column-at (mNumber c j) b) (add gammaIn (inputIn j b))))
 
     -- "A lookup's is zero at a row exactly when …"
     abbrev pub LookupZero : Type 0
@@ -121,18 +121,18 @@ module _ (𝓕 : Field) where
         Embeds 𝓕 (s .el) → (i b : ℕ) → i < numZ c → (valueAt 𝓕 s (partConstraint c i) b ≡ zero) ↔ PartHolds i b
 
     -- "constraints by powers of α, times EqXY(0); then the h queries first, that sum last, by powers of α"
-    abbrev pub alpha : F
-    alpha = getD (s .challenges) (numUser c + 2) zero
+    abbrev pub alphaIn : F
+    alphaIn = getD (s .challenges) (numChallenges c + 2) zero
 
     abbrev pub zeroCheckIn : ℕ → F
-    zeroCheckIn b = mul (powerSum 𝓕 alpha (map (λ e. valueAt 𝓕 s e b) (composedConstraints c))) (s .eq b)
+    zeroCheckIn b = mul (powerSum 𝓕 alphaIn (map (λ e. valueAt 𝓕 s e b) (composedConstraints c))) (s .eq b)
 
     -- "at each row that value is the one `compose` above gives from the composed constraints and the h columns"
     abbrev pub ComposeValue : Type 0
     ComposeValue =
         Embeds 𝓕 (s .el) → (b : ℕ)
         → valueAt 𝓕 s (compose c) b
-        ≡ powerSum 𝓕 alpha (column (λ j. column-at (hNumber c j) b) (numLookups c) ++ (zeroCheckIn b ∷ []))
+        ≡ powerSum 𝓕 alphaIn (tabulate (λ j. column-at (hNumber c j) b) (numLookups c) ++ (zeroCheckIn b ∷ []))
 
     -- a list by powers of its base
     abbrev pub PowersValue : Type 0

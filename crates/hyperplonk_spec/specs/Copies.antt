@@ -12,7 +12,7 @@ use Rattle.field.specs.Algebra as Algebra
 use Rattle.field.specs.Field.{𝔾}
 use Rattle.bh.specs.Sums.{upTo}
 use Rattle.bh.specs.Rows.{rowAt}
-use Rattle.lists.specs.Lists.{below, column, concat}
+use Rattle.lists.specs.Lists.{range, tabulate, concat}
 use Rattle.expression.specs.Expr.{Expr}
 use Rattle.expression.specs.Value.{Environment, valueAt}
 use Rattle.multilinear.specs.EqXY.{eqAt}
@@ -46,10 +46,10 @@ copiedCell c i b = record { polynomial = getD (copied c) i 0; row = b }
 
 -- x is one of the n × 2^k cells of the copied columns
 pub record IsCopied (c : Circuit) (x : Cell) : Type 0 where
-  pub column : ℕ
-  pub column-in : column < numCopied c
+  pub tabulate : ℕ
+  pub column-in : tabulate < numCopied c
   pub row-in : x .row < rowsOf c
-  pub is : x ≡ copiedCell c column (x .row)
+  pub is : x ≡ copiedCell c tabulate (x .row)
 
 -- no cycle names x
 abbrev pub Unnamed : Circuit → Cell → Type 0
@@ -168,7 +168,7 @@ module _ (𝓕 : Field) where
           record {
             k = g .circuit .k;
             el = g .el;
-            polys = givenPolys 𝓕 g ++ (permutationPolys 𝓕 g ++ (mPolys 𝓕 g ++ (hPolys 𝓕 g ++ map z (below (numZ (g .circuit))))));
+            polys = givenPolys 𝓕 g ++ (permutationPolys 𝓕 g ++ (mPolys 𝓕 g ++ (hPolys 𝓕 g ++ map z (range (numZ (g .circuit))))));
             challenges = g .user ++ (g .β ∷ g .γ ∷ α ∷ []);
             eq = eqAt 𝓕 (g .circuit .k) y;
           }
@@ -204,7 +204,7 @@ module _ (𝓕 : Field) where
     -- first i parts at place t + 1
     unfoldable pub cellsBefore : ℕ → ℕ → List Cell
     cellsBefore i t =
-        concat (column (λ s. cellsAt (suc s) (below (numCopied (g .circuit)))) t) ++ cellsAt (suc t) (concat (take i (zCut (g .circuit))))
+        concat (tabulate (λ s. cellsAt (suc s) (range (numCopied (g .circuit)))) t) ++ cellsAt (suc t) (concat (take i (zCut (g .circuit))))
 
     -- PLONK's Z: the product over the cells x before of (f(x) + β label(x) + γ) / (f(x) + β label(σ x) + γ)
     unfoldable pub paperZ : ℕ → ℕ → F

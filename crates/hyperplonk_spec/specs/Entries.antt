@@ -5,13 +5,13 @@ use mathlib.Core.List.{List, [], _∷_}
 use Prim.Native.Nat.{ℕ}
 use lib.ListN.{length}
 use lib.Dec.{leb}
-use Rattle.lists.specs.Lists.{written}
+use Rattle.lists.specs.Lists.{writePrefix}
 use Rattle.hyperplonk_spec.specs.Build.{Output}
 use Rattle.hyperplonk_spec.specs.declared.RowSum.{RowSum}
 
 -- words written over the first of a buffer; a shorter one is left as it is
 unfoldable pub answered : List ℕ → List ℕ → List ℕ
-answered ws buffer = cond (leb (length ws) (length buffer)) (written ws buffer) buffer
+answered ws buffer = cond (leb (length ws) (length buffer)) (writePrefix ws buffer) buffer
 
 -- what `hyperplonk_build` returns and leaves: column words, nodes and z columns stand in the answer
 pub record BuildEntry : Type 0 where

@@ -9,7 +9,7 @@ use Rattle.field.specs.Algebra.{Field}
 use Rattle.lists.specs.Lists.{firstNo}
 use Rattle.expression.specs.Expr.{Expr}
 use Rattle.expression.specs.Value.{polyOf, valueAt}
-use Rattle.backend.specs.Circuit.{Pair, Cell, circuitOf, rowsOf, numCopied, numUser}
+use Rattle.backend.specs.Circuit.{Pair, Cell, circuitOf, rowsOf, numCopied, numChallenges}
 use Rattle.backend.specs.Questions.{circuitQuestions}
 use Rattle.preprocessor.specs.Compose.{CutsAlike, compose, composedConstraints}
 use Rattle.prover.specs.Lookup.{Turns, sumRows, sumCounts}
@@ -49,7 +49,7 @@ module _ (𝓕 : Field) where
       pub words : List ℕ
       pub read : g .circuit ≡ circuitOf words
       pub passed : firstNo circuitQuestions words ≡ 0
-      pub user-all : length (g .user) ≡ numUser (g .circuit)
+      pub user-all : length (g .user) ≡ numChallenges (g .circuit)
       pub embeds : Embeds (g .el)
 
     -- on every row, and for each lookup

@@ -10,7 +10,7 @@ use Rattle.field.specs.Algebra.{Field}
 use Rattle.field.specs.Algebra as Algebra
 use Rattle.bh.specs.Sums.{upTo}
 use Rattle.bh.specs.Rows.{rowAt}
-use Rattle.lists.specs.Lists.{below, concat, countOf}
+use Rattle.lists.specs.Lists.{range, concat, countOf}
 use Rattle.backend.specs.Circuit.{Circuit, rowsOf, numCopied}
 use Rattle.preprocessor.specs.Compose.{numZ, zCut}
 use Rattle.prover.specs.Lookup.{same, covered, multiplicity, hAt, Turns, sumRows}
@@ -57,7 +57,7 @@ module _ (𝓕 : Field) where
   module _ (el : ℕ → F) (rows : ℕ) (input table : ℕ → F) where
     -- how often the paper's column takes a value
     unfoldable pub occurrences : (ℕ → F) → F → ℕ
-    occurrences column-of v = countOf (λ b. same 𝓕 (column-of b) v) (below rows)
+    occurrences column-of v = countOf (λ b. same 𝓕 (column-of b) v) (range rows)
 
     -- the paper's normalised multiplicity: the count of a value, shared out among the equal table rows
     unfoldable pub normalizedMultiplicity : ℕ → F
@@ -113,7 +113,7 @@ module _ (𝓕 : Field) where
     unfoldable pub plonkZ : ℕ → ℕ → F
     plonkZ i t =
         mul
-        (upTo mul one (λ s. Algebra.product 𝓕 (map (ratioAt 𝓕 g (rowAt (g .circuit .k) (suc s))) (below (numCopied (g .circuit))))) t)
+        (upTo mul one (λ s. Algebra.product 𝓕 (map (ratioAt 𝓕 g (rowAt (g .circuit .k) (suc s))) (range (numCopied (g .circuit))))) t)
         (Algebra.product 𝓕 (map (ratioAt 𝓕 g (rowAt (g .circuit .k) (suc t))) (concat (take i (zCut (g .circuit))))))
 
     abbrev pub IsPlonkZ : Type 0

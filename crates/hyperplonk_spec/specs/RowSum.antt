@@ -5,11 +5,11 @@ use Prim.Native.Nat.{ℕ, _+_, _-_, _*_}
 use lib.ListN.{length, getD}
 use lib.Dec.{eqb}
 use Rattle.field.specs.Field.{𝔾, el, val}
-use Rattle.lists.specs.Lists.{column, allOf, sameWords, Asked, asked, askedOf, firstNo}
+use Rattle.lists.specs.Lists.{tabulate, allOf, sameWords, Question, question, questionOf, firstNo}
 use Rattle.expression.specs.Nodes.{exprOf}
 use Rattle.expression.specs.Value.{Environment, valueAt}
 use Rattle.multilinear.specs.EqXY.{eqAt}
-use Rattle.backend.specs.Circuit.{Circuit, circuitOf, rowsOf, numInstance, numWitness, numUser, numCopied, numLookups}
+use Rattle.backend.specs.Circuit.{Circuit, circuitOf, rowsOf, numInstance, numWitness, numChallenges, numCopied, numLookups}
 use Rattle.backend.specs.Questions.{circuitQuestions, small}
 use Rattle.preprocessor.specs.Compose.{numZ, composedWords, composedNodes}
 use Rattle.prover.specs.Lookup.{sumRows}
@@ -22,7 +22,7 @@ use Rattle.hyperplonk_spec.specs.declared.RowSum.{RowSum}
 unfoldable pub q16 : Circuit → List ℕ → List ℕ → List ℕ → List ℕ → List ℕ → Bool
 q16 c witness columns nodes challenges y =
     eqb (length witness) (numWitness c * rowsOf c) && eqb (length columns) (columnWords c)
-    && eqb (length challenges) (numUser c + 3)
+    && eqb (length challenges) (numChallenges c + 3)
     && eqb (length y) (c .k)
     && sameWords nodes (composedWords c)
     && allOf small witness
@@ -38,14 +38,14 @@ lentColumn c columns i b = el (getD columns (i * rowsOf c + b) 0)
 unfoldable pub lentPolys : List ℕ → List ℕ → List ℕ → List (ℕ → 𝔾 .F)
 lentPolys ws witness columns =
     let c : Circuit = circuitOf ws in
-    column (lentColumn c columns) (numInstance c)
+    tabulate (lentColumn c columns) (numInstance c)
     ++ (preprocessPolys 𝔾 (logOf ws [] witness [])
     ++ (witnessPolys 𝔾 (logOf ws [] witness [])
-    ++ (column (λ i. lentColumn c columns (numInstance c + i)) (numCopied c)
-    ++ column (λ i. lentColumn c columns (numInstance c + numCopied c + numLookups c * 2 + i)) (numLookups c * 2 + numZ c))))
+    ++ (tabulate (λ i. lentColumn c columns (numInstance c + i)) (numCopied c)
+    ++ tabulate (λ i. lentColumn c columns (numInstance c + numCopied c + numLookups c * 2 + i)) (numLookups c * 2 + numZ c))))
 
-unfoldable pub environmentFromWords : List ℕ → List ℕ → List ℕ → List ℕ → List ℕ → Environment 𝔾
-environmentFromWords ws witness columns challenges y =
+unfoldable pub rowSumEnvironment : List ℕ → List ℕ → List ℕ → List ℕ → List ℕ → Environment 𝔾
+rowSumEnvironment ws witness columns challenges y =
     record {
       k = circuitOf ws .k;
       el = el;
@@ -71,14 +71,14 @@ lentSum circuit witness columns nodes challenges y =
 unfoldable pub sumOf : LentSum → 𝔾 .F
 sumOf l =
     sumRows 𝔾 (rowsOf (circuitOf (l .circuit)))
-    (valueAt 𝔾 (environmentFromWords (l .circuit) (l .witness) (l .columns) (l .challenges) (l .y))
+    (valueAt 𝔾 (rowSumEnvironment (l .circuit) (l .witness) (l .columns) (l .challenges) (l .y))
     (exprOf (l .nodes) (composedNodes (circuitOf (l .circuit)) - 1)))
 
 -- "The row sum meets 1 to 11, then 16"
-unfoldable pub sumQuestions : List (Asked LentSum)
+unfoldable pub sumQuestions : List (Question LentSum)
 sumQuestions =
-    map (askedOf (λ (l : LentSum). l .circuit)) circuitQuestions
-    ++ (asked 16
+    map (questionOf (λ (l : LentSum). l .circuit)) circuitQuestions
+    ++ (question 16
     (λ (l : LentSum). q16 (circuitOf (l .circuit)) (l .witness) (l .columns) (l .nodes) (l .challenges) (l .y))
     ∷ [])
 

@@ -11,7 +11,7 @@ use Rattle.backend.specs.Circuit.{circuitOf, rowsOf}
 use Rattle.preprocessor.specs.Compose.{compose, composedNodes}
 use Rattle.prover.specs.Lookup.{sumRows}
 use Rattle.hyperplonk_spec.specs.Build.{logOf, columnWords, checkBuild, buildOf, lentBuild}
-use Rattle.hyperplonk_spec.specs.RowSum.{LentSum, environmentFromWords}
+use Rattle.hyperplonk_spec.specs.RowSum.{LentSum, rowSumEnvironment}
 use Rattle.hyperplonk_spec.specs.Meaning.{Each, Premises}
 use Rattle.hyperplonk_spec.specs.declared.RowSum.{RowSum}
 
@@ -38,6 +38,6 @@ pub record RowSumClaim (l : LentSum) (r : RowSum) : Type 0 where
   -- `compose` gives
   pub summed : r .number ≡ 0
       → r .sum
-      ≡ val (sumRows 𝔾 (rowsOf (circuitOf (l .circuit))) (valueAt 𝔾 (environmentFromWords (l .circuit) (l .witness) (l .columns) (l .challenges) (l .y)) (compose (circuitOf (l .circuit)))))
+      ≡ val (sumRows 𝔾 (rowsOf (circuitOf (l .circuit))) (valueAt 𝔾 (rowSumEnvironment (l .circuit) (l .witness) (l .columns) (l .challenges) (l .y)) (compose (circuitOf (l .circuit)))))
   -- "its number and its sum are both 0"
   pub zero : OfBuild l → r ≡ record { number = 0; sum = 0 }

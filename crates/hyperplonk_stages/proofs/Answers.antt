@@ -9,7 +9,7 @@ use lib.Dec.{eqb, leb}
 use lib.ListN.{length, getD, replicate}
 use borrow.Author.Tests.{leb-true, eqb-true, ltb-true, le-leb, lt-leb, ne-eqb}
 use Rattle.field.specs.Field.{𝔾}
-use Rattle.lists.specs.Lists.{column, allOf, written, over}
+use Rattle.lists.specs.Lists.{tabulate, allOf, writePrefix, writeAt}
 use Rattle.lists.proofs.First.{first-none, first-next, first-number}
 use Rattle.lists.proofs.Over.{over-written}
 use Rattle.lists.proofs.Tests.{and-left, and-right, all-append, all-each}
@@ -133,28 +133,28 @@ module _ (input table out : List ℕ) where
   abbrev counts : ℕ → Answer
   counts rows =
       let yes : Answer =
-      record { number = 0; out = written (column (multiplicity 𝔾 rows (elements input) (elements table)) rows) out } in
-      let no : Answer = record { number = 15; out = written (replicate rows 0) out } in
+      record { number = 0; out = writePrefix (tabulate (multiplicity 𝔾 rows (elements input) (elements table)) rows) out } in
+      let no : Answer = record { number = 15; out = writePrefix (replicate rows 0) out } in
       cond (covered 𝔾 rows (elements input) (elements table)) yes no
 
-  module _ (k rows : ℕ) (n : rows ≡ 2 ^ k) (m : List ℕ) (e : m ≡ over out 0 (countWords rows (elements input) (elements table))) where
+  module _ (k rows : ℕ) (n : rows ≡ 2 ^ k) (m : List ℕ) (e : m ≡ writeAt out 0 (countWords rows (elements input) (elements table))) where
     answered : (t : Bool) → covered 𝔾 rows (elements input) (elements table) ≡ t → record { number = cond t 0 15; out = m } ≡ counts (2 ^ k)
     unfolding countWords
     answered t c =
-        ap (λ (o : List ℕ). record { number = cond t 0 15; out = o }) (e ∙ ap (λ (t : Bool). over out 0 (cond t words zeros)) c)
+        ap (λ (o : List ℕ). record { number = cond t 0 15; out = o }) (e ∙ ap (λ (t : Bool). writeAt out 0 (cond t words zeros)) c)
         ∙ by t
-        ∙ ap (λ (t : Bool). cond t (record { number = 0; out = written words out }) (record { number = 15; out = written zeros out })) (sym c)
+        ∙ ap (λ (t : Bool). cond t (record { number = 0; out = writePrefix words out }) (record { number = 15; out = writePrefix zeros out })) (sym c)
         ∙ ap counts n
       where
         words : List ℕ
-        words = column (multiplicity 𝔾 rows (elements input) (elements table)) rows
+        words = tabulate (multiplicity 𝔾 rows (elements input) (elements table)) rows
 
         zeros : List ℕ
         zeros = replicate rows 0
 
         by : (t : Bool)
-            → _≡_ {A = Answer} (record { number = cond t 0 15; out = over out 0 (cond t words zeros) })
-            (cond t (record { number = 0; out = written words out }) (record { number = 15; out = written zeros out }))
+            → _≡_ {A = Answer} (record { number = cond t 0 15; out = writeAt out 0 (cond t words zeros) })
+            (cond t (record { number = 0; out = writePrefix words out }) (record { number = 15; out = writePrefix zeros out }))
         by true = ap (λ (o : List ℕ). record { number = 0; out = o }) (sym (over-written words out))
         by false = ap (λ (o : List ℕ). record { number = 15; out = o }) (sym (over-written zeros out))
 
@@ -165,8 +165,8 @@ module _ (input table out : List ℕ) where
     uncovered = answered false
 
 -- ---- a column written
-pub column-done : (f : ℕ → ℕ) (k rows : ℕ) (out d : List ℕ) → rows ≡ 2 ^ k → d ≡ over out 0 (column f rows)
-    → _≡_ {A = Answer} (record { number = 0; out = d }) (record { number = 0; out = written (column f (2 ^ k)) out })
+pub column-done : (f : ℕ → ℕ) (k rows : ℕ) (out d : List ℕ) → rows ≡ 2 ^ k → d ≡ writeAt out 0 (tabulate f rows)
+    → _≡_ {A = Answer} (record { number = 0; out = d }) (record { number = 0; out = writePrefix (tabulate f (2 ^ k)) out })
 column-done f k rows out d n e =
     ap (λ (o : List ℕ). record { number = 0; out = o })
-    (e ∙ sym (over-written (column f rows) out) ∙ ap (λ (r : ℕ). written (column f r) out) n)
+    (e ∙ sym (over-written (tabulate f rows) out) ∙ ap (λ (r : ℕ). writePrefix (tabulate f r) out) n)

@@ -11,10 +11,10 @@ use Rattle.lists.proofs.Parts.{div-row, mod-row}
 use Rattle.identities.specs.Copies as R
 use Rattle.identities.specs.Copies.{atCell}
 use Rattle.identities.proofs.Totals.{upTo-cong, upTo-swap, upTo-cut}
-use Rattle.identities.specs.Cycles.{labels, Cycles, Copied, overCells}
+use Rattle.identities.specs.Cycles.{labels, Cycles, Copied, productOverCells}
 use Rattle.identities.proofs.Cycles.{permuted}
 use Rattle.identities.proofs.Fields.{muls, prod-nonzero}
-use Rattle.identities.specs.Running.{zCol, Met, NoZero, Balanced}
+use Rattle.identities.specs.Running.{zCol, Met, NoZero, PartsBalance}
 use Rattle.identities.proofs.Running.{z-meets, z-unique}
 
 pub at-cell : {W : Type 0} (M : ℕ) (val : ℕ → ℕ → W) (i b : ℕ) → b < M → atCell M val (i * M + b) ≡ val i b
@@ -33,7 +33,7 @@ module _ (𝓕 : Field) {W : Type 0} (k n s : ℕ) (val : ℕ → ℕ → W) (φ
 
   cells-all : (N : ℕ) → n ≤ N * s → (l : ℕ → ℕ)
       → upTo mul one (λ b. upTo mul one (λ j. partWith l j (suc b)) N) (2 ^ k - 1)
-      ≡ overCells mul one n (2 ^ k) (λ c. φ (atCell (2 ^ k) val c) (l c))
+      ≡ productOverCells mul one n (2 ^ k) (λ c. φ (atCell (2 ^ k) val c) (l c))
   cells-all N h l =
       upTo-cong mul one (λ b. upTo mul one (λ j. partWith l j (suc b)) N) (λ b. upTo mul one (λ i. φ (val i (suc b)) (l (i * 2 ^ k + suc b))) n) (2 ^ k - 1)
       (λ b m. parts-all N h l (suc b))
@@ -54,7 +54,7 @@ module _ (𝓕 : Field) {W : Type 0} (k n s : ℕ) (val : ℕ → ℕ → W) (φ
     Safe = R.Safe 𝓕 k n s val φ Cs
 
     -- true copies balance
-    pub balanced : (N : ℕ) → n ≤ N * s → Cycles n (2 ^ k) Cs → Copied (atCell (2 ^ k) val) Cs → Balanced 𝓕 k N ids perms
+    pub balanced : (N : ℕ) → n ≤ N * s → Cycles n (2 ^ k) Cs → Copied (atCell (2 ^ k) val) Cs → PartsBalance 𝓕 k N ids perms
     balanced N h cs cp =
         cells-all N h (λ c. c) ∙ permuted mul one (muls 𝓕) n (2 ^ k) (pow-pos k) (atCell (2 ^ k) val) Cs cs cp φ
         ∙ sym (cells-all N h (labels Cs))

@@ -12,15 +12,15 @@ use Rattle.lists.proofs.Tests.{false-true}
 use Rattle.identities.specs.Counts.{
   lastRow,
   hit,
-  both,
+  andFound,
   given,
-  counts,
+  multiplicities,
   allFound,
   counted,
   Stands,
   howMany,
   countsOf,
-  Turns,
+  TurnsInto,
   AllStand,
   IsLast,
 }
@@ -93,11 +93,11 @@ module _ {A : Type 0} (dec : Discrete A) (ni nt : ℕ) (input table : ℕ → A)
         ∙ hit-self (f .0) (g (table (f .0))) ∙ ap g (f .3)
 
     pub count-total : AllStand ni nt input table
-        → upTo op e (λ b. g (input b)) ni ≡ upTo op e (λ r. times op e (counts dec ni nt input table r) (g (table r))) nt
-    unfolding counts
+        → upTo op e (λ b. g (input b)) ni ≡ upTo op e (λ r. times op e (multiplicities dec ni nt input table r) (g (table r))) nt
+    unfolding multiplicities
     count-total h =
         sym
-        (upTo-cong op e (λ r. times op e (counts dec ni nt input table r) (g (table r)))
+        (upTo-cong op e (λ r. times op e (multiplicities dec ni nt input table r) (g (table r)))
         (λ r. upTo op e (λ b. times op e (hit (lastRow dec table nt (input b)) r) (g (table r))) ni) nt
         (λ r m. times-total op e 𝓜 (λ b. hit (lastRow dec table nt (input b)) r) (g (table r)) ni)
         ∙ upTo-swap op e 𝓜 (λ r b. times op e (hit (lastRow dec table nt (input b)) r) (g (table r))) nt ni
@@ -105,9 +105,9 @@ module _ {A : Type 0} (dec : Discrete A) (ni nt : ℕ) (input table : ℕ → A)
         (λ b m. share (input b) (h b m)))
 
   -- (c) the counts add up to the number of inputs
-  pub count-all : AllStand ni nt input table → upTo _+_ 0 (counts dec ni nt input table) nt ≡ ni
+  pub count-all : AllStand ni nt input table → upTo _+_ 0 (multiplicities dec ni nt input table) nt ≡ ni
   count-all h =
-      upTo-cong _+_ 0 (counts dec ni nt input table) (λ r. times _+_ 0 (counts dec ni nt input table r) 1) nt (λ r m. sym (times-one (counts dec ni nt input table r)))
+      upTo-cong _+_ 0 (multiplicities dec ni nt input table) (λ r. times _+_ 0 (multiplicities dec ni nt input table r) 1) nt (λ r m. sym (times-one (multiplicities dec ni nt input table r)))
       ∙ sym (count-total _+_ 0 nats (λ v. 1) h) ∙ times-one ni
 
   pick-times : (c : ℕ) (v w : A) (d : Dec (w ≡ v)) → times _+_ 0 c (ite d 1 0) ≡ ite d c 0
@@ -115,15 +115,15 @@ module _ {A : Type 0} (dec : Discrete A) (ni nt : ℕ) (input table : ℕ → A)
   pick-times c v w (no p) = upTo-units _+_ 0 nats (λ i. 0) c (λ i l. refl)
 
   -- (b) for every value, the counts at the rows equal to it add up to the number of inputs equal to it
-  pub count-turns : AllStand ni nt input table → Turns dec ni nt input table (counts dec ni nt input table)
+  pub count-turns : AllStand ni nt input table → TurnsInto dec ni nt input table (multiplicities dec ni nt input table)
   count-turns h v =
-      upTo-cong _+_ 0 (λ r. ite (dec (table r) v) (counts dec ni nt input table r) 0)
-      (λ r. times _+_ 0 (counts dec ni nt input table r) (ite (dec (table r) v) 1 0)) nt
-      (λ r m. sym (pick-times (counts dec ni nt input table r) v (table r) (dec (table r) v)))
+      upTo-cong _+_ 0 (λ r. ite (dec (table r) v) (multiplicities dec ni nt input table r) 0)
+      (λ r. times _+_ 0 (multiplicities dec ni nt input table r) (ite (dec (table r) v) 1 0)) nt
+      (λ r m. sym (pick-times (multiplicities dec ni nt input table r) v (table r) (dec (table r) v)))
       ∙ sym (count-total _+_ 0 nats (λ x. ite (dec x v) 1 0) h)
 
   -- whatever turns the table into the inputs, every input stands in the table
-  pub turns-stand : (c : ℕ → ℕ) → Turns dec ni nt input table c → AllStand ni nt input table
+  pub turns-stand : (c : ℕ → ℕ) → TurnsInto dec ni nt input table c → AllStand ni nt input table
   turns-stand c t b l = go (lastRow dec table nt (input b)) (last-is dec table (input b) nt)
     where
       v : A
@@ -148,62 +148,62 @@ module _ {A : Type 0} (dec : Discrete A) (ni nt : ℕ) (input table : ℕ → A)
 
   -- ---- the test
   test-all : (n : ℕ) → ((b : ℕ) → b < n → Stands nt table (input b)) → allFound dec nt input table n ≡ true
-  unfolding allFound both
+  unfolding allFound andFound
   test-all zero h = refl
   test-all (suc n) h =
       let f = found (input n) (h n (omega arith)) in
-      ap (λ (o : Option ℕ). both o (allFound dec nt input table n)) (f .1) ∙ test-all n (λ b l. h b (omega arith))
+      ap (λ (o : Option ℕ). andFound o (allFound dec nt input table n)) (f .1) ∙ test-all n (λ b l. h b (omega arith))
 
   test-stand : (n : ℕ) → allFound dec nt input table n ≡ true → (b : ℕ) → b < n → Stands nt table (input b)
-  unfolding allFound both
+  unfolding allFound andFound
   test-stand zero t b l = absurd (not-suc-le-zero l)
   test-stand (suc n) t b l = go (lastRow dec table nt (input n)) (last-is dec table (input n) nt) t (test-stand n) (ℕ-discrete b n)
     where
-      go : (o : Option ℕ) → IsLast table nt (input n) o → both o (allFound dec nt input table n) ≡ true
+      go : (o : Option ℕ) → IsLast table nt (input n) o → andFound o (allFound dec nt input table n) ≡ true
           → (allFound dec nt input table n ≡ true → (b : ℕ) → b < n → Stands nt table (input b)) → Dec (b ≡ n) → Stands nt table (input b)
       go none k t rec d = false-true t
       go (some q) k t rec (yes e) = (q, k .0, k .1 ∙ ap input (sym e))
       go (some q) k t rec (no e) = rec t b (omega arith)
 
   -- m exists if every input stands in the table
-  pub stand-counted : AllStand ni nt input table → counted dec ni nt input table ≡ some (counts dec ni nt input table)
+  pub stand-counted : AllStand ni nt input table → counted dec ni nt input table ≡ some (multiplicities dec ni nt input table)
   unfolding counted given
-  stand-counted h = ap (λ (b : Bool). given b (counts dec ni nt input table)) (test-all ni h)
+  stand-counted h = ap (λ (b : Bool). given b (multiplicities dec ni nt input table)) (test-all ni h)
 
   -- and only then
   pub counted-stand : (c : ℕ → ℕ) → counted dec ni nt input table ≡ some c → AllStand ni nt input table
   unfolding counted given
   counted-stand c e = go (allFound dec nt input table ni) refl e
     where
-      go : (t : Bool) → allFound dec nt input table ni ≡ t → given t (counts dec ni nt input table) ≡ some c → AllStand ni nt input table
+      go : (t : Bool) → allFound dec nt input table ni ≡ t → given t (multiplicities dec ni nt input table) ≡ some c → AllStand ni nt input table
       go true q w = test-stand ni q
       go false q w = absurd (Option·none-ne-some c w)
 
   -- what it is
-  pub counted-is : (c : ℕ → ℕ) → counted dec ni nt input table ≡ some c → c ≡ counts dec ni nt input table
-  counted-is c e = Option·some-injective c (counts dec ni nt input table) (sym e ∙ stand-counted (counted-stand c e))
+  pub counted-is : (c : ℕ → ℕ) → counted dec ni nt input table ≡ some c → c ≡ multiplicities dec ni nt input table
+  counted-is c e = Option·some-injective c (multiplicities dec ni nt input table) (sym e ∙ stand-counted (counted-stand c e))
 
   -- (a) m exists exactly if every input stands in the table
   pub exists-stand : ((c : ℕ → ℕ) × (counted dec ni nt input table ≡ some c)) ↔ AllStand ni nt input table
-  exists-stand = (λ p. counted-stand (p .0) (p .1), λ h. (counts dec ni nt input table, stand-counted h))
+  exists-stand = (λ p. counted-stand (p .0) (p .1), λ h. (multiplicities dec ni nt input table, stand-counted h))
 
   -- exactly if some column of whole counts turns the table into the inputs
-  pub exists-turns : ((c : ℕ → ℕ) × (counted dec ni nt input table ≡ some c)) ↔ ((c : ℕ → ℕ) × Turns dec ni nt input table c)
+  pub exists-turns : ((c : ℕ → ℕ) × (counted dec ni nt input table ≡ some c)) ↔ ((c : ℕ → ℕ) × TurnsInto dec ni nt input table c)
   exists-turns = (
-    λ p. (counts dec ni nt input table, count-turns (counted-stand (p .0) (p .1))),
-    λ p. (counts dec ni nt input table, stand-counted (turns-stand (p .0) (p .1))),
+    λ p. (multiplicities dec ni nt input table, count-turns (counted-stand (p .0) (p .1))),
+    λ p. (multiplicities dec ni nt input table, stand-counted (turns-stand (p .0) (p .1))),
   )
 
   -- there is none exactly if no column does
-  pub none-turns : (counted dec ni nt input table ≡ none) ↔ (¬ ((c : ℕ → ℕ) × Turns dec ni nt input table c))
-  none-turns = (λ e p. Option·none-ne-some (counts dec ni nt input table) (sym e ∙ stand-counted (turns-stand (p .0) (p .1))), back)
+  pub none-turns : (counted dec ni nt input table ≡ none) ↔ (¬ ((c : ℕ → ℕ) × TurnsInto dec ni nt input table c))
+  none-turns = (λ e p. Option·none-ne-some (multiplicities dec ni nt input table) (sym e ∙ stand-counted (turns-stand (p .0) (p .1))), back)
     where
-      back : ¬ ((c : ℕ → ℕ) × Turns dec ni nt input table c) → counted dec ni nt input table ≡ none
+      back : ¬ ((c : ℕ → ℕ) × TurnsInto dec ni nt input table c) → counted dec ni nt input table ≡ none
       back h = go (counted dec ni nt input table) refl
         where
           go : (o : Option (ℕ → ℕ)) → counted dec ni nt input table ≡ o → counted dec ni nt input table ≡ none
           go none e = e
-          go (some c) e = absurd (h (counts dec ni nt input table, count-turns (counted-stand c e)))
+          go (some c) e = absurd (h (multiplicities dec ni nt input table, count-turns (counted-stand c e)))
 
 -- ---- a map that keeps table rows and inputs apart keeps the counts
 module _ {A B : Type 0} (dA : Discrete A) (dB : Discrete B) (f : A → B) where
@@ -221,8 +221,8 @@ module _ {A B : Type 0} (dA : Discrete A) (dB : Discrete B) (f : A → B) where
       go (no p) (no q) e = e
 
   pub counts-map : (ni nt : ℕ) (i t : ℕ → A) → ((b r : ℕ) → b < ni → r < nt → f (t r) ≡ f (i b) → t r ≡ i b) → (r : ℕ)
-      → counts dB ni nt (λ b. f (i b)) (λ s. f (t s)) r ≡ counts dA ni nt i t r
-  unfolding counts
+      → multiplicities dB ni nt (λ b. f (i b)) (λ s. f (t s)) r ≡ multiplicities dA ni nt i t r
+  unfolding multiplicities
   counts-map ni nt i t h r =
       upTo-cong _+_ 0 (λ b. hit (lastRow dB (λ s. f (t s)) nt (f (i b))) r) (λ b. hit (lastRow dA t nt (i b)) r) ni
       (λ b l. ap (λ (o : Option ℕ). hit o r) (last-map t nt (i b) (λ s m. h b s l m)))

@@ -12,18 +12,18 @@ use Rattle.lists.specs.Lists.{All}
 use Rattle.lists.proofs.All.{all-any}
 use Rattle.lists.proofs.Parts.{mod-row}
 use Rattle.identities.specs.Cycles.{
-  lastCell,
+  lastOf,
   beforeIn,
-  before,
+  cellBefore,
   moved,
   labels,
   Equal,
-  Cell,
+  CopiedCell,
   Cycle,
   Cycles,
   Copied,
-  Good,
-  overCells,
+  CellMove,
+  productOverCells,
   OutAll,
 }
 use Rattle.identities.specs.Totals.{Monoid}
@@ -61,10 +61,10 @@ swap-twice x y c = go (ℕ-discrete c x) (ℕ-discrete c y)
     go (no h) (no q) = ap (swap x y) (swap-o x y c h q) ∙ swap-o x y c h q
 
 module _ {W : Type 0} (n M : ℕ) (v : ℕ → W) where
-  good-id : Good n M v (λ c. c)
+  good-id : CellMove n M v (λ c. c)
   good-id = record { within = λ c h. h; apart = λ c d e. e; same = λ c. refl; still = λ c h. refl }
 
-  good-after : (σ τ : ℕ → ℕ) → Good n M v σ → Good n M v τ → Good n M v (λ c. σ (τ c))
+  good-after : (σ τ : ℕ → ℕ) → CellMove n M v σ → CellMove n M v τ → CellMove n M v (λ c. σ (τ c))
   good-after σ τ s t =
       record {
         within = λ c h. s .within (τ c) (t .within c h);
@@ -73,7 +73,7 @@ module _ {W : Type 0} (n M : ℕ) (v : ℕ → W) where
         still = λ c h. ap σ (t .still c h) ∙ s .still c h;
       }
 
-  good-is : (σ τ : ℕ → ℕ) → ((c : ℕ) → σ c ≡ τ c) → Good n M v τ → Good n M v σ
+  good-is : (σ τ : ℕ → ℕ) → ((c : ℕ) → σ c ≡ τ c) → CellMove n M v τ → CellMove n M v σ
   good-is σ τ e t =
       record {
         within = λ c h. subst⁻¹ (λ (x : ℕ). x < n * M) (e c) (t .within c h);
@@ -82,7 +82,7 @@ module _ {W : Type 0} (n M : ℕ) (v : ℕ → W) where
         still = λ c h. e c ∙ t .still c h;
       }
 
-  good-swap : (x y : ℕ) → Cell n M x → Cell n M y → v x ≡ v y → Good n M v (swap x y)
+  good-swap : (x y : ℕ) → CopiedCell n M x → CopiedCell n M y → v x ≡ v y → CellMove n M v (swap x y)
   good-swap x y hx hy e =
       record {
         within = λ c h. within c h (ℕ-discrete c x) (ℕ-discrete c y);
@@ -108,20 +108,20 @@ unfolding beforeIn
 before-out p c [] o = refl
 before-out p c (x ∷ xs) o = if-neg (ℕ-discrete c x) (o .0) p (beforeIn x xs c) ∙ before-out x c xs (o .1)
 
-before-one : (x c : ℕ) → before (x ∷ []) c ≡ c
-unfolding before
+before-one : (x c : ℕ) → cellBefore (x ∷ []) c ≡ c
+unfolding cellBefore
 before-one x c = go (ℕ-discrete c x)
   where
     go : Dec (c ≡ x) → ite (ℕ-discrete c x) x c ≡ c
     go (yes e) = if-pos (ℕ-discrete c x) e x c ∙ sym e
     go (no n) = if-neg (ℕ-discrete c x) n x c
 
-before-split : (x y : ℕ) (r : List ℕ) → Out x (y ∷ r) → (c : ℕ) → before (x ∷ y ∷ r) c ≡ before (y ∷ r) (swap x y c)
-unfolding before
+before-split : (x y : ℕ) (r : List ℕ) → Out x (y ∷ r) → (c : ℕ) → cellBefore (x ∷ y ∷ r) c ≡ cellBefore (y ∷ r) (swap x y c)
+unfolding cellBefore
 before-split x y r o c = go (ℕ-discrete c x) (ℕ-discrete c y)
   where
     L : ℕ
-    L = lastCell y r
+    L = lastOf y r
 
     at : ℕ → ℕ
     at d = ite (ℕ-discrete d y) L (beforeIn y r d)
@@ -144,31 +144,31 @@ equal-rest v x y [] e t = tt
 equal-rest v x y (z ∷ r) e t = (sym e ∙ t .0, equal-rest v x y r e (t .1))
 
 module _ {W : Type 0} (n M : ℕ) (v : ℕ → W) where
-  good-cycle : (x : ℕ) (C : List ℕ) → All (Cell n M) (x ∷ C) → Nodup (x ∷ C) → Equal v (x ∷ C) → Good n M v (before (x ∷ C))
-  good-cycle x [] cs d e = good-is n M v (before (x ∷ [])) (λ c. c) (before-one x) (good-id n M v)
+  good-cycle : (x : ℕ) (C : List ℕ) → All (CopiedCell n M) (x ∷ C) → Nodup (x ∷ C) → Equal v (x ∷ C) → CellMove n M v (cellBefore (x ∷ C))
+  good-cycle x [] cs d e = good-is n M v (cellBefore (x ∷ [])) (λ c. c) (before-one x) (good-id n M v)
   good-cycle x (y ∷ r) cs d e =
-      good-is n M v (before (x ∷ y ∷ r)) (λ c. before (y ∷ r) (swap x y c)) (before-split x y r (d .0))
-      (good-after n M v (before (y ∷ r)) (swap x y)
+      good-is n M v (cellBefore (x ∷ y ∷ r)) (λ c. cellBefore (y ∷ r) (swap x y c)) (before-split x y r (d .0))
+      (good-after n M v (cellBefore (y ∷ r)) (swap x y)
       (good-cycle y r (cs .1) (d .1) (equal-rest v x y r (e .0) (e .1)))
       (good-swap n M v x y (cs .0) (cs .1 .0) (e .0)))
 
-  good-before : (C : List ℕ) → Cycle n M C → Equal v C → Good n M v (before C)
-  unfolding before
+  good-before : (C : List ℕ) → Cycle n M C → Equal v C → CellMove n M v (cellBefore C)
+  unfolding cellBefore
   good-before [] h e = good-id n M v
   good-before (x ∷ C) h e = good-cycle x C (h .cells) (h .once) e
 
-  good-moved : (l : ℕ → ℕ) (Cs : List (List ℕ)) → Good n M v l → Cycles n M Cs → Copied v Cs → Good n M v (moved l Cs)
+  good-moved : (l : ℕ → ℕ) (Cs : List (List ℕ)) → CellMove n M v l → Cycles n M Cs → Copied v Cs → CellMove n M v (moved l Cs)
   unfolding moved
   good-moved l [] g h e = g
   good-moved l (C ∷ Cs) g h e =
-      good-moved (λ d. l (before C d)) Cs (good-after n M v l (before C) g (good-before C (h .0) (e .0))) (h .1) (e .1)
+      good-moved (λ d. l (cellBefore C d)) Cs (good-after n M v l (cellBefore C) g (good-before C (h .0) (e .0))) (h .1) (e .1)
 
   -- the labels are a move between equal cells
-  pub good-labels : (Cs : List (List ℕ)) → Cycles n M Cs → Copied v Cs → Good n M v (labels Cs)
+  pub good-labels : (Cs : List (List ℕ)) → Cycles n M Cs → Copied v Cs → CellMove n M v (labels Cs)
   unfolding labels
   good-labels Cs h e = good-moved (λ d. d) Cs (good-id n M v) h e
 
-  good-keeps : (σ : ℕ → ℕ) → Good n M v σ → Keeps (n * M) σ
+  good-keeps : (σ : ℕ → ℕ) → CellMove n M v σ → Keeps (n * M) σ
   good-keeps σ g =
       record {
         within = g .within;
@@ -194,7 +194,7 @@ module _ {A : Type 0} (op : A → A → A) (e : A) (𝓜 : Monoid op e) (n M : �
 
   -- a function of value and label, over the cells' own labels and over the moved ones
   pub permuted : {W : Type 0} (v : ℕ → W) (Cs : List (List ℕ)) → Cycles n M Cs → Copied v Cs → (φ : W → ℕ → A)
-      → overCells op e n M (λ c. φ (v c) c) ≡ overCells op e n M (λ c. φ (v c) (labels Cs c))
+      → productOverCells op e n M (λ c. φ (v c) c) ≡ productOverCells op e n M (λ c. φ (v c) (labels Cs c))
   permuted {W} v Cs h q φ =
       cells-flat (λ c. φ (v c) c)
       ∙ sym (sum-through op e (sums op e 𝓜) g (n * M) σ (good-keeps n M v σ good))
@@ -204,7 +204,7 @@ module _ {A : Type 0} (op : A → A → A) (e : A) (𝓜 : Monoid op e) (n M : �
       σ : ℕ → ℕ
       σ = labels Cs
 
-      good : Good n M v σ
+      good : CellMove n M v σ
       good = good-labels n M v Cs h q
 
       g : ℕ → A
@@ -221,28 +221,28 @@ module _ {A : Type 0} (op : A → A → A) (e : A) (𝓜 : Monoid op e) (n M : �
 
 -- ---- a cell that stands in one cycle only
 -- a cycle moves none but its own cells
-before-still : (C : List ℕ) (c : ℕ) → Out c C → before C c ≡ c
-unfolding before
+before-still : (C : List ℕ) (c : ℕ) → Out c C → cellBefore C c ≡ c
+unfolding cellBefore
 before-still [] c o = refl
-before-still (x ∷ xs) c o = before-out (lastCell x xs) c (x ∷ xs) o
+before-still (x ∷ xs) c o = before-out (lastOf x xs) c (x ∷ xs) o
 
 moved-append : (l : ℕ → ℕ) (Xs Ys : List (List ℕ)) (c : ℕ) → moved l (Xs ++ Ys) c ≡ moved (moved l Xs) Ys c
 unfolding moved
 moved-append l [] Ys c = refl
-moved-append l (X ∷ Xs) Ys c = moved-append (λ d. l (before X d)) Xs Ys c
+moved-append l (X ∷ Xs) Ys c = moved-append (λ d. l (cellBefore X d)) Xs Ys c
 
 moved-out : (l : ℕ → ℕ) (Ys : List (List ℕ)) (c : ℕ) → OutAll c Ys → moved l Ys c ≡ l c
 unfolding moved
 moved-out l [] c o = refl
-moved-out l (Y ∷ Ys) c o = moved-out (λ d. l (before Y d)) Ys c (o .1) ∙ ap l (before-still Y c (o .0))
+moved-out l (Y ∷ Ys) c o = moved-out (λ d. l (cellBefore Y d)) Ys c (o .1) ∙ ap l (before-still Y c (o .0))
 
 -- its label is the cell before it in that cycle, whatever the order of the cycles
-pub labels-alone : (Xs : List (List ℕ)) (C : List ℕ) (Ys : List (List ℕ)) (c : ℕ) → OutAll (before C c) Xs → OutAll c Ys
-    → labels (Xs ++ (C ∷ Ys)) c ≡ before C c
+pub labels-alone : (Xs : List (List ℕ)) (C : List ℕ) (Ys : List (List ℕ)) (c : ℕ) → OutAll (cellBefore C c) Xs → OutAll c Ys
+    → labels (Xs ++ (C ∷ Ys)) c ≡ cellBefore C c
 unfolding labels moved
 labels-alone Xs C Ys c x y =
-    moved-append (λ d. d) Xs (C ∷ Ys) c ∙ moved-out (λ d. moved (λ e. e) Xs (before C d)) Ys c y
-    ∙ moved-out (λ d. d) Xs (before C c) x
+    moved-append (λ d. d) Xs (C ∷ Ys) c ∙ moved-out (λ d. moved (λ e. e) Xs (cellBefore C d)) Ys c y
+    ∙ moved-out (λ d. d) Xs (cellBefore C c) x
 
 -- ---- the labels are the cells, each once, with row 0 as it was
 unit-copied : (Cs : List (List ℕ)) → Copied (λ (c : ℕ). tt {0}) Cs
@@ -252,5 +252,5 @@ unit-copied Cs = all-any (Equal (λ (c : ℕ). tt {0})) unit-equal Cs
     unit-equal [] = tt
     unit-equal (x ∷ xs) = all-any (λ y. _≡_ {A = Unit {0}} tt tt) (λ y. refl) xs
 
-pub labels-good : (n M : ℕ) (Cs : List (List ℕ)) → Cycles n M Cs → Good n M (λ (c : ℕ). tt {0}) (labels Cs)
+pub labels-good : (n M : ℕ) (Cs : List (List ℕ)) → Cycles n M Cs → CellMove n M (λ (c : ℕ). tt {0}) (labels Cs)
 labels-good n M Cs h = good-labels n M (λ (c : ℕ). tt {0}) Cs h (unit-copied Cs)

@@ -9,9 +9,9 @@ use Rattle.bh.specs.Rows.{rowAt, placeOf}
 use Rattle.identities.proofs.Totals.{upTo-cong}
 use Rattle.identities.proofs.Fields.{sub-zero, mul-cancel, inv-mul-self}
 use Rattle.identities.specs.Homs.{Hom}
-use Rattle.identities.specs.Counts.{counts}
-use Rattle.identities.specs.Lookup.{num, hAt}
-use Rattle.identities.specs.Running.{ratio, rowRatio, zAt, zCol}
+use Rattle.identities.specs.Counts.{multiplicities}
+use Rattle.identities.specs.Lookup.{num, hValue}
+use Rattle.identities.specs.Running.{ratio, rowRatio, zPlaced, zCol}
 use Rattle.identities.proofs.Counts.{counts-map}
 
 module _ (𝓔 𝓕 : Field) (f : 𝓔 .F → 𝓕 .F) (H : Hom 𝓔 𝓕 f) where
@@ -64,13 +64,13 @@ module _ (𝓔 𝓕 : Field) (f : 𝓔 .F → 𝓕 .F) (H : Hom 𝓔 𝓕 f) whe
 
   -- m
   pub hom-counts : (ni nt : ℕ) (i t : ℕ → 𝓔 .F) (r : ℕ)
-      → counts (𝓕 .decide) ni nt (λ b. f (i b)) (λ s. f (t s)) r ≡ counts (𝓔 .decide) ni nt i t r
+      → multiplicities (𝓕 .decide) ni nt (λ b. f (i b)) (λ s. f (t s)) r ≡ multiplicities (𝓔 .decide) ni nt i t r
   hom-counts ni nt i t r = counts-map (𝓔 .decide) (𝓕 .decide) f ni nt i t (λ b s l m e. hom-apart (t s) (i b) e) r
 
   -- h
   pub hom-h : (γ : 𝓔 .F) (i t m : ℕ → 𝓔 .F) (b : ℕ)
-      → f (hAt 𝓔 γ i t m b) ≡ hAt 𝓕 (f γ) (λ s. f (i s)) (λ s. f (t s)) (λ s. f (m s)) b
-  unfolding hAt
+      → f (hValue 𝓔 γ i t m b) ≡ hValue 𝓕 (f γ) (λ s. f (i s)) (λ s. f (t s)) (λ s. f (m s)) b
+  unfolding hValue
   hom-h γ i t m b =
       H .add (𝓔 .inv (𝓔 .add γ (i b))) (𝓔 .neg (𝓔 .mul (m b) (𝓔 .inv (𝓔 .add γ (t b)))))
       ∙ ap₂ (𝓕 .add) (part (i b))
@@ -93,8 +93,8 @@ module _ (𝓔 𝓕 : Field) (f : 𝓔 .F → 𝓕 .F) (H : Hom 𝓔 𝓕 f) whe
         ∙ upTo-cong (𝓕 .mul) (𝓕 .one) (λ i. f (ratio 𝓔 k N A B i b)) (λ i. ratio 𝓕 k N (λ i c. f (A i c)) (λ i c. f (B i c)) i b) N
         (λ i l. hom-ratio i b)
 
-    hom-zAt : (j t : ℕ) → f (zAt 𝓔 k N A B j t) ≡ zAt 𝓕 k N (λ i c. f (A i c)) (λ i c. f (B i c)) j t
-    unfolding zAt
+    hom-zAt : (j t : ℕ) → f (zPlaced 𝓔 k N A B j t) ≡ zPlaced 𝓕 k N (λ i c. f (A i c)) (λ i c. f (B i c)) j t
+    unfolding zPlaced
     hom-zAt j t =
         H .mul (upTo (𝓔 .mul) (𝓔 .one) (λ s. rowRatio 𝓔 k N A B (rowAt k (suc s))) t) (upTo (𝓔 .mul) (𝓔 .one) (λ i. ratio 𝓔 k N A B i (rowAt k (suc t))) j)
         ∙ ap₂ (𝓕 .mul)
@@ -108,5 +108,5 @@ module _ (𝓔 𝓕 : Field) (f : 𝓔 .F → 𝓕 .F) (H : Hom 𝓔 𝓕 f) whe
     pub hom-z : (j b : ℕ) → f (zCol 𝓔 k N A B j b) ≡ zCol 𝓕 k N (λ i c. f (A i c)) (λ i c. f (B i c)) j b
     unfolding zCol
     hom-z j b =
-        apply-ite f (ℕ-discrete b 0) (𝓔 .zero) (zAt 𝓔 k N A B j (placeOf k b - 1))
+        apply-ite f (ℕ-discrete b 0) (𝓔 .zero) (zPlaced 𝓔 k N A B j (placeOf k b - 1))
         ∙ ap₂ (ite (ℕ-discrete b 0)) hom-zero (hom-zAt j (placeOf k b - 1))

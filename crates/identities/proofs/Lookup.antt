@@ -10,7 +10,7 @@ use Rattle.identities.specs.Lookup as R
 use Rattle.identities.specs.Totals.{times}
 use Rattle.identities.proofs.Totals.{upTo-cong, upTo-op, upTo-unit}
 use Rattle.identities.proofs.Fields.{adds, mul-cancel, sum-mul, inv-mul-self}
-use Rattle.identities.specs.Counts.{counts, counted, AllStand}
+use Rattle.identities.specs.Counts.{multiplicities, counted, AllStand}
 use Rattle.identities.proofs.Counts.{counted-stand, counted-is, count-total}
 
 module _ (𝓕 : Field) where
@@ -33,16 +33,16 @@ module _ (𝓕 : Field) where
 
   -- (d) in the field: the counts as elements
   pub count-field : (ni nt : ℕ) (input table : ℕ → F) (g : F → F) → AllStand ni nt input table
-      → upTo add nil (λ b. g (input b)) ni ≡ upTo add nil (λ r. mul (num (counts decide ni nt input table r)) (g (table r))) nt
+      → upTo add nil (λ b. g (input b)) ni ≡ upTo add nil (λ r. mul (num (multiplicities decide ni nt input table r)) (g (table r))) nt
   count-field ni nt input table g h =
       count-total decide ni nt input table add nil (adds 𝓕) g h
-      ∙ upTo-cong add nil (λ r. times add nil (counts decide ni nt input table r) (g (table r)))
-      (λ r. mul (num (counts decide ni nt input table r)) (g (table r))) nt
-      (λ r m. num-times (counts decide ni nt input table r) (g (table r)))
+      ∙ upTo-cong add nil (λ r. times add nil (multiplicities decide ni nt input table r) (g (table r)))
+      (λ r. mul (num (multiplicities decide ni nt input table r)) (g (table r))) nt
+      (λ r m. num-times (multiplicities decide ni nt input table r) (g (table r)))
 
   module _ (γ : F) (input table m : ℕ → F) where
     abbrev hAt : ℕ → F
-    hAt = R.hAt 𝓕 γ input table m
+    hAt = R.hValue 𝓕 γ input table m
 
     abbrev Fits : F → ℕ → Type 0
     Fits = R.Fits 𝓕 γ input table m
@@ -60,7 +60,7 @@ module _ (𝓕 : Field) where
         ∙ ap₂ (λ (x y : F). add x (neg y)) (one-mul 𝓕 w) (𝓕 .mul-one (mul c u))
 
     pub h-fits : (b : ℕ) → add γ (input b) ≢ nil → add γ (table b) ≢ nil → Fits (hAt b) b
-    unfolding R.hAt
+    unfolding R.hValue
     h-fits b p q =
         clear (add γ (input b)) (add γ (table b)) (inv (add γ (input b))) (inv (add γ (table b))) (m b)
         (inv-mul-self 𝓕 (add γ (input b)) p) (inv-mul-self 𝓕 (add γ (table b)) q)
@@ -77,13 +77,13 @@ module _ (𝓕 : Field) where
   -- Haböck: the inputs' inverses are the table's, as often as counted. Zeros included: the inverse of 0 is 0
   pub haboeck : (γ : F) (ni nt : ℕ) (input table : ℕ → F) → AllStand ni nt input table
       → upTo add nil (λ b. inv (add γ (input b))) ni
-      ≡ upTo add nil (λ r. mul (num (counts decide ni nt input table r)) (inv (add γ (table r)))) nt
+      ≡ upTo add nil (λ r. mul (num (multiplicities decide ni nt input table r)) (inv (add γ (table r)))) nt
   haboeck γ ni nt input table h = count-field ni nt input table (λ x. inv (add γ x)) h
 
   -- so h sums to zero
   pub h-sum : (γ : F) (n : ℕ) (input table : ℕ → F) → AllStand n n input table
-      → upTo add nil (hAt γ input table (λ r. num (counts decide n n input table r))) n ≡ nil
-  unfolding R.hAt
+      → upTo add nil (hAt γ input table (λ r. num (multiplicities decide n n input table r))) n ≡ nil
+  unfolding R.hValue
   h-sum γ n input table h =
       upTo-op add nil (adds 𝓕) f (λ b. neg (g b)) n ∙ ap (add (upTo add nil f n)) (sum-neg g n)
       ∙ ap (λ (x : F). add x (neg (upTo add nil g n))) (haboeck γ n n input table h) ∙ 𝓕 .add-neg (upTo add nil g n)
@@ -92,7 +92,7 @@ module _ (𝓕 : Field) where
       f b = inv (add γ (input b))
 
       g : ℕ → F
-      g b = mul (num (counts decide n n input table b)) (inv (add γ (table b)))
+      g b = mul (num (multiplicities decide n n input table b)) (inv (add γ (table b)))
 
   -- the same of whatever the count answers
   pub h-sum-counted : (γ : F) (n : ℕ) (input table : ℕ → F) (c : ℕ → ℕ)

@@ -27,13 +27,13 @@ module _ (𝓕 : Field) (k N : ℕ) (A B : ℕ → ℕ → 𝓕 .F) where
   rowRatio = R.rowRatio 𝓕 k N A B
 
   abbrev zAt : ℕ → ℕ → F
-  zAt = R.zAt 𝓕 k N A B
+  zAt = R.zPlaced 𝓕 k N A B
 
   abbrev zCol : ℕ → ℕ → F
   zCol = R.zCol 𝓕 k N A B
 
   abbrev nextZ : (ℕ → ℕ → F) → ℕ → ℕ → F
-  nextZ = R.nextZ 𝓕 k N A B
+  nextZ = R.zAfter 𝓕 k N A B
 
   abbrev Met : (ℕ → ℕ → F) → Type 0
   Met = R.Met 𝓕 k N A B
@@ -42,7 +42,7 @@ module _ (𝓕 : Field) (k N : ℕ) (A B : ℕ → ℕ → 𝓕 .F) where
   NoZero = R.NoZero 𝓕 k N A B
 
   abbrev Balanced : Type 0
-  Balanced = R.Balanced 𝓕 k N A B
+  Balanced = R.PartsBalance 𝓕 k N A B
 
   abbrev scan : ℕ → F
   scan = R.scan 𝓕 k N A B
@@ -54,7 +54,7 @@ module _ (𝓕 : Field) (k N : ℕ) (A B : ℕ → ℕ → 𝓕 .F) where
       ∙ ap (mul (upTo mul one (λ j. A j b) N)) (prod-inv 𝓕 (λ j. B j b) N)
 
   pub step-in : (j t : ℕ) → zAt (suc j) t ≡ mul (zAt j t) (ratio j (rowAt k (suc t)))
-  unfolding R.zAt
+  unfolding R.zPlaced
   step-in j t =
       ap (mul P) (upTo-suc mul one (λ i. ratio i (rowAt k (suc t))) j)
       ∙ sym (𝓕 .mul-assoc P (upTo mul one (λ i. ratio i (rowAt k (suc t))) j) (ratio j (rowAt k (suc t))))
@@ -63,13 +63,13 @@ module _ (𝓕 : Field) (k N : ℕ) (A B : ℕ → ℕ → 𝓕 .F) where
       P = upTo mul one (λ s. rowRatio (rowAt k (suc s))) t
 
   pub at-first : (t : ℕ) → zAt 0 t ≡ upTo mul one (λ s. rowRatio (rowAt k (suc s))) t
-  unfolding R.zAt
+  unfolding R.zPlaced
   at-first t =
       ap (mul (upTo mul one (λ s. rowRatio (rowAt k (suc s))) t)) (upTo-zero mul one (λ i. ratio i (rowAt k (suc t))))
       ∙ 𝓕 .mul-one (upTo mul one (λ s. rowRatio (rowAt k (suc s))) t)
 
   pub step-out : (t : ℕ) → zAt N t ≡ zAt 0 (suc t)
-  unfolding R.zAt R.rowRatio
+  unfolding R.zPlaced R.rowRatio
   step-out t = sym (at-first (suc t) ∙ upTo-suc mul one (λ s. rowRatio (rowAt k (suc s))) t)
 
   pub zero-at : zAt 0 0 ≡ one
@@ -83,7 +83,7 @@ module _ (𝓕 : Field) (k N : ℕ) (A B : ℕ → ℕ → 𝓕 .F) where
   row-one = row-suc k 0 ∙ iter-zero (nextRow k) 1
 
   pub z-scan : (j t : ℕ) → 0 < N → j ≤ N → zAt j t ≡ scan (t * N + j)
-  unfolding R.zAt R.scan R.rowRatio
+  unfolding R.zPlaced R.scan R.rowRatio
   z-scan j t p m =
       sym
       (upTo-add mul one (muls 𝓕) f (t * N) j

@@ -6,7 +6,7 @@ use Prim.Native.Nat.{ℕ, zero, suc, _<_}
 use native.Mathlib.Nat.{not-suc-le-zero}
 use native.Mathlib.Omega.{arith}
 use lib.ListN.{length, getD, take, drop}
-use Rattle.lists.specs.Lists.{column, those, concat, split, All}
+use Rattle.lists.specs.Lists.{tabulate, filter, concat, split, All}
 
 module _ {A : Type 0} (Q : A → Type 0) where
   -- by index
@@ -37,11 +37,11 @@ module _ {A : Type 0} (Q : A → Type 0) where
   all-right [] ys p = p
   all-right (x ∷ xs) ys p = all-right xs ys (p .1)
 
-  pub all-column : (f : ℕ → A) (n : ℕ) → ((i : ℕ) → i < n → Q (f i)) → All Q (column f n)
-  unfolding column
+  pub all-column : (f : ℕ → A) (n : ℕ) → ((i : ℕ) → i < n → Q (f i)) → All Q (tabulate f n)
+  unfolding tabulate
   all-column f zero h = tt
   all-column f (suc n) h =
-      all-join (column f n) (f n ∷ []) (all-column f n (λ i l. h i (omega arith))) (h n (omega arith), tt)
+      all-join (tabulate f n) (f n ∷ []) (all-column f n (λ i l. h i (omega arith))) (h n (omega arith), tt)
 
   pub all-take : (n : ℕ) (xs : List A) → All Q xs → All Q (take n xs)
   all-take zero xs a = tt
@@ -63,12 +63,12 @@ module _ {A : Type 0} (Q : A → Type 0) where
   all-concat [] a = tt
   all-concat (xs ∷ xss) a = all-join xs (concat xss) (a .0) (all-concat xss (a .1))
 
-  pub all-those : (p : A → Bool) (xs : List A) → All Q xs → All Q (those p xs)
-  unfolding those
+  pub all-those : (p : A → Bool) (xs : List A) → All Q xs → All Q (filter p xs)
+  unfolding filter
   all-those p [] a = tt
   all-those p (x ∷ xs) a = go (p x) (all-those p xs (a .1))
     where
-      go : (t : Bool) → All Q (those p xs) → All Q (cond t (x ∷ those p xs) (those p xs))
+      go : (t : Bool) → All Q (filter p xs) → All Q (cond t (x ∷ filter p xs) (filter p xs))
       go true r = (a .0, r)
       go false r = r
 

@@ -7,132 +7,132 @@ use native.Mathlib.Decide.{decLt, ℕ-discrete}
 use native.Mathlib.Omega.{arith}
 use lib.ListN.{length, getD, take, drop, replicate, length-append}
 use lib.Seq.{ext-getD, take-suc, take-add}
-use Rattle.lists.specs.Lists.{column, below, concat}
+use Rattle.lists.specs.Lists.{tabulate, range, concat}
 use Rattle.lists.proofs.Lists.{get-left, get-past, concat-end}
 
 module _ {A : Type 0} where
-  pub column-length : (f : ℕ → A) (n : ℕ) → length (column f n) ≡ n
-  unfolding column
+  pub column-length : (f : ℕ → A) (n : ℕ) → length (tabulate f n) ≡ n
+  unfolding tabulate
   column-length f zero = refl
   column-length f (suc n) = simp length-append (omega (arith, column-length f n))
 
-  pub get-column : (f : ℕ → A) (n i : ℕ) (d : A) → i < n → getD (column f n) i d ≡ f i
-  unfolding column
+  pub get-column : (f : ℕ → A) (n i : ℕ) (d : A) → i < n → getD (tabulate f n) i d ≡ f i
+  unfolding tabulate
   get-column f zero i d l = absurd (not-suc-le-zero l)
   get-column f (suc n) i d l = go (decLt i n) (get-column f n i d)
     where
-      go : Dec (i < n) → (i < n → getD (column f n) i d ≡ f i) → getD (column f n ++ (f n ∷ [])) i d ≡ f i
-      go (yes h) rec = get-left (column f n) (f n ∷ []) i d (let q = column-length f n in omega arith) ∙ rec h
+      go : Dec (i < n) → (i < n → getD (tabulate f n) i d ≡ f i) → getD (tabulate f n ++ (f n ∷ [])) i d ≡ f i
+      go (yes h) rec = get-left (tabulate f n) (f n ∷ []) i d (let q = column-length f n in omega arith) ∙ rec h
       go (no h) rec =
           let e : i ≡ n = omega arith in
-          get-past (column f n) (f n ∷ []) i 0 d (let q = column-length f n in omega arith) ∙ ap f (sym e)
+          get-past (tabulate f n) (f n ∷ []) i 0 d (let q = column-length f n in omega arith) ∙ ap f (sym e)
 
   -- one more, at the end and at the front
-  pub column-suc : (f : ℕ → A) (n : ℕ) → column f (suc n) ≡ column f n ++ (f n ∷ [])
-  unfolding column
+  pub column-suc : (f : ℕ → A) (n : ℕ) → tabulate f (suc n) ≡ tabulate f n ++ (f n ∷ [])
+  unfolding tabulate
   column-suc f n = refl
 
-  pub column-first : (f : ℕ → A) (n : ℕ) → column f (suc n) ≡ f 0 ∷ column (λ i. f (suc i)) n
-  unfolding column
+  pub column-first : (f : ℕ → A) (n : ℕ) → tabulate f (suc n) ≡ f 0 ∷ tabulate (λ i. f (suc i)) n
+  unfolding tabulate
   column-first f zero = refl
   column-first f (suc n) = ap (λ (l : List A). l ++ (f (suc n) ∷ [])) (column-first f n)
 
-  pub column-cong : (f g : ℕ → A) (n : ℕ) → ((i : ℕ) → i < n → f i ≡ g i) → column f n ≡ column g n
-  unfolding column
+  pub column-cong : (f g : ℕ → A) (n : ℕ) → ((i : ℕ) → i < n → f i ≡ g i) → tabulate f n ≡ tabulate g n
+  unfolding tabulate
   column-cong f g zero h = refl
   column-cong f g (suc n) h =
       ap₂ (λ (l : List A) (v : A). l ++ (v ∷ [])) (column-cong f g n (λ i l. h i (omega arith))) (h n (omega arith))
 
-  pub column-append : (f : ℕ → A) (m n : ℕ) → column f (m + n) ≡ column f m ++ column (λ i. f (m + i)) n
-  unfolding column
-  column-append f m zero = ap (column f) (add-zero m) ∙ sym (append-nil (column f m))
+  pub column-append : (f : ℕ → A) (m n : ℕ) → tabulate f (m + n) ≡ tabulate f m ++ tabulate (λ i. f (m + i)) n
+  unfolding tabulate
+  column-append f m zero = ap (tabulate f) (add-zero m) ∙ sym (append-nil (tabulate f m))
   column-append f m (suc n) =
-      ap (column f) (add-suc m n)
+      ap (tabulate f) (add-suc m n)
       ∙ ap (λ (l : List A). l ++ (f (m + n) ∷ [])) (column-append f m n)
-      ∙ append-assoc (column f m) (column (λ i. f (m + i)) n) (f (m + n) ∷ [])
+      ∙ append-assoc (tabulate f m) (tabulate (λ i. f (m + i)) n) (f (m + n) ∷ [])
 
   -- a list is the column of its entries
-  pub column-of : (xs : List A) (d : A) → column (λ i. getD xs i d) (length xs) ≡ xs
+  pub column-of : (xs : List A) (d : A) → tabulate (λ i. getD xs i d) (length xs) ≡ xs
   column-of xs d =
-      ext-getD d (column (λ i. getD xs i d) (length xs)) xs (column-length (λ i. getD xs i d) (length xs))
+      ext-getD d (tabulate (λ i. getD xs i d) (length xs)) xs (column-length (λ i. getD xs i d) (length xs))
       (λ i l. get-column (λ i. getD xs i d) (length xs) i d (let q = column-length (λ i. getD xs i d) (length xs) in omega arith))
 
-  pub column-take : (xs : List A) (d : A) (n : ℕ) → n ≤ length xs → column (λ i. getD xs i d) n ≡ take n xs
-  unfolding column
+  pub column-take : (xs : List A) (d : A) (n : ℕ) → n ≤ length xs → tabulate (λ i. getD xs i d) n ≡ take n xs
+  unfolding tabulate
   column-take xs d zero l = refl
   column-take xs d (suc n) l =
       ap (λ (r : List A). r ++ (getD xs n d ∷ [])) (column-take xs d n (omega arith)) ∙ sym (take-suc xs n d (omega arith))
 
-  pub column-replicate : (v : A) (n : ℕ) → column (λ i. v) n ≡ replicate n v
-  unfolding column
+  pub column-replicate : (v : A) (n : ℕ) → tabulate (λ i. v) n ≡ replicate n v
+  unfolding tabulate
   column-replicate v zero = refl
   column-replicate v (suc n) = column-first (λ i. v) n ∙ ap (λ (l : List A). v ∷ l) (column-replicate v n)
 
-pub map-column : {A B : Type 0} (f : A → B) (p : ℕ → A) (n : ℕ) → map f (column p n) ≡ column (λ i. f (p i)) n
-unfolding column
+pub map-column : {A B : Type 0} (f : A → B) (p : ℕ → A) (n : ℕ) → map f (tabulate p n) ≡ tabulate (λ i. f (p i)) n
+unfolding tabulate
 map-column f p zero = refl
 map-column f p (suc n) =
-    map-append f (column p n) (p n ∷ []) ∙ ap (λ (l : List _). l ++ (f (p n) ∷ [])) (map-column f p n)
+    map-append f (tabulate p n) (p n ∷ []) ∙ ap (λ (l : List _). l ++ (f (p n) ∷ [])) (map-column f p n)
 
 -- ---- the numbers below n
-pub below-length : (n : ℕ) → length (below n) ≡ n
+pub below-length : (n : ℕ) → length (range n) ≡ n
 below-length n = column-length (λ i. i) n
 
-pub below-get : (n i d : ℕ) → i < n → getD (below n) i d ≡ i
+pub below-get : (n i d : ℕ) → i < n → getD (range n) i d ≡ i
 below-get n i d l = get-column (λ i. i) n i d l
 
-pub map-below : {A : Type 0} (f : ℕ → A) (n : ℕ) → map f (below n) ≡ column f n
+pub map-below : {A : Type 0} (f : ℕ → A) (n : ℕ) → map f (range n) ≡ tabulate f n
 map-below f n = map-column f (λ i. i) n
 
 -- ---- columns of one length, one after another
 module _ {A : Type 0} (rows : ℕ) (f : ℕ → ℕ → A) where
-  pub columns-suc : (n : ℕ) → concat (column (λ j. column (f j) rows) (suc n)) ≡ concat (column (λ j. column (f j) rows) n) ++ column (f n) rows
-  unfolding column
-  columns-suc n = concat-end (column (λ j. column (f j) rows) n) (column (f n) rows)
+  pub columns-suc : (n : ℕ) → concat (tabulate (λ j. tabulate (f j) rows) (suc n)) ≡ concat (tabulate (λ j. tabulate (f j) rows) n) ++ tabulate (f n) rows
+  unfolding tabulate
+  columns-suc n = concat-end (tabulate (λ j. tabulate (f j) rows) n) (tabulate (f n) rows)
 
-  pub columns-length : (n : ℕ) → length (concat (column (λ j. column (f j) rows) n)) ≡ n * rows
-  unfolding column concat
+  pub columns-length : (n : ℕ) → length (concat (tabulate (λ j. tabulate (f j) rows) n)) ≡ n * rows
+  unfolding tabulate concat
   columns-length zero = sym (zero-mul rows)
   columns-length (suc n) =
       ap length (columns-suc n)
-      ∙ length-append (concat (column (λ j. column (f j) rows) n)) (column (f n) rows)
+      ∙ length-append (concat (tabulate (λ j. tabulate (f j) rows) n)) (tabulate (f n) rows)
       ∙ ap₂ _+_ (columns-length n) (column-length (f n) rows)
       ∙ sym (suc-mul n rows)
 
   -- row b of column j
-  pub get-columns : (n j b : ℕ) (d : A) → j < n → b < rows → getD (concat (column (λ j. column (f j) rows) n)) (j * rows + b) d ≡ f j b
+  pub get-columns : (n j b : ℕ) (d : A) → j < n → b < rows → getD (concat (tabulate (λ j. tabulate (f j) rows) n)) (j * rows + b) d ≡ f j b
   get-columns zero j b d l m = absurd (not-suc-le-zero l)
   get-columns (suc n) j b d l m =
       ap (λ (xs : List A). getD xs (j * rows + b) d) (columns-suc n) ∙ go (ℕ-discrete j n) (get-columns n j b d)
     where
-      len : length (concat (column (λ j. column (f j) rows) n)) ≡ n * rows
+      len : length (concat (tabulate (λ j. tabulate (f j) rows) n)) ≡ n * rows
       len = columns-length n
 
-      inside : j < n → j * rows + b < length (concat (column (λ j. column (f j) rows) n))
+      inside : j < n → j * rows + b < length (concat (tabulate (λ j. tabulate (f j) rows) n))
       inside h =
           let q : suc j * rows ≤ n * rows = native.Mathlib.Nat.mul-le-mul-right rows h in
           let w = suc-mul j rows in
           let e = len in
           omega arith
 
-      go : Dec (j ≡ n) → (j < n → b < rows → getD (concat (column (λ j. column (f j) rows) n)) (j * rows + b) d ≡ f j b)
-          → getD (concat (column (λ j. column (f j) rows) n) ++ column (f n) rows) (j * rows + b) d ≡ f j b
+      go : Dec (j ≡ n) → (j < n → b < rows → getD (concat (tabulate (λ j. tabulate (f j) rows) n)) (j * rows + b) d ≡ f j b)
+          → getD (concat (tabulate (λ j. tabulate (f j) rows) n) ++ tabulate (f n) rows) (j * rows + b) d ≡ f j b
       go (yes e) rec =
-          get-past (concat (column (λ j. column (f j) rows) n)) (column (f n) rows) (j * rows + b) b d
+          get-past (concat (tabulate (λ j. tabulate (f j) rows) n)) (tabulate (f n) rows) (j * rows + b) b d
           (ap (λ (i : ℕ). i * rows + b) e ∙ ap (λ (i : ℕ). i + b) (sym len))
           ∙ get-column (f n) rows b d m
           ∙ ap (λ (i : ℕ). f i b) (sym e)
       go (no h) rec =
-          get-left (concat (column (λ j. column (f j) rows) n)) (column (f n) rows) (j * rows + b) d (inside (omega arith))
+          get-left (concat (tabulate (λ j. tabulate (f j) rows) n)) (tabulate (f n) rows) (j * rows + b) d (inside (omega arith))
           ∙ rec (omega arith) m
 
 -- ---- parts of s each
 -- the first m parts are the first m * s
-pub concat-parts : {A : Type 0} (s : ℕ) (xs : List A) (m : ℕ) → concat (column (λ i. take s (drop (i * s) xs)) m) ≡ take (m * s) xs
-unfolding column concat
+pub concat-parts : {A : Type 0} (s : ℕ) (xs : List A) (m : ℕ) → concat (tabulate (λ i. take s (drop (i * s) xs)) m) ≡ take (m * s) xs
+unfolding tabulate concat
 concat-parts s xs zero = ap (λ (n : ℕ). take n xs) (sym (zero-mul s))
 concat-parts s xs (suc m) =
-    concat-end (column (λ i. take s (drop (i * s) xs)) m) (take s (drop (m * s) xs))
+    concat-end (tabulate (λ i. take s (drop (i * s) xs)) m) (take s (drop (m * s) xs))
     ∙ ap (λ (l : List _). l ++ take s (drop (m * s) xs)) (concat-parts s xs m)
     ∙ sym (take-add (m * s) s xs)
     ∙ ap (λ (n : ℕ). take n xs) (sym (suc-mul m s))

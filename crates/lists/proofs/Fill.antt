@@ -5,7 +5,7 @@ use Prim.Native.Nat.{ℕ, zero, suc, _+_, _≤_, _<_}
 use native.Mathlib.Numerals.{add-one}
 use native.Mathlib.Omega.{arith}
 use lib.ListN.{length, getD, set, replicate, length-set}
-use Rattle.lists.specs.Lists.{column, over}
+use Rattle.lists.specs.Lists.{tabulate, writeAt}
 use Rattle.lists.proofs.Columns.{column-length, column-replicate}
 use Rattle.lists.proofs.Over.{over-none, over-column, over-before}
 
@@ -13,11 +13,11 @@ use Rattle.lists.proofs.Over.{over-none, over-column, over-before}
 pub record Filled (rows : ℕ) (f : ℕ → ℕ) (d : List ℕ) (at : ℕ) (m : List ℕ) (i : ℕ) : Type 0 where
   pub upto : i ≤ rows
   pub size : length m ≡ length d
-  pub now : m ≡ over d at (column f i)
+  pub now : m ≡ writeAt d at (tabulate f i)
 
 module _ (rows : ℕ) (f : ℕ → ℕ) (d : List ℕ) (at : ℕ) where
   pub fill-start : Filled rows f d at d 0
-  unfolding column
+  unfolding tabulate
   fill-start = record { upto = omega arith; size = refl; now = sym (over-none d at) }
 
   module _ (m : List ℕ) (i : ℕ) (inv : Filled rows f d at m i) where
@@ -29,7 +29,7 @@ module _ (rows : ℕ) (f : ℕ → ℕ) (d : List ℕ) (at : ℕ) where
           now =
               ap₂ (λ (x : List ℕ) (v : ℕ). set x (at + i) v) (inv .now) e
               ∙ over-column d at f i (omega arith)
-              ∙ ap (λ (n : ℕ). over d at (column f n)) (sym (add-one i));
+              ∙ ap (λ (n : ℕ). writeAt d at (tabulate f n)) (sym (add-one i));
         }
 
     -- the same, at the word p
@@ -38,10 +38,10 @@ module _ (rows : ℕ) (f : ℕ → ℕ) (d : List ℕ) (at : ℕ) where
 
     -- what stands before is as it was
     pub fill-before : at ≤ length d → (j : ℕ) → j < at → getD m j 0 ≡ getD d j 0
-    fill-before room j l = ap (λ (x : List ℕ). getD x j 0) (inv .now) ∙ over-before d at (column f i) j 0 room l
+    fill-before room j l = ap (λ (x : List ℕ). getD x j 0) (inv .now) ∙ over-before d at (tabulate f i) j 0 room l
 
-    pub fill-end : rows ≤ i → m ≡ over d at (column f rows)
-    fill-end h = let e : i ≡ rows = omega arith in inv .now ∙ ap (λ (n : ℕ). over d at (column f n)) e
+    pub fill-end : rows ≤ i → m ≡ writeAt d at (tabulate f rows)
+    fill-end h = let e : i ≡ rows = omega arith in inv .now ∙ ap (λ (n : ℕ). writeAt d at (tabulate f n)) e
 
-pub fill-zero : (rows : ℕ) (d : List ℕ) (at : ℕ) (m : List ℕ) → m ≡ over d at (column (λ _. 0) rows) → m ≡ over d at (replicate rows 0)
-fill-zero rows d at m e = e ∙ ap (over d at) (column-replicate 0 rows)
+pub fill-zero : (rows : ℕ) (d : List ℕ) (at : ℕ) (m : List ℕ) → m ≡ writeAt d at (tabulate (λ _. 0) rows) → m ≡ writeAt d at (replicate rows 0)
+fill-zero rows d at m e = e ∙ ap (writeAt d at) (column-replicate 0 rows)

@@ -16,7 +16,7 @@ use native.Mathlib.Numerals.{add-one}
 use native.Mathlib.Omega.{arith}
 use lib.ListN.{length, getD, take, drop}
 use lib.Seq.{take-add, take-suc, drop-drop}
-use Rattle.lists.specs.Lists.{column, concat, split, total}
+use Rattle.lists.specs.Lists.{tabulate, concat, split, total}
 use Rattle.lists.proofs.Columns.{columns-suc, column-append, column-cong}
 
 -- column and row of a place
@@ -64,14 +64,14 @@ module _ {A : Type 0} where
   concat-split (n ∷ ns) xs = ap (λ (ys : List A). take n xs ++ ys) (concat-split ns (drop n xs)) ∙ sym (take-add n (total ns) xs)
 
   -- columns of one length, one after another, by place
-  pub columns-flat : (rows : ℕ) (f : ℕ → ℕ → A) (n : ℕ) → concat (column (λ i. column (f i) rows) n) ≡ column (λ j. f (j / rows) (j % rows)) (n * rows)
-  unfolding column concat
-  columns-flat rows f zero = ap (column (λ j. f (j / rows) (j % rows))) (sym (zero-mul rows))
+  pub columns-flat : (rows : ℕ) (f : ℕ → ℕ → A) (n : ℕ) → concat (tabulate (λ i. tabulate (f i) rows) n) ≡ tabulate (λ j. f (j / rows) (j % rows)) (n * rows)
+  unfolding tabulate concat
+  columns-flat rows f zero = ap (tabulate (λ j. f (j / rows) (j % rows))) (sym (zero-mul rows))
   columns-flat rows f (suc n) =
       columns-suc rows f n
       ∙ ap₂ _++_ (columns-flat rows f n) (column-cong (f n) (λ b. f ((n * rows + b) / rows) ((n * rows + b) % rows)) rows same)
       ∙ sym (column-append (λ j. f (j / rows) (j % rows)) (n * rows) rows)
-      ∙ ap (column (λ j. f (j / rows) (j % rows))) (sym (suc-mul n rows))
+      ∙ ap (tabulate (λ j. f (j / rows) (j % rows))) (sym (suc-mul n rows))
     where
       same : (b : ℕ) → b < rows → f n b ≡ f ((n * rows + b) / rows) ((n * rows + b) % rows)
       same b l = sym (ap₂ f (div-row n rows b l) (mod-row n rows b l))

@@ -9,7 +9,7 @@ use native.Mathlib.Decide.{ℕ-discrete}
 use native.Mathlib.Omega.{arith}
 use lib.ListN.{length, getD}
 use borrow.Author.Tests.{eq-eqb, ne-eqb}
-use Rattle.lists.specs.Lists.{column, below, those, indexOf}
+use Rattle.lists.specs.Lists.{tabulate, range, filter, indexOf}
 
 -- q stands in the list
 abbrev pub Among : ℕ → List ℕ → Type 0
@@ -54,26 +54,26 @@ among-right q (x ∷ xs) ys l = go (ℕ-discrete q x) (among-right q xs ys l)
     go (yes e) r = let w = index-here q x (xs ++ ys) e in omega arith
     go (no n) r = let w = index-cons q x (xs ++ ys) n in omega arith
 
-pub among-below : (n q : ℕ) → q < n → Among q (below n)
-unfolding column
+pub among-below : (n q : ℕ) → q < n → Among q (range n)
+unfolding tabulate
 among-below zero q l = absurd (not-suc-le-zero l)
 among-below (suc n) q l = go (ℕ-discrete q n) (among-below n q)
   where
-    go : Dec (q ≡ n) → (q < n → Among q (below n)) → Among q (below n ++ (n ∷ []))
-    go (yes e) rec = among-right q (below n) (n ∷ []) (let w = index-here q n [] e in omega arith)
-    go (no m) rec = among-left q (below n) (n ∷ []) (rec (omega arith))
+    go : Dec (q ≡ n) → (q < n → Among q (range n)) → Among q (range n ++ (n ∷ []))
+    go (yes e) rec = among-right q (range n) (n ∷ []) (let w = index-here q n [] e in omega arith)
+    go (no m) rec = among-left q (range n) (n ∷ []) (rec (omega arith))
 
-pub among-those : (p : ℕ → Bool) (q : ℕ) (xs : List ℕ) → p q ≡ true → Among q xs → Among q (those p xs)
-unfolding those
+pub among-those : (p : ℕ → Bool) (q : ℕ) (xs : List ℕ) → p q ≡ true → Among q xs → Among q (filter p xs)
+unfolding filter
 among-those p q [] t l = absurd (not-suc-le-zero l)
 among-those p q (x ∷ xs) t l = go (ℕ-discrete q x) (among-those p q xs t)
   where
-    go : Dec (q ≡ x) → (Among q xs → Among q (those p xs)) → Among q (cond (p x) (x ∷ those p xs) (those p xs))
+    go : Dec (q ≡ x) → (Among q xs → Among q (filter p xs)) → Among q (cond (p x) (x ∷ filter p xs) (filter p xs))
     go (yes e) rec =
-        subst (λ (b : Bool). Among q (cond b (x ∷ those p xs) (those p xs))) (sym t ∙ ap p e)
-        (let w = index-here q x (those p xs) e in omega arith)
+        subst (λ (b : Bool). Among q (cond b (x ∷ filter p xs) (filter p xs))) (sym t ∙ ap p e)
+        (let w = index-here q x (filter p xs) e in omega arith)
     go (no n) rec = go' (p x) (rec (let w = index-cons q x xs n in omega arith))
       where
-        go' : (b : Bool) → Among q (those p xs) → Among q (cond b (x ∷ those p xs) (those p xs))
-        go' true r = let w = index-cons q x (those p xs) n in omega arith
+        go' : (b : Bool) → Among q (filter p xs) → Among q (cond b (x ∷ filter p xs) (filter p xs))
+        go' true r = let w = index-cons q x (filter p xs) n in omega arith
         go' false r = r

@@ -6,7 +6,7 @@ use Prim.Native.Nat.{ℕ, zero, suc, _<_}
 use native.Mathlib.Nat.{not-suc-le-zero}
 use native.Mathlib.Omega.{arith}
 use lib.ListN.{length, getD}
-use Rattle.lists.specs.Lists.{column, below, those, indexOf, All}
+use Rattle.lists.specs.Lists.{tabulate, range, filter, indexOf, All}
 use Rattle.lists.proofs.All.{all-get, all-join, all-those, all-column}
 use Rattle.lists.proofs.Places.{index-here, index-cons}
 
@@ -19,17 +19,17 @@ pub rising-end : (xs : List ℕ) (n : ℕ) → Rising xs → All (λ x. x < n) x
 rising-end [] n r a = (tt, tt)
 rising-end (x ∷ xs) n r a = (all-join (λ y. x < y) xs (n ∷ []) (r .0) (a .0, tt), rising-end xs n (r .1) (a .1))
 
-pub rising-below : (n : ℕ) → Rising (below n)
-unfolding column
+pub rising-below : (n : ℕ) → Rising (range n)
+unfolding tabulate
 rising-below zero = tt
-rising-below (suc n) = rising-end (below n) n (rising-below n) (all-column (λ x. x < n) (λ i. i) n (λ i l. l))
+rising-below (suc n) = rising-end (range n) n (rising-below n) (all-column (λ x. x < n) (λ i. i) n (λ i l. l))
 
-pub rising-those : (p : ℕ → Bool) (xs : List ℕ) → Rising xs → Rising (those p xs)
-unfolding those
+pub rising-those : (p : ℕ → Bool) (xs : List ℕ) → Rising xs → Rising (filter p xs)
+unfolding filter
 rising-those p [] r = tt
 rising-those p (x ∷ xs) r = go (p x) (rising-those p xs (r .1))
   where
-    go : (t : Bool) → Rising (those p xs) → Rising (cond t (x ∷ those p xs) (those p xs))
+    go : (t : Bool) → Rising (filter p xs) → Rising (cond t (x ∷ filter p xs) (filter p xs))
     go true h = (all-those (λ y. x < y) p xs (r .0), h)
     go false h = h
 

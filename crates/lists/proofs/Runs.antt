@@ -6,33 +6,33 @@ use native.Mathlib.Decide.{decLt}
 use native.Mathlib.Omega.{arith}
 use lib.ListN.{length, getD, take, drop}
 use lib.Seq.{take-all, take-at, drop-at}
-use Rattle.lists.specs.Lists.{column, total}
+use Rattle.lists.specs.Lists.{tabulate, total}
 use Rattle.lists.proofs.Columns.{column-length, column-append}
 use Rattle.lists.proofs.Parts.{total-within, total-more}
 
 -- ---- runs of a column
 module _ {A : Type 0} (f : ℕ → A) where
-  pub drop-column : (s n : ℕ) → s ≤ n → drop s (column f n) ≡ column (λ i. f (s + i)) (n - s)
+  pub drop-column : (s n : ℕ) → s ≤ n → drop s (tabulate f n) ≡ tabulate (λ i. f (s + i)) (n - s)
   drop-column s n h =
       let e : n ≡ s + (n - s) = omega arith in
-      ap (λ (m : ℕ). drop s (column f m)) e ∙ ap (drop s) (column-append f s (n - s))
-      ∙ drop-at (column f s) (column (λ i. f (s + i)) (n - s)) s (column-length f s)
+      ap (λ (m : ℕ). drop s (tabulate f m)) e ∙ ap (drop s) (column-append f s (n - s))
+      ∙ drop-at (tabulate f s) (tabulate (λ i. f (s + i)) (n - s)) s (column-length f s)
 
-  pub take-column : (w n : ℕ) → w ≤ n → take w (column f n) ≡ column f w
+  pub take-column : (w n : ℕ) → w ≤ n → take w (tabulate f n) ≡ tabulate f w
   take-column w n h =
       let e : n ≡ w + (n - w) = omega arith in
-      ap (λ (m : ℕ). take w (column f m)) e ∙ ap (take w) (column-append f w (n - w))
-      ∙ take-at (column f w) (column (λ i. f (w + i)) (n - w)) w (column-length f w)
+      ap (λ (m : ℕ). take w (tabulate f m)) e ∙ ap (take w) (column-append f w (n - w))
+      ∙ take-at (tabulate f w) (tabulate (λ i. f (w + i)) (n - w)) w (column-length f w)
 
-  pub take-min : (w n : ℕ) → take w (column f n) ≡ column f (min w n)
+  pub take-min : (w n : ℕ) → take w (tabulate f n) ≡ tabulate f (min w n)
   take-min w n = go (decLt n w)
     where
-      go : Dec (n < w) → take w (column f n) ≡ column f (min w n)
+      go : Dec (n < w) → take w (tabulate f n) ≡ tabulate f (min w n)
       go (yes h) =
-          take-all w (column f n) (let e = column-length f n in omega arith) ∙ ap (column f) (omega arith)
-      go (no h) = take-column w n (omega arith) ∙ ap (column f) (omega arith)
+          take-all w (tabulate f n) (let e = column-length f n in omega arith) ∙ ap (tabulate f) (omega arith)
+      go (no h) = take-column w n (omega arith) ∙ ap (tabulate f) (omega arith)
 
-pub part-column : {A : Type 0} (f : ℕ → A) (s w n : ℕ) → s + w ≤ n → take w (drop s (column f n)) ≡ column (λ i. f (s + i)) w
+pub part-column : {A : Type 0} (f : ℕ → A) (s w n : ℕ) → s + w ≤ n → take w (drop s (tabulate f n)) ≡ tabulate (λ i. f (s + i)) w
 part-column f s w n h =
     ap (take w) (drop-column f s n (omega arith)) ∙ take-column (λ i. f (s + i)) w (n - s) (omega arith)
 

@@ -7,7 +7,7 @@ use native.Mathlib.Numerals.{add-one}
 use native.Mathlib.Omega.{arith}
 use lib.ListN.{length, getD, take, drop, drop-of-length-le}
 use lib.Seq.{take-suc, drop-cons, take-at, drop-at, drop-drop}
-use Rattle.lists.specs.Lists.{column, anyOf, those, countOf, concat, indexOf, total, split}
+use Rattle.lists.specs.Lists.{tabulate, anyOf, filter, countOf, concat, indexOf, total, split}
 use Rattle.lists.proofs.Tests.{any-append, any-at, count-append, count-one}
 use Rattle.lists.proofs.Lists.{concat-end}
 use Rattle.lists.proofs.Places.{index-here, index-cons}
@@ -20,47 +20,47 @@ module _ {A : Type 0} (p : A → Bool) where
       ∙ count-append p (take i xs) (getD xs i d ∷ [])
       ∙ ap (λ (n : ℕ). countOf p (take i xs) + n) (count-one p (getD xs i d))
 
-  pub any-next : (f : ℕ → A) (n : ℕ) → anyOf p (column f (n + 1)) ≡ (anyOf p (column f n) || p (f n))
+  pub any-next : (f : ℕ → A) (n : ℕ) → anyOf p (tabulate f (n + 1)) ≡ (anyOf p (tabulate f n) || p (f n))
   unfolding anyOf
   any-next f n =
-      ap (λ (m : ℕ). anyOf p (column f m)) (add-one n) ∙ ap (anyOf p) (column-suc f n) ∙ any-append p (column f n) (f n ∷ [])
-      ∙ ap (λ (t : Bool). anyOf p (column f n) || t) (or-false (p (f n)))
+      ap (λ (m : ℕ). anyOf p (tabulate f m)) (add-one n) ∙ ap (anyOf p) (column-suc f n) ∙ any-append p (tabulate f n) (f n ∷ [])
+      ∙ ap (λ (t : Bool). anyOf p (tabulate f n) || t) (or-false (p (f n)))
 
   -- a search for one that passes
-  pub any-on : (f : ℕ → A) (n : ℕ) → p (f n) ≡ false → anyOf p (column f n) ≡ false → anyOf p (column f (n + 1)) ≡ false
+  pub any-on : (f : ℕ → A) (n : ℕ) → p (f n) ≡ false → anyOf p (tabulate f n) ≡ false → anyOf p (tabulate f (n + 1)) ≡ false
   any-on f n e h = any-next f n ∙ ap₂ _||_ h e
 
-  pub any-stop : (f : ℕ → A) (n i : ℕ) → p (f i) ≡ true → i < n → true ≡ anyOf p (column f n)
+  pub any-stop : (f : ℕ → A) (n i : ℕ) → p (f i) ≡ true → i < n → true ≡ anyOf p (tabulate f n)
   any-stop f n i e l =
-      sym (any-at p (f i) (column f n) i (let q = column-length f n in omega arith) (ap p (get-column f n i (f i) l) ∙ e))
+      sym (any-at p (f i) (tabulate f n) i (let q = column-length f n in omega arith) (ap p (get-column f n i (f i) l) ∙ e))
 
-  pub any-end : (f : ℕ → A) (n i : ℕ) → i ≤ n → n ≤ i → anyOf p (column f i) ≡ false → false ≡ anyOf p (column f n)
-  any-end f n i l m h = sym h ∙ ap (λ (j : ℕ). anyOf p (column f j)) (let e : i ≡ n = omega arith in e)
+  pub any-end : (f : ℕ → A) (n i : ℕ) → i ≤ n → n ≤ i → anyOf p (tabulate f i) ≡ false → false ≡ anyOf p (tabulate f n)
+  any-end f n i l m h = sym h ∙ ap (λ (j : ℕ). anyOf p (tabulate f j)) (let e : i ≡ n = omega arith in e)
 
   -- a column of lists, joined
-  pub count-joined : (f : ℕ → List A) (n : ℕ) → countOf p (concat (column f (n + 1))) ≡ countOf p (concat (column f n)) + countOf p (f n)
+  pub count-joined : (f : ℕ → List A) (n : ℕ) → countOf p (concat (tabulate f (n + 1))) ≡ countOf p (concat (tabulate f n)) + countOf p (f n)
   count-joined f n =
-      ap (λ (m : ℕ). countOf p (concat (column f m))) (add-one n)
+      ap (λ (m : ℕ). countOf p (concat (tabulate f m))) (add-one n)
       ∙ ap (λ (xss : List (List A)). countOf p (concat xss)) (column-suc f n)
-      ∙ ap (λ (xs : List A). countOf p xs) (concat-end (column f n) (f n))
-      ∙ count-append p (concat (column f n)) (f n)
+      ∙ ap (λ (xs : List A). countOf p xs) (concat-end (tabulate f n) (f n))
+      ∙ count-append p (concat (tabulate f n)) (f n)
 
   pub count-le : (xs : List A) → countOf p xs ≤ length xs
-  unfolding those
+  unfolding filter
   count-le [] = omega arith
   count-le (x ∷ xs) = go (p x) (count-le xs)
     where
-      go : (t : Bool) → countOf p xs ≤ length xs → length (cond t (x ∷ those p xs) (those p xs)) ≤ suc (length xs)
+      go : (t : Bool) → countOf p xs ≤ length xs → length (cond t (x ∷ filter p xs) (filter p xs)) ≤ suc (length xs)
       go true l = omega arith
       go false l = omega arith
 
 pub count-map : {A B : Type 0} (p : B → Bool) (f : A → B) (xs : List A) → countOf p (map f xs) ≡ countOf (λ x. p (f x)) xs
-unfolding those
+unfolding filter
 count-map p f [] = refl
 count-map p f (x ∷ xs) = go (p (f x)) (count-map p f xs)
   where
     go : (t : Bool) → countOf p (map f xs) ≡ countOf (λ x. p (f x)) xs
-        → length (cond t (f x ∷ those p (map f xs)) (those p (map f xs))) ≡ length (cond t (x ∷ those (λ y. p (f y)) xs) (those (λ y. p (f y)) xs))
+        → length (cond t (f x ∷ filter p (map f xs)) (filter p (map f xs))) ≡ length (cond t (x ∷ filter (λ y. p (f y)) xs) (filter (λ y. p (f y)) xs))
     go true e = ap suc e
     go false e = e
 
@@ -85,16 +85,16 @@ module _ (q : ℕ) (xs : List ℕ) (i : ℕ) (h : indexOf q xs ≡ i + indexOf q
       omega arith
 
 -- a part of a column
-pub column-part : {A : Type 0} (f : ℕ → A) (n s m : ℕ) → s + m ≤ n → take m (drop s (column f n)) ≡ column (λ i. f (s + i)) m
+pub column-part : {A : Type 0} (f : ℕ → A) (n s m : ℕ) → s + m ≤ n → take m (drop s (tabulate f n)) ≡ tabulate (λ i. f (s + i)) m
 column-part {A = A} f n s m l =
     let r : ℕ = n - (s + m) in
     let g : ℕ → A = λ i. f (s + i) in
     let e : n ≡ s + (m + r) = omega arith in
-    ap (λ (k : ℕ). take m (drop s (column f k))) e
+    ap (λ (k : ℕ). take m (drop s (tabulate f k))) e
     ∙ ap (λ (xs : List A). take m (drop s xs)) (column-append f s (m + r))
-    ∙ ap (take m) (drop-at (column f s) (column g (m + r)) s (column-length f s))
+    ∙ ap (take m) (drop-at (tabulate f s) (tabulate g (m + r)) s (column-length f s))
     ∙ ap (take m) (column-append g m r)
-    ∙ take-at (column g m) (column (λ i. g (m + i)) r) m (column-length g m)
+    ∙ take-at (tabulate g m) (tabulate (λ i. g (m + i)) r) m (column-length g m)
 
 -- the parts of a list, one after another
 pub total-drop : (ns : List ℕ) (i : ℕ) → i < length ns → total (drop i ns) ≡ getD ns i 0 + total (drop (i + 1) ns)

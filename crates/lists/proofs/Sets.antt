@@ -11,7 +11,7 @@ use lib.Dec.{eqb}
 use lib.ListN.{length, getD, take, drop, set, length-set, length-drop, take-append-drop}
 use lib.Seq.{set-append-left, length-take-le, getD-set-same, getD-set-other, getD-drop, drop-drop, ext-getD}
 use borrow.Author.Tests.{eq-eqb, ne-eqb}
-use Rattle.lists.specs.Lists.{column, over}
+use Rattle.lists.specs.Lists.{tabulate, writeAt}
 use Rattle.lists.proofs.Columns.{column-length, get-column, column-cong, column-take}
 
 module _ {A : Type 0} where
@@ -22,8 +22,8 @@ module _ {A : Type 0} where
 
   -- a word of what was written
   pub over-set : (d : List A) (at : ℕ) (s : List A) (i : ℕ) (v : A) → at ≤ length d → i < length s
-      → set (over d at s) (at + i) v ≡ over d at (set s i v)
-  unfolding over
+      → set (writeAt d at s) (at + i) v ≡ writeAt d at (set s i v)
+  unfolding writeAt
   over-set d at s i v h l =
       ap (λ (n : ℕ). set (take at d ++ (s ++ drop (at + length s) d)) (n + i) v) (sym (length-take-le at d h))
       ∙ set-append-add (take at d) (s ++ drop (at + length s) d) i v
@@ -31,42 +31,42 @@ module _ {A : Type 0} where
       ∙ ap (λ (n : ℕ). take at d ++ (set s i v ++ drop (at + n) d)) (sym (length-set s i v))
 
   -- two columns that differ at one place
-  pub set-column-to : (f g : ℕ → A) (n a : ℕ) → a < n → ((i : ℕ) → i < n → i ≢ a → f i ≡ g i) → set (column f n) a (g a) ≡ column g n
+  pub set-column-to : (f g : ℕ → A) (n a : ℕ) → a < n → ((i : ℕ) → i < n → i ≢ a → f i ≡ g i) → set (tabulate f n) a (g a) ≡ tabulate g n
   set-column-to f g n a l h =
-      ext-getD (g a) (set (column f n) a (g a)) (column g n)
-      (length-set (column f n) a (g a) ∙ column-length f n ∙ sym (column-length g n))
-      (λ i m. at i (let q = length-set (column f n) a (g a) in let w = column-length f n in omega arith) (ℕ-discrete i a))
+      ext-getD (g a) (set (tabulate f n) a (g a)) (tabulate g n)
+      (length-set (tabulate f n) a (g a) ∙ column-length f n ∙ sym (column-length g n))
+      (λ i m. at i (let q = length-set (tabulate f n) a (g a) in let w = column-length f n in omega arith) (ℕ-discrete i a))
     where
-      at : (i : ℕ) → i < n → Dec (i ≡ a) → getD (set (column f n) a (g a)) i (g a) ≡ getD (column g n) i (g a)
+      at : (i : ℕ) → i < n → Dec (i ≡ a) → getD (set (tabulate f n) a (g a)) i (g a) ≡ getD (tabulate g n) i (g a)
       at i m (yes e) =
-          ap (λ (j : ℕ). getD (set (column f n) a (g a)) j (g a)) e
-          ∙ getD-set-same (column f n) a (g a) (g a) (let w = column-length f n in omega arith)
+          ap (λ (j : ℕ). getD (set (tabulate f n) a (g a)) j (g a)) e
+          ∙ getD-set-same (tabulate f n) a (g a) (g a) (let w = column-length f n in omega arith)
           ∙ sym (get-column g n i (g a) m ∙ ap g e)
       at i m (no e) =
-          getD-set-other (column f n) a i (g a) (g a) e ∙ get-column f n i (g a) m ∙ h i m e ∙ sym (get-column g n i (g a) m)
+          getD-set-other (tabulate f n) a i (g a) (g a) e ∙ get-column f n i (g a) m ∙ h i m e ∙ sym (get-column g n i (g a) m)
 
   -- one entry changed
-  pub set-column : (f : ℕ → A) (n a : ℕ) (v : A) → a < n → set (column f n) a v ≡ column (λ i. cond (eqb i a) v (f i)) n
+  pub set-column : (f : ℕ → A) (n a : ℕ) (v : A) → a < n → set (tabulate f n) a v ≡ tabulate (λ i. cond (eqb i a) v (f i)) n
   set-column f n a v l =
       let g : ℕ → A = λ i. cond (eqb i a) v (f i) in
-      ap (set (column f n) a) (sym (ap (λ (t : Bool). cond t v (f a)) (eq-eqb a a refl)))
+      ap (set (tabulate f n) a) (sym (ap (λ (t : Bool). cond t v (f a)) (eq-eqb a a refl)))
       ∙ set-column-to f g n a l (λ i _ e. sym (ap (λ (t : Bool). cond t v (f i)) (ne-eqb i a e)))
 
 -- a word of a column in a buffer: the others stay as they are
 pub over-column-set : (d : List ℕ) (at : ℕ) (f g : ℕ → ℕ) (n a : ℕ) → at ≤ length d → a < n → ((i : ℕ) → i < n → i ≢ a → f i ≡ g i)
-    → set (over d at (column f n)) (at + a) (g a) ≡ over d at (column g n)
+    → set (writeAt d at (tabulate f n)) (at + a) (g a) ≡ writeAt d at (tabulate g n)
 over-column-set d at f g n a h l e =
-    over-set d at (column f n) a (g a) h (let q = column-length f n in omega arith)
-    ∙ ap (over d at) (set-column-to f g n a l e)
+    over-set d at (tabulate f n) a (g a) h (let q = column-length f n in omega arith)
+    ∙ ap (writeAt d at) (set-column-to f g n a l e)
 
 -- words written where they stand
-pub over-self : (d : List ℕ) (at n : ℕ) → at + n ≤ length d → over d at (column (λ i. getD d (at + i) 0) n) ≡ d
-unfolding over
+pub over-self : (d : List ℕ) (at n : ℕ) → at + n ≤ length d → writeAt d at (tabulate (λ i. getD d (at + i) 0) n) ≡ d
+unfolding writeAt
 over-self d at n h =
-    let part : column (λ i. getD d (at + i) 0) n ≡ take n (drop at d) =
+    let part : tabulate (λ i. getD d (at + i) 0) n ≡ take n (drop at d) =
     column-cong (λ i. getD d (at + i) 0) (λ i. getD (drop at d) i 0) n (λ i _. sym (getD-drop at d i 0))
     ∙ column-take (drop at d) 0 n (let q = length-drop at d in omega arith) in
-    let rest : drop (at + length (column (λ i. getD d (at + i) 0) n)) d ≡ drop n (drop at d) =
+    let rest : drop (at + length (tabulate (λ i. getD d (at + i) 0) n)) d ≡ drop n (drop at d) =
     ap (λ (m : ℕ). drop (at + m) d) (column-length (λ i. getD d (at + i) 0) n) ∙ sym (drop-drop n at d) in
     ap₂ (λ (x y : List ℕ). take at d ++ (x ++ y)) part rest
     ∙ ap (λ (x : List ℕ). take at d ++ x) (take-append-drop n (drop at d))

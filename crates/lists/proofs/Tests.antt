@@ -1,4 +1,4 @@
--- Tests: what `allOf`, `anyOf`, `those` and `countOf` say. (A test of two numbers: borrow.Author.Tests.) Assumes nothing.
+-- Tests: what `allOf`, `anyOf`, `filter` and `countOf` say. (A test of two numbers: borrow.Author.Tests.) Assumes nothing.
 use mathlib.Core.Path.{_≡_, refl, sym, ap, ap₂, _∙_, subst}
 use mathlib.Core.Logic.{ite}
 use mathlib.Core.Bool.{Bool, true, false, cond, decide, _&&_, _||_}
@@ -10,7 +10,7 @@ use native.Mathlib.Omega.{arith}
 use lib.Dec.{T, eqb}
 use lib.ListN.{length, getD, length-append}
 use borrow.Author.Tests.{eq-eqb, ne-eqb}
-use Rattle.lists.specs.Lists.{allOf, anyOf, those, countOf, concat, sameWords, All}
+use Rattle.lists.specs.Lists.{allOf, anyOf, filter, countOf, concat, sameWords, All}
 
 -- ---- one test
 pub false-true : {C : Type 0} → _≡_ {A = Bool} false true → C
@@ -130,22 +130,22 @@ module _ {A : Type 0} (p : A → Bool) where
       or-true false = refl
 
   -- ---- those
-  pub those-append : (xs ys : List A) → those p (xs ++ ys) ≡ those p xs ++ those p ys
-  unfolding those
+  pub those-append : (xs ys : List A) → filter p (xs ++ ys) ≡ filter p xs ++ filter p ys
+  unfolding filter
   those-append [] ys = refl
   those-append (x ∷ xs) ys = go (p x) (those-append xs ys)
     where
-      go : (t : Bool) → those p (xs ++ ys) ≡ those p xs ++ those p ys
-          → cond t (x ∷ those p (xs ++ ys)) (those p (xs ++ ys)) ≡ cond t (x ∷ those p xs) (those p xs) ++ those p ys
+      go : (t : Bool) → filter p (xs ++ ys) ≡ filter p xs ++ filter p ys
+          → cond t (x ∷ filter p (xs ++ ys)) (filter p (xs ++ ys)) ≡ cond t (x ∷ filter p xs) (filter p xs) ++ filter p ys
       go true ih = ap (λ (l : List A). x ∷ l) ih
       go false ih = ih
 
   -- ---- how many
   pub count-append : (xs ys : List A) → countOf p (xs ++ ys) ≡ countOf p xs + countOf p ys
-  count-append xs ys = ap length (those-append xs ys) ∙ length-append (those p xs) (those p ys)
+  count-append xs ys = ap length (those-append xs ys) ∙ length-append (filter p xs) (filter p ys)
 
   pub count-one : (x : A) → countOf p (x ∷ []) ≡ cond (p x) 1 0
-  unfolding those
+  unfolding filter
   count-one x = go (p x)
     where
       go : (t : Bool) → length (cond t (x ∷ []) []) ≡ cond t 1 0
@@ -153,18 +153,18 @@ module _ {A : Type 0} (p : A → Bool) where
       go false = refl
 
   pub count-cons : (x : A) (xs : List A) → countOf p xs ≤ countOf p (x ∷ xs)
-  unfolding those
+  unfolding filter
   count-cons x xs = go (p x)
     where
-      go : (t : Bool) → countOf p xs ≤ length (cond t (x ∷ those p xs) (those p xs))
+      go : (t : Bool) → countOf p xs ≤ length (cond t (x ∷ filter p xs) (filter p xs))
       go true = omega arith
       go false = omega arith
 
   pub count-none : (xs : List A) → countOf p xs ≡ 0 → All (λ x. p x ≡ false) xs
-  unfolding those
+  unfolding filter
   count-none [] e = tt
   count-none (x ∷ xs) e =
-      by-test (p x) (λ t. absurd (suc-ne-zero (length (those p xs)) (sym (with-test t) ∙ e))) (λ t. (t, count-none xs (sym (with-test t) ∙ e)))
+      by-test (p x) (λ t. absurd (suc-ne-zero (length (filter p xs)) (sym (with-test t) ∙ e))) (λ t. (t, count-none xs (sym (with-test t) ∙ e)))
     where
-      with-test : {t : Bool} → p x ≡ t → length (cond (p x) (x ∷ those p xs) (those p xs)) ≡ length (cond t (x ∷ those p xs) (those p xs))
-      with-test t = ap (λ (b : Bool). length (cond b (x ∷ those p xs) (those p xs))) t
+      with-test : {t : Bool} → p x ≡ t → length (cond (p x) (x ∷ filter p xs) (filter p xs)) ≡ length (cond t (x ∷ filter p xs) (filter p xs))
+      with-test t = ap (λ (b : Bool). length (cond b (x ∷ filter p xs) (filter p xs))) t

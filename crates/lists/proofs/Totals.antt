@@ -18,7 +18,7 @@ use native.Mathlib.Decide.{decLt}
 use native.Mathlib.Omega.{arith}
 use lib.ListN.{length, getD, take, drop, drop-of-length-le}
 use lib.Seq.{take-nil, take-all}
-use Rattle.lists.specs.Lists.{column, concat, total, largest, ceilDiv, cut}
+use Rattle.lists.specs.Lists.{tabulate, concat, total, maximum, ceilDiv, cut}
 use Rattle.lists.proofs.Lists.{get-none}
 use Rattle.lists.proofs.Columns.{column-length, get-column, concat-parts}
 
@@ -28,8 +28,8 @@ unfolding total
 total-append [] ns = omega arith
 total-append (m ∷ ms) ns = ap (λ (x : ℕ). m + x) (total-append ms ns) ∙ sym (add-assoc m (total ms) (total ns))
 
-pub largest-append : (ms ns : List ℕ) → largest (ms ++ ns) ≡ max (largest ms) (largest ns)
-unfolding largest
+pub largest-append : (ms ns : List ℕ) → maximum (ms ++ ns) ≡ max (maximum ms) (maximum ns)
+unfolding maximum
 largest-append [] ns = omega arith
 largest-append (m ∷ ms) ns = let q = largest-append ms ns in omega arith
 
@@ -131,10 +131,10 @@ module _ {A : Type 0} (s : ℕ) (xs : List A) where
           let m : ceilDiv (length xs) s * s ≤ i * s = mul-le-mul-right s h in
           omega arith
 
-      go : Dec (i < ceilDiv (length xs) s) → getD (column f (ceilDiv (length xs) s)) i [] ≡ f i
+      go : Dec (i < ceilDiv (length xs) s) → getD (tabulate f (ceilDiv (length xs) s)) i [] ≡ f i
       go (yes h) = get-column f (ceilDiv (length xs) s) i [] h
       go (no h) =
-          get-none (column f (ceilDiv (length xs) s)) i [] (let q = column-length f (ceilDiv (length xs) s) in omega arith)
+          get-none (tabulate f (ceilDiv (length xs) s)) i [] (let q = column-length f (ceilDiv (length xs) s) in omega arith)
           ∙ sym (ap (take s) (drop-of-length-le xs {i = i * s} (past (omega arith))) ∙ take-nil s)
 
   -- together they are the list

@@ -17,7 +17,7 @@ use native.Mathlib.Omega.{arith}
 use lib.Dec.{ltb}
 use lib.ListN.{length, getD, set, length-set}
 use borrow.Author.Tests.{lt-ltb, le-ltb}
-use Rattle.lists.specs.Lists.{column, over}
+use Rattle.lists.specs.Lists.{tabulate, writeAt}
 use Rattle.lists.proofs.Columns.{column-cong, column-length, get-column}
 use Rattle.lists.proofs.Over.{over-before, over-inside}
 use Rattle.lists.proofs.Parts.{div-row, mod-row}
@@ -45,7 +45,7 @@ module _ (σ f g : ℕ → ℕ) (s i : ℕ) where
 pub record Turned (n : ℕ) (σ f : ℕ → ℕ) (d : List ℕ) (at : ℕ) (m : List ℕ) (s : ℕ) : Type 0 where
   pub upto : s ≤ n
   pub size : length m ≡ length d
-  pub now : m ≡ over d at (column (turned σ f (λ i. getD d (at + i) 0) s) n)
+  pub now : m ≡ writeAt d at (tabulate (turned σ f (λ i. getD d (at + i) 0) s) n)
 
 module _ (n : ℕ) (σ ι f : ℕ → ℕ) (turns : Turns n σ ι) (d : List ℕ) (at : ℕ) (room : at + n ≤ length d) where
   abbrev before : ℕ → ℕ
@@ -58,7 +58,7 @@ module _ (n : ℕ) (σ ι f : ℕ → ℕ) (turns : Turns n σ ι) (d : List ℕ
         size = refl;
         now =
             sym
-            (ap (over d at) (column-cong (turned σ f before 0) before n (λ i l. turn-ahead σ f before 0 i (omega arith)))
+            (ap (writeAt d at) (column-cong (turned σ f before 0) before n (λ i l. turn-ahead σ f before 0 i (omega arith)))
             ∙ over-self d at n room);
       }
 
@@ -84,7 +84,7 @@ module _ (n : ℕ) (σ ι f : ℕ → ℕ) (turns : Turns n σ ι) (d : List ℕ
           size = length-set m p w ∙ inv .size;
           now =
               ap₂ (λ (x : List ℕ) (j : ℕ). set x j w) (inv .now) q
-              ∙ ap (set (over d at (column (turned σ f before s) n)) (at + ι s)) v
+              ∙ ap (set (writeAt d at (tabulate (turned σ f before s) n)) (at + ι s)) v
               ∙ over-column-set d at (turned σ f before s) (turned σ f before (s + 1)) n (ι s) (omega arith) (turns .inside s l)
               (others l);
         }
@@ -93,22 +93,22 @@ module _ (n : ℕ) (σ ι f : ℕ → ℕ) (turns : Turns n σ ι) (d : List ℕ
     pub turn-before : (j : ℕ) → j < at → getD m j 0 ≡ getD d j 0
     turn-before j l =
         ap (λ (x : List ℕ). getD x j 0) (inv .now)
-        ∙ over-before d at (column (turned σ f before s) n) j 0 (omega arith) l
+        ∙ over-before d at (tabulate (turned σ f before s) n) j 0 (omega arith) l
 
     -- a word whose turn is ahead is as it was
     pub turn-fresh : (i : ℕ) → i < n → s ≤ σ i → getD m (at + i) 0 ≡ getD d (at + i) 0
     turn-fresh i l h =
-        let words : List ℕ = column (turned σ f before s) n in
+        let words : List ℕ = tabulate (turned σ f before s) n in
         let q = column-length (turned σ f before s) n in
         ap (λ (x : List ℕ). getD x (at + i) 0) (inv .now)
         ∙ over-inside d at words i 0 (omega arith) (omega arith)
         ∙ get-column (turned σ f before s) n i 0 l
         ∙ turn-ahead σ f before s i h
 
-    pub turn-end : n ≤ s → m ≡ over d at (column f n)
+    pub turn-end : n ≤ s → m ≡ writeAt d at (tabulate f n)
     turn-end h =
         inv .now
-        ∙ ap (over d at)
+        ∙ ap (writeAt d at)
         (column-cong (turned σ f before s) f n (λ i l. turn-over σ f before s i (let w = turns .within i l in omega arith)))
 
 -- ---- n columns of r words each, a row of all of them after another: turn s writes column s mod n
@@ -206,6 +206,6 @@ module _ (n : ℕ) (σ ι f : ℕ → ℕ) (turns : Turns n σ ι) (d : List ℕ
       let w = turns .within i l in
       let q = column-length f' n in
       ap (λ (x : List ℕ). getD x (at + i) 0) (inv .now)
-      ∙ over-inside d at (column f' n) i 0 (omega arith) (omega arith)
+      ∙ over-inside d at (tabulate f' n) i 0 (omega arith) (omega arith)
       ∙ get-column f' n i 0 l
       ∙ turn-over (backTurn n σ) f old (n - s) i (omega arith)

@@ -10,7 +10,7 @@ use native.Mathlib.Decide.{decLt}
 use lib.ListN.{length, getD, take, drop}
 use lib.Dec.{ltb}
 use borrow.Author.Tests.{lt-ltb, le-ltb}
-use Rattle.lists.specs.Lists.{column, allOf, total, concat}
+use Rattle.lists.specs.Lists.{tabulate, allOf, total, concat}
 use Rattle.lists.proofs.Tests.{and-both, all-append}
 use Rattle.lists.proofs.Columns.{column-of, concat-parts}
 use Rattle.lists.proofs.Totals.{total-append}
@@ -21,30 +21,30 @@ module _ {A : Type 0} (p : A → Bool) where
   all-one x = and-true (p x)
 
   -- the first i + 1
-  pub all-next : (f : ℕ → A) (i : ℕ) → allOf p (column f (i + 1)) ≡ (allOf p (column f i) && p (f i))
-  unfolding column
+  pub all-next : (f : ℕ → A) (i : ℕ) → allOf p (tabulate f (i + 1)) ≡ (allOf p (tabulate f i) && p (f i))
+  unfolding tabulate
   all-next f i =
-      ap (λ (n : ℕ). allOf p (column f n)) (add-one i) ∙ all-append p (column f i) (f i ∷ [])
-      ∙ ap (λ (b : Bool). allOf p (column f i) && b) (all-one (f i))
+      ap (λ (n : ℕ). allOf p (tabulate f n)) (add-one i) ∙ all-append p (tabulate f i) (f i ∷ [])
+      ∙ ap (λ (b : Bool). allOf p (tabulate f i) && b) (all-one (f i))
 
-  pub all-more : (f : ℕ → A) (i : ℕ) → allOf p (column f i) ≡ true → p (f i) ≡ true → allOf p (column f (i + 1)) ≡ true
-  all-more f i h e = all-next f i ∙ and-both (allOf p (column f i)) (p (f i)) h e
+  pub all-more : (f : ℕ → A) (i : ℕ) → allOf p (tabulate f i) ≡ true → p (f i) ≡ true → allOf p (tabulate f (i + 1)) ≡ true
+  all-more f i h e = all-next f i ∙ and-both (allOf p (tabulate f i)) (p (f i)) h e
 
   -- one that does not hold
-  pub all-fails : (f : ℕ → A) (n i : ℕ) → i < n → p (f i) ≡ false → allOf p (column f n) ≡ false
+  pub all-fails : (f : ℕ → A) (n i : ℕ) → i < n → p (f i) ≡ false → allOf p (tabulate f n) ≡ false
   all-fails f zero i l e = absurd (omega arith)
   all-fails f (suc n) i l e = go (decLt i n) (λ m. all-fails f n i m e)
     where
-      go : Dec (i < n) → (i < n → allOf p (column f n) ≡ false) → allOf p (column f (suc n)) ≡ false
-      go (yes m) r = ap (λ (m : ℕ). allOf p (column f m)) (sym (add-one n)) ∙ all-next f n ∙ ap (λ (b : Bool). b && p (f n)) (r m)
+      go : Dec (i < n) → (i < n → allOf p (tabulate f n) ≡ false) → allOf p (tabulate f (suc n)) ≡ false
+      go (yes m) r = ap (λ (m : ℕ). allOf p (tabulate f m)) (sym (add-one n)) ∙ all-next f n ∙ ap (λ (b : Bool). b && p (f n)) (r m)
       go (no m) r =
           let q : i ≡ n = omega arith in
-          ap (λ (m : ℕ). allOf p (column f m)) (sym (add-one n)) ∙ all-next f n
-          ∙ ap (λ (b : Bool). allOf p (column f n) && b) (ap (λ (j : ℕ). p (f j)) (sym q) ∙ e)
-          ∙ and-false (allOf p (column f n))
+          ap (λ (m : ℕ). allOf p (tabulate f m)) (sym (add-one n)) ∙ all-next f n
+          ∙ ap (λ (b : Bool). allOf p (tabulate f n) && b) (ap (λ (j : ℕ). p (f j)) (sym q) ∙ e)
+          ∙ and-false (allOf p (tabulate f n))
 
   -- a list by its places
-  pub all-places : (xs : List A) (d : A) → allOf p xs ≡ allOf p (column (λ i. getD xs i d) (length xs))
+  pub all-places : (xs : List A) (d : A) → allOf p xs ≡ allOf p (tabulate (λ i. getD xs i d) (length xs))
   all-places xs d = ap (allOf p) (sym (column-of xs d))
 
   pub all-concat : (xss : List (List A)) → allOf (allOf p) xss ≡ allOf p (concat xss)
@@ -53,8 +53,8 @@ module _ {A : Type 0} (p : A → Bool) where
   all-concat (xs ∷ xss) = ap (λ (b : Bool). allOf p xs && b) (all-concat xss) ∙ sym (all-append p xs (concat xss))
 
   -- parts of s words each, all together
-  pub all-parts : (s : ℕ) (xs : List A) (n : ℕ) → allOf (allOf p) (column (λ i. take s (drop (i * s) xs)) n) ≡ allOf p (take (n * s) xs)
-  all-parts s xs n = all-concat (column (λ i. take s (drop (i * s) xs)) n) ∙ ap (allOf p) (concat-parts s xs n)
+  pub all-parts : (s : ℕ) (xs : List A) (n : ℕ) → allOf (allOf p) (tabulate (λ i. take s (drop (i * s) xs)) n) ≡ allOf p (take (n * s) xs)
+  all-parts s xs n = all-concat (tabulate (λ i. take s (drop (i * s) xs)) n) ∙ ap (allOf p) (concat-parts s xs n)
 
 pub all-map : {A B : Type 0} (p : B → Bool) (f : A → B) (xs : List A) → allOf p (map f xs) ≡ allOf (λ x. p (f x)) xs
 unfolding allOf
@@ -67,47 +67,47 @@ all-same p q h [] = refl
 all-same p q h (x ∷ xs) = ap₂ _&&_ (h x) (all-same p q h xs)
 
 -- the sum of the first i + 1
-pub total-next : (f : ℕ → ℕ) (i : ℕ) → total (column f (i + 1)) ≡ total (column f i) + f i
-unfolding column total
+pub total-next : (f : ℕ → ℕ) (i : ℕ) → total (tabulate f (i + 1)) ≡ total (tabulate f i) + f i
+unfolding tabulate total
 total-next f i =
-    ap (λ (n : ℕ). total (column f n)) (add-one i) ∙ total-append (column f i) (f i ∷ [])
-    ∙ ap (λ (n : ℕ). total (column f i) + n) (add-zero (f i))
+    ap (λ (n : ℕ). total (tabulate f n)) (add-one i) ∙ total-append (tabulate f i) (f i ∷ [])
+    ∙ ap (λ (n : ℕ). total (tabulate f i) + n) (add-zero (f i))
 
-pub total-grows : (f : ℕ → ℕ) (i n : ℕ) → i ≤ n → total (column f i) ≤ total (column f n)
+pub total-grows : (f : ℕ → ℕ) (i n : ℕ) → i ≤ n → total (tabulate f i) ≤ total (tabulate f n)
 total-grows f i zero l =
     let q : i ≡ 0 = omega arith in
-    let r : total (column f i) ≡ total (column f 0) = ap (λ (m : ℕ). total (column f m)) q in
+    let r : total (tabulate f i) ≡ total (tabulate f 0) = ap (λ (m : ℕ). total (tabulate f m)) q in
     omega arith
 total-grows f i (suc n) l = go (decLt n i) (λ m. total-grows f i n m)
   where
-    one : total (column f (suc n)) ≡ total (column f n) + f n
-    one = ap (λ (m : ℕ). total (column f m)) (sym (add-one n)) ∙ total-next f n
+    one : total (tabulate f (suc n)) ≡ total (tabulate f n) + f n
+    one = ap (λ (m : ℕ). total (tabulate f m)) (sym (add-one n)) ∙ total-next f n
 
-    go : Dec (n < i) → (i ≤ n → total (column f i) ≤ total (column f n)) → total (column f i) ≤ total (column f (suc n))
+    go : Dec (n < i) → (i ≤ n → total (tabulate f i) ≤ total (tabulate f n)) → total (tabulate f i) ≤ total (tabulate f (suc n))
     go (yes m) r =
         let q : i ≡ suc n = omega arith in
-        let e : total (column f i) ≡ total (column f (suc n)) = ap (λ (m : ℕ). total (column f m)) q in
+        let e : total (tabulate f i) ≡ total (tabulate f (suc n)) = ap (λ (m : ℕ). total (tabulate f m)) q in
         omega arith
     go (no m) r = let q = r (omega arith) in omega (arith, one)
 
 -- a walk through n places: the first i hold
 pub record Walked {A : Type 0} (p : A → Bool) (f : ℕ → A) (n i : ℕ) : Type 0 where
   pub upto : i ≤ n
-  pub hold : allOf p (column f i) ≡ true
+  pub hold : allOf p (tabulate f i) ≡ true
 
 module _ {A : Type 0} (p : A → Bool) (f : ℕ → A) where
   pub walk-none : (n : ℕ) → Walked p f n 0
-  unfolding allOf column
+  unfolding allOf tabulate
   walk-none n = record { upto = omega arith; hold = refl }
 
   module _ (n i : ℕ) (w : Walked p f n i) where
     pub walk-more : i < n → p (f i) ≡ true → Walked p f n (i + 1)
     walk-more l e = record { upto = omega arith; hold = all-more p f i (w .hold) e }
 
-    pub walk-done : n ≤ i → true ≡ allOf p (column f n)
-    walk-done l = let q : i ≡ n = let u = w .upto in omega arith in sym (w .hold) ∙ ap (λ (m : ℕ). allOf p (column f m)) q
+    pub walk-done : n ≤ i → true ≡ allOf p (tabulate f n)
+    walk-done l = let q : i ≡ n = let u = w .upto in omega arith in sym (w .hold) ∙ ap (λ (m : ℕ). allOf p (tabulate f m)) q
 
-  pub walk-fails : (n i : ℕ) → i < n → p (f i) ≡ false → false ≡ allOf p (column f n)
+  pub walk-fails : (n i : ℕ) → i < n → p (f i) ≡ false → false ≡ allOf p (tabulate f n)
   walk-fails n i l e = sym (all-fails p f n i l e)
 
 -- the same over a list
@@ -121,12 +121,12 @@ module _ {A : Type 0} (p : A → Bool) (xs : List A) (d : A) (i : ℕ) where
 -- a sum of n places, not past a limit: that of the first i
 pub record Summed (f : ℕ → ℕ) (n limit sum i : ℕ) : Type 0 where
   pub upto : i ≤ n
-  pub sum-is : sum ≡ total (column f i)
+  pub sum-is : sum ≡ total (tabulate f i)
   pub low : sum ≤ limit
 
 module _ (f : ℕ → ℕ) (n limit : ℕ) where
   pub sum-none : Summed f n limit 0 0
-  unfolding total column
+  unfolding total tabulate
   sum-none = record { upto = omega arith; sum-is = refl; low = omega arith }
 
   module _ (sum i : ℕ) (s : Summed f n limit sum i) where
@@ -138,18 +138,18 @@ module _ (f : ℕ → ℕ) (n limit : ℕ) where
           low = let w = s .low in omega arith;
         }
 
-    pub sum-past : i < n → limit - sum < f i → limit ≡ min (total (column f n)) limit
+    pub sum-past : i < n → limit - sum < f i → limit ≡ min (total (tabulate f n)) limit
     sum-past l h =
-        let g : total (column f (i + 1)) ≤ total (column f n) = total-grows f (i + 1) n (omega arith) in
+        let g : total (tabulate f (i + 1)) ≤ total (tabulate f n) = total-grows f (i + 1) n (omega arith) in
         let e = total-next f i in
         let w = s .low in
         let q = s .sum-is in
         sym (min-eq-right (omega arith))
 
-    pub sum-done : n ≤ i → sum ≡ min (total (column f n)) limit
+    pub sum-done : n ≤ i → sum ≡ min (total (tabulate f n)) limit
     sum-done l =
         let q : i ≡ n = let u = s .upto in omega arith in
-        let e : sum ≡ total (column f n) = s .sum-is ∙ ap (λ (m : ℕ). total (column f m)) q in
+        let e : sum ≡ total (tabulate f n) = s .sum-is ∙ ap (λ (m : ℕ). total (tabulate f m)) q in
         let w = s .low in
         e ∙ sym (min-eq-left (omega arith))
 

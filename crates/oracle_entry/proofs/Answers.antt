@@ -11,12 +11,12 @@ use lib.ListN.{length, getD}
 use borrow.Author.Tests.{leb-true, ltb-true, eqb-true, lt-ltb, le-ltb}
 use Rattle.field.specs.Field.{𝔾, val}
 use Rattle.bh.specs.Rows.{placeOf}
-use Rattle.lists.specs.Lists.{column, over, allOf, within, concat}
+use Rattle.lists.specs.Lists.{tabulate, writeAt, allOf, within, concat}
 use Rattle.lists.proofs.Tests.{false-true, and-left, and-right, and-both, all-each}
 use Rattle.expression.specs.Expr.{degree}
 use Rattle.expression.specs.Nodes.{exprOf}
 use Rattle.expression.specs.Value.{valueAt}
-use Rattle.expression.specs.Reader.{Small}
+use Rattle.expression.specs.Reader.{LayoutSmall}
 use Rattle.expression.specs.Point.{environmentOf}
 use Rattle.expression.specs.Queries.{usedQueries, queriesInto, queryWords}
 use Rattle.expression.specs.declared.poly.Layout.{Layout}
@@ -80,7 +80,7 @@ pub same-layout : (a b c d e f g h a' b' c' d' e' f' g' h' : ℕ)
 same-layout a b c d e f g h a' b' c' d' e' f' g' h' p q r s t u v w = cc (p, q, r, s, t, u, v, w)
 
 pub layout-small : (k : ℕ) (ws : List ℕ) → k ≤ 20 → (eqb (length ws) 7 && allOf (λ w. ltb w 1048577) ws) ≡ true
-    → Small (layoutFrom k ws)
+    → LayoutSmall (layoutFrom k ws)
 layout-small k ws h e =
     record {
       rows = let w : 2 ^ k ≤ 2 ^ 20 = pow-mono {i = k} {j = 20} h in omega arith;
@@ -168,10 +168,10 @@ module _ (k : ℕ) (nodes circuit witness columns challenges layout eq : List �
     pub all-there : (leb 1 k && leb k 20) ≡ true → (eqb (length layout) 7 && allOf (λ w. ltb w 1048577) layout) ≡ true
         → (there nodes n && leb rows (length out)) ≡ true
         → (l : Layout) → l ≡ layoutFrom k layout
-        → (d : List ℕ) → d ≡ over out 0 (column (valueWord nodes circuit witness columns challenges l k eq n) (2 ^ k))
+        → (d : List ℕ) → d ≡ writeAt out 0 (tabulate (valueWord nodes circuit witness columns challenges l k eq n) (2 ^ k))
         → d ≡ after
     unfolding fit valuesInto
     all-there a b c l p d e =
         e
-        ∙ ap (λ (x : Layout). over out 0 (column (valueWord nodes circuit witness columns challenges x k eq n) (2 ^ k))) p
+        ∙ ap (λ (x : Layout). writeAt out 0 (tabulate (valueWord nodes circuit witness columns challenges x k eq n) (2 ^ k))) p
         ∙ chosen (fit k layout nodes n out) _ out (and-both _ _ a (and-both _ _ b (sym same-room ∙ c)))

@@ -6,7 +6,7 @@ use lib.Dec.{eqb, ltb, leb}
 use lib.ListN.{length, getD}
 use Rattle.field.specs.Field.{𝔾, val}
 use Rattle.bh.specs.Rows.{placeOf}
-use Rattle.lists.specs.Lists.{column, over, allOf, within}
+use Rattle.lists.specs.Lists.{tabulate, writeAt, allOf, within}
 use Rattle.expression.specs.Expr.{Query, degree}
 use Rattle.expression.specs.Nodes.{exprOf}
 use Rattle.expression.specs.Value.{valueAt}
@@ -59,5 +59,5 @@ unfoldable pub valuesInto
     : ℕ → List ℕ → List ℕ → List ℕ → List ℕ → List ℕ → List ℕ → List ℕ → ℕ → List ℕ → List ℕ
 valuesInto k nodes circuit witness columns challenges layout eq n out =
     cond (fit k layout nodes n out)
-    (over out 0 (column (valueWord nodes circuit witness columns challenges (layoutFrom k layout) k eq n) (2 ^ k)))
+    (writeAt out 0 (tabulate (valueWord nodes circuit witness columns challenges (layoutFrom k layout) k eq n) (2 ^ k)))
     out

@@ -18,13 +18,13 @@ ghost use mathlib.Core.Bool.{_&&_};
 ghost use Prim.Native.Nat.{_+_, _*_, _^_, _≤_, _<_};
 ghost use lib.Dec.{eqb, ltb};
 ghost use lib.ListN.{length};
-ghost use Rattle.lists.specs.Lists.{column, over, allOf, firstNo};
+ghost use Rattle.lists.specs.Lists.{tabulate, writeAt, allOf, firstNo};
 ghost use Rattle.field.specs.Field.{𝔾};
 ghost use Rattle.field.specs.Element.{elem};
 ghost use Rattle.expression.specs.Nodes.{exprOf};
 ghost use Rattle.expression.specs.Value.{valueAt};
-ghost use Rattle.expression.specs.Point.{Placed, environmentOf};
-ghost use Rattle.expression.specs.Reader.{Small};
+ghost use Rattle.expression.specs.Point.{PointInOrder, environmentOf};
+ghost use Rattle.expression.specs.Reader.{LayoutSmall};
 ghost use Rattle.expression.specs.Queries.{queriesInto};
 ghost use Rattle.backend.specs.Questions.{circuitQuestions};
 ghost use Rattle.oracle_entry.specs.Entry.{degreeAt, queriesAt, layoutFrom, valueWord, valuesInto};
@@ -95,7 +95,7 @@ fn value_of<'a>(
     point: Point,
     n: usize,
 ) -> Goldilocks
-    requires { ⌜ (n * 4 + 4 ≤ length (now nodes)) × (Small layout × Placed point) ⌝ }
+    requires { ⌜ (n * 4 + 4 ≤ length (now nodes)) × (LayoutSmall layout × PointInOrder point) ⌝ }
     ensures { λ r. ⌜ elem r ≡ valueAt 𝔾 (environmentOf (now (circuit .entry)) (now (witness .entry)) (now (columns .entry)) (now (challenges .entry)) layout point) (exprOf (now (nodes .entry)) n) (point .row) ⌝ }
 {
     let c = context(layout, point);
@@ -121,8 +121,8 @@ fn values<'a>(
     of: Evaluation,
     out: &mut [u64],
 )
-    requires { ⌜ (of .n * 4 + 4 ≤ length (now nodes)) × Small (of .layout) × (0 < of .k) × (of .k < 21) × (2 ^ of .k ≤ length (now out)) ⌝ }
-    ensures { λ _. ⌜ now (out .exit) ≡ over (now (out .entry)) 0 (column (valueWord (now (nodes .entry)) (now (circuit .entry)) (now (witness .entry)) (now (columns .entry)) (now (challenges .entry)) (of .layout) (of .k) (now (eq .entry)) (of .n)) (2 ^ of .k)) ⌝ }
+    requires { ⌜ (of .n * 4 + 4 ≤ length (now nodes)) × LayoutSmall (of .layout) × (0 < of .k) × (of .k < 21) × (2 ^ of .k ≤ length (now out)) ⌝ }
+    ensures { λ _. ⌜ now (out .exit) ≡ writeAt (now (out .entry)) 0 (tabulate (valueWord (now (nodes .entry)) (now (circuit .entry)) (now (witness .entry)) (now (columns .entry)) (now (challenges .entry)) (of .layout) (of .k) (now (eq .entry)) (of .n)) (2 ^ of .k)) ⌝ }
 {
     let rows = rows_of(of.k);
     let mut row: usize = 0;

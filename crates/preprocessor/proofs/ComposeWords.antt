@@ -9,7 +9,7 @@ use lib.Dec.{eqb}
 use lib.IntN.{pos}
 use lib.ListN.{length, getD, take, drop, length-append, length-map}
 use borrow.Author.Tests.{eq-eqb, ne-eqb}
-use Rattle.lists.specs.Lists.{column, split, total, All}
+use Rattle.lists.specs.Lists.{tabulate, split, total, All}
 use Rattle.lists.proofs.Lists.{get-left, get-past, get-map}
 use Rattle.lists.proofs.Columns.{column-length, get-column, column-cong, map-column}
 use Rattle.lists.proofs.All.{all-get}
@@ -18,7 +18,7 @@ use Rattle.lists.proofs.Runs.{part-column, total-first}
 use Rattle.expression.specs.Expr.{Expr, minus, at, distributePowers}
 use Rattle.expression.specs.Nodes.{exprOf}
 use Rattle.expression.specs.Flat.{body, size}
-use Rattle.expression.specs.Written.{Pushed, Written}
+use Rattle.expression.specs.Written.{Pushed, ExprWritten}
 use Rattle.backend.specs.Circuit.{Pair, pairAt}
 use Rattle.backend.specs.Constraints.{inputsOf, tablesOf, lookupTree}
 use Rattle.preprocessor.specs.Compose.{numberOfM, numberOfH, startTree, partTree, lookupTreeOf, permutationTrees, constraintTrees, zeroTree, outerTrees, composeTree}
@@ -43,10 +43,10 @@ module _ (nodes widths pairs : List ℕ) (enough : total widths * 2 ≤ length p
   half : before + width ≤ length pairs / 2
   half = le-div-iff-mul-le {k = 2} {x = before + width} {y = length pairs} (omega arith) .1 (omega (arith, pairs-end))
 
-  lookup-pairs : getD (lookupsOf nodes widths pairs) j [] ≡ column (λ i. pairAt nodes pairs (before + i)) width
+  lookup-pairs : getD (lookupsOf nodes widths pairs) j [] ≡ tabulate (λ i. pairAt nodes pairs (before + i)) width
   unfolding lookupsOf
   lookup-pairs =
-      get-split widths (column (pairAt nodes pairs) (length pairs / 2)) j h
+      get-split widths (tabulate (pairAt nodes pairs) (length pairs / 2)) j h
       ∙ part-column (pairAt nodes pairs) before width (length pairs / 2) half
 
   pub inputs-are : inputsOf (getD (lookupsOf nodes widths pairs) j []) ≡ sideExprs nodes pairs (before * 2) width
@@ -120,7 +120,7 @@ module _ (v : CircuitParams) (names nodes roots widths pairs : List ℕ) where
   lookup = lookupTreeOf v (lookupsOf nodes widths pairs)
 
   abbrev some : List Expr
-  some = startTree v ∷ column (partTree v names) (v .«num_chunks»)
+  some = startTree v ∷ tabulate (partTree v names) (v .«num_chunks»)
 
   some-length : (t : Bool) → length (cond t [] some) ≡ cond t 0 (suc (v .«num_chunks»))
   some-length true = refl
@@ -129,25 +129,25 @@ module _ (v : CircuitParams) (names nodes roots widths pairs : List ℕ) where
   pub constraints-length : length es ≡ numConstraints (length roots) v
   unfolding constraintTrees permutationTrees numConstraints
   constraints-length =
-      length-append user (column lookup (v .«num_lookups») ++ cond (eqb (v .«num_permutation_polys») 0) [] some)
+      length-append user (tabulate lookup (v .«num_lookups») ++ cond (eqb (v .«num_permutation_polys») 0) [] some)
       ∙ ap₂ _+_ (length-map roots (exprOf nodes))
-      (length-append (column lookup (v .«num_lookups»)) (cond (eqb (v .«num_permutation_polys») 0) [] some)
+      (length-append (tabulate lookup (v .«num_lookups»)) (cond (eqb (v .«num_permutation_polys») 0) [] some)
       ∙ ap₂ _+_ (column-length lookup (v .«num_lookups»)) (some-length (eqb (v .«num_permutation_polys») 0)))
       ∙ omega arith
 
   pub own-nth : (i n : ℕ) → i < length roots → n ≡ getD roots i 0 → nth es i ≡ exprOf nodes n
   unfolding constraintTrees permutationTrees
   own-nth i n h e =
-      get-left user (column lookup (v .«num_lookups») ++ cond (eqb (v .«num_permutation_polys») 0) [] some) i (Expr.constant 0)
+      get-left user (tabulate lookup (v .«num_lookups») ++ cond (eqb (v .«num_permutation_polys») 0) [] some) i (Expr.constant 0)
       (let e = length-map roots (exprOf nodes) in omega arith)
       ∙ get-map (exprOf nodes) roots i 0 (Expr.constant 0) h
       ∙ ap (exprOf nodes) (sym e)
 
   past-own : (i k : ℕ) → i ≡ length roots + k
-      → nth es i ≡ nth (column lookup (v .«num_lookups») ++ cond (eqb (v .«num_permutation_polys») 0) [] some) k
+      → nth es i ≡ nth (tabulate lookup (v .«num_lookups») ++ cond (eqb (v .«num_permutation_polys») 0) [] some) k
   unfolding constraintTrees permutationTrees
   past-own i k e =
-      get-past user (column lookup (v .«num_lookups») ++ cond (eqb (v .«num_permutation_polys») 0) [] some) i k (Expr.constant 0)
+      get-past user (tabulate lookup (v .«num_lookups») ++ cond (eqb (v .«num_permutation_polys») 0) [] some) i k (Expr.constant 0)
       (e ∙ ap (λ (n : ℕ). n + k) (sym (length-map roots (exprOf nodes))))
 
   pub lookup-nth : (i j s w : ℕ) → i ≡ length roots + j → j < v .«num_lookups» → v .«num_lookups» ≡ length widths
@@ -159,7 +159,7 @@ module _ (v : CircuitParams) (names nodes roots widths pairs : List ℕ) where
       (sideTree nodes pairs (v .«num_challenges») (s * 2 + 1) w)
   lookup-nth i j s w e h all enough es ew =
       past-own i j e
-      ∙ get-left (column lookup (v .«num_lookups»)) (cond (eqb (v .«num_permutation_polys») 0) [] some) j (Expr.constant 0)
+      ∙ get-left (tabulate lookup (v .«num_lookups»)) (cond (eqb (v .«num_permutation_polys») 0) [] some) j (Expr.constant 0)
       (let l = column-length lookup (v .«num_lookups») in omega arith)
       ∙ get-column lookup (v .«num_lookups») j (Expr.constant 0) h
       ∙ lookup-tree nodes widths pairs enough j (omega arith) v
@@ -178,7 +178,7 @@ module _ (v : CircuitParams) (names nodes roots widths pairs : List ℕ) where
   unfolding numConstraints
   past-lookups i p e h =
       past-own i (v .«num_lookups» + p) e
-      ∙ get-past (column lookup (v .«num_lookups»)) (cond (eqb (v .«num_permutation_polys») 0) [] some) (v .«num_lookups» + p) p (Expr.constant 0)
+      ∙ get-past (tabulate lookup (v .«num_lookups»)) (cond (eqb (v .«num_permutation_polys») 0) [] some) (v .«num_lookups» + p) p (Expr.constant 0)
       (ap (λ (n : ℕ). n + p) (sym (column-length lookup (v .«num_lookups»))))
       ∙ some-at (eqb (v .«num_permutation_polys») 0) p (omega arith)
 
@@ -203,21 +203,21 @@ module _ (v : CircuitParams) (es : List Expr) where
   pub outer-length : length (outerTrees v es) ≡ suc (v .«num_lookups»)
   unfolding outerTrees
   outer-length =
-      length-append (column (λ j. at (numberOfH v j)) (v .«num_lookups»)) (zeroTree v es ∷ [])
+      length-append (tabulate (λ j. at (numberOfH v j)) (v .«num_lookups»)) (zeroTree v es ∷ [])
       ∙ ap (λ (n : ℕ). n + 1) (column-length (λ j. at (numberOfH v j)) (v .«num_lookups»))
       ∙ omega arith
 
   pub query-nth : (i : ℕ) → i < v .«num_lookups» → nth (outerTrees v es) i ≡ at (numberOfH v i)
   unfolding outerTrees
   query-nth i h =
-      get-left (column (λ j. at (numberOfH v j)) (v .«num_lookups»)) (zeroTree v es ∷ []) i (Expr.constant 0)
+      get-left (tabulate (λ j. at (numberOfH v j)) (v .«num_lookups»)) (zeroTree v es ∷ []) i (Expr.constant 0)
       (let l = column-length (λ j. at (numberOfH v j)) (v .«num_lookups») in omega arith)
       ∙ get-column (λ j. at (numberOfH v j)) (v .«num_lookups») i (Expr.constant 0) h
 
   pub zero-nth : (i : ℕ) → i ≡ v .«num_lookups» → nth (outerTrees v es) i ≡ zeroTree v es
   unfolding outerTrees
   zero-nth i h =
-      get-past (column (λ j. at (numberOfH v j)) (v .«num_lookups»)) (zeroTree v es ∷ []) i 0 (Expr.constant 0)
+      get-past (tabulate (λ j. at (numberOfH v j)) (v .«num_lookups»)) (zeroTree v es ∷ []) i 0 (Expr.constant 0)
       (let l = column-length (λ j. at (numberOfH v j)) (v .«num_lookups») in omega arith)
 
 -- the nodes of a sum with gamma, and of a product with a query
@@ -233,6 +233,6 @@ zero-size v es = omega arith
 
 -- with no lookup the composed expression is the zero check
 pub compose-alone : (v : CircuitParams) (es : List Expr) → v .«num_lookups» ≡ 0 → composeTree v es ≡ zeroTree v es
-unfolding composeTree outerTrees distributePowers column
+unfolding composeTree outerTrees distributePowers tabulate
 compose-alone v es h =
-    ap (λ (n : ℕ). distributePowers (column (λ j. at (numberOfH v j)) n ++ (zeroTree v es ∷ [])) (Expr.challenge (v .«num_challenges» + 2))) h
+    ap (λ (n : ℕ). distributePowers (tabulate (λ j. at (numberOfH v j)) n ++ (zeroTree v es ∷ [])) (Expr.challenge (v .«num_challenges» + 2))) h

@@ -4,14 +4,14 @@ use mathlib.Core.List.{List, map}
 use Prim.Native.Nat.{ℕ, suc, _+_, _-_, _*_, _/_, _≤_}
 use native.Mathlib.Omega.{arith}
 use lib.ListN.{length, take, drop}
-use Rattle.lists.specs.Lists.{column, split, below, cut, ceilDiv, over}
+use Rattle.lists.specs.Lists.{tabulate, split, range, cut, ceilDiv, writeAt}
 use Rattle.lists.proofs.Columns.{below-length}
 use Rattle.lists.proofs.Totals.{cut-length}
 use Rattle.lists.proofs.Window.{laid-over, laid-part}
 use Rattle.expression.specs.Expr.{Expr}
 use Rattle.expression.specs.Nodes.{exprOf}
 use Rattle.expression.specs.Flat.{size, flat}
-use Rattle.expression.specs.Written.{Written}
+use Rattle.expression.specs.Written.{ExprWritten}
 use Rattle.expression.proofs.FlatLength.{flat-length}
 use Rattle.backend.specs.Circuit.{Circuit, Pair, Section, circuitOf, bodyOf, entries, pairAt, copied, numCopied}
 use Rattle.backend.specs.Constraints.{maxDegree}
@@ -33,7 +33,7 @@ use Rattle.preprocessor.specs.declared.CircuitParams.{CircuitParams}
 pub constraint-parts : (c : Circuit) → length (constraintCut c) ≡ numZ c
 unfolding paramsOf numZ
 constraint-parts c =
-    cut-length (maxDegree c - 1) (below (numCopied c))
+    cut-length (maxDegree c - 1) (range (numCopied c))
     ∙ ap (λ (n : ℕ). ceilDiv n (maxDegree c - 1)) (below-length (numCopied c))
 
 module _ {c : Circuit} {v : CircuitParams} {names nodes roots widths pairs : List ℕ} where
@@ -49,11 +49,11 @@ module _ {c : Circuit} {v : CircuitParams} {names nodes roots widths pairs : Lis
       ap (composeTree v) (decoded-constraints p) ∙ ap (λ (u : CircuitParams). composeTree u (composedConstraints c)) (p .params-are)
 
   pub composed-written : {from : ℕ} {d d1 : List ℕ} {next : ℕ} → DecodedFrom c v names nodes roots widths pairs
-      → Written from (composeTree v (constraintsFromWords v names nodes roots widths pairs)) 0 d d1 next
+      → ExprWritten from (composeTree v (constraintsFromWords v names nodes roots widths pairs)) 0 d d1 next
       → Composed from c d d1 next
   unfolding composedNodes composedWords
   composed-written {from} {d} {d1} {next} p w =
-      let u : Written from (compose c) 0 d d1 next = subst (λ (e : Expr). Written from e 0 d d1 next) (composed-is p) w in
+      let u : ExprWritten from (compose c) 0 d d1 next = subst (λ (e : Expr). ExprWritten from e 0 d d1 next) (composed-is p) w in
       record { number = omega (arith, u .number); buffer = u .buffer }
 
 -- the composed words are four a node
@@ -63,7 +63,7 @@ composed-length c = flat-length (compose c) 0
 
 -- a buffer that has room for all, from the first word on
 pub composed-over : {c : Circuit} {d d1 : List ℕ} {next : ℕ} → composedNodes c * 4 ≤ length d → Composed 0 c d d1 next
-    → d1 ≡ over d 0 (composedWords c)
+    → d1 ≡ writeAt d 0 (composedWords c)
 composed-over {c} {d} h w = w .buffer ∙ laid-over 0 d 0 (composedWords c) refl (omega (arith, composed-length c))
 
 -- the words of one run of them
@@ -88,6 +88,6 @@ circuit-decoded ws h =
       lookups-are =
           ap
           (λ (n : ℕ).
-          split (bodyOf ws Section.widths) (column (pairAt (bodyOf ws Section.nodes) (bodyOf ws Section.pairs)) n))
+          split (bodyOf ws Section.widths) (tabulate (pairAt (bodyOf ws Section.nodes) (bodyOf ws Section.pairs)) n))
           h;
     }

@@ -8,14 +8,14 @@ use native.Mathlib.Omega.{arith}
 use lib.ListN.{length, getD}
 use lib.Dec.{eqb, ltb, leb}
 use borrow.Author.Tests.{eq-eqb, eqb-true, ltb-true, leb-true}
-use Rattle.lists.specs.Lists.{column, below, allOf, anyOf, those, countOf, concat, within, All}
+use Rattle.lists.specs.Lists.{tabulate, range, allOf, anyOf, filter, countOf, concat, within, All}
 use Rattle.lists.proofs.Tests.{and-left, and-right, all-true, any-at, any-concat}
 use Rattle.lists.proofs.All.{all-get, all-from, all-those, all-column, all-weaken}
 use Rattle.lists.proofs.Places.{Among, among-below, among-those}
 use Rattle.lists.proofs.Rising.{rising-below, rising-those, rising-index}
 use Rattle.backend.specs.Circuit.{Circuit, Cell, cellAt, cellsOf, sameCell, rowsOf, numPoly, copied, copiedIn, numCopied}
 use Rattle.backend.specs.Questions.{q11, cyclesGood}
-use Rattle.preprocessor.specs.Permutation.{firstLabel, label, labelColumns, permutationColumns, Placed, Once, Apart, Walkable}
+use Rattle.preprocessor.specs.Permutation.{firstLabel, label, labelColumns, permutationColumns, CellPlaced, Once, Apart, Walkable}
 use Rattle.preprocessor.proofs.Labels as Labels
 
 module _ (polys rows : ℕ) (cycles : List (List Cell)) where
@@ -24,10 +24,10 @@ module _ (polys rows : ℕ) (cycles : List (List Cell)) where
   named q = anyOf (λ (x : Cell). eqb (x .polynomial) q) (concat cycles)
 
   abbrev ps : List ℕ
-  ps = those named (below polys)
+  ps = filter named (range polys)
 
   pub each-once : Once ps
-  each-once i l = rising-index ps i (rising-those named (below polys) (rising-below polys)) l
+  each-once i l = rising-index ps i (rising-those named (range polys) (rising-below polys)) l
 
   -- question 11
   abbrev good : List Cell → Cell → Bool
@@ -79,22 +79,22 @@ module _ (polys rows : ℕ) (cycles : List (List Cell)) where
     among : (j : ℕ) → j < length cycles → (i : ℕ) → i < length (getD cycles j []) → Among (getD (getD cycles j []) i nowhere .polynomial) ps
     among j l i m =
         let q : ℕ = getD (getD cycles j []) i nowhere .polynomial in
-        among-those named q (below polys)
+        among-those named q (range polys)
         (any-concat (λ (z : Cell). eqb (z .polynomial) q) cycles j l
         (any-at (λ (z : Cell). eqb (z .polynomial) q) nowhere (getD cycles j []) i m (eq-eqb q q refl)))
         (among-below polys q (good-at j l i m .polynomial-in))
 
-    pub all-placed : All (All (Placed ps rows)) cycles
+    pub all-placed : All (All (CellPlaced ps rows)) cycles
     all-placed =
-        all-from (All (Placed ps rows)) cycles []
+        all-from (All (CellPlaced ps rows)) cycles []
         (λ j l.
-        all-from (Placed ps rows) (getD cycles j []) nowhere (λ i m. record { column-in = among j l i m; row-in = good-at j l i m .row-in }))
+        all-from (CellPlaced ps rows) (getD cycles j []) nowhere (λ i m. record { column-in = among j l i m; row-in = good-at j l i m .row-in }))
 
     pub good-walkable : polys ≤ 72 → Walkable ps rows cycles
     good-walkable h =
         record {
           once = each-once;
-          few = all-those (λ q. q < 72) named (below polys) (all-column (λ q. q < 72) (λ i. i) polys (λ i l. omega arith));
+          few = all-those (λ q. q < 72) named (range polys) (all-column (λ q. q < 72) (λ i. i) polys (λ i l. omega arith));
           placed = all-placed;
           some = all-weaken (λ cycle. (0 < length cycle) × All (Good cycle) cycle) (λ cycle. 0 < length cycle) (λ cycle g. g .0) cycles all-good;
           apart =
@@ -114,7 +114,7 @@ module _ (c : Circuit) (yes-11 : q11 c ≡ true) where
   unfolding q11 cyclesGood
   cells-good = all-good (numPoly c) (rowsOf c) (c .cycles) yes-11
 
-  pub cells-placed : All (All (Placed (copied c) (rowsOf c))) (c .cycles)
+  pub cells-placed : All (All (CellPlaced (copied c) (rowsOf c))) (c .cycles)
   unfolding q11 cyclesGood copiedIn copied
   cells-placed = all-placed (numPoly c) (rowsOf c) (c .cycles) yes-11
 
@@ -130,13 +130,13 @@ module _ (c : Circuit) (yes-11 : q11 c ≡ true) (few : numPoly c ≤ 72) where
 
 -- the words are the labels of the columns
 pub label-columns : (c : Circuit)
-    → permutationColumns (copied c) (rowsOf c) (c .cycles) ≡ concat (column (λ i. column (label c i) (rowsOf c)) (numCopied c))
+    → permutationColumns (copied c) (rowsOf c) (c .cycles) ≡ concat (tabulate (λ i. tabulate (label c i) (rowsOf c)) (numCopied c))
 unfolding labelColumns label firstLabel
 label-columns c = refl
 
 -- the cells of a body, by their number
-pub cells-of : (body : List ℕ) (n : ℕ) → length body ≡ n * 2 → column (cellAt body) n ≡ cellsOf body
-cells-of body n e = ap (column (cellAt body)) (go (ap (λ (m : ℕ). m / 2) e ∙ mul-div-cancel n {n = 2} (omega arith)))
+pub cells-of : (body : List ℕ) (n : ℕ) → length body ≡ n * 2 → tabulate (cellAt body) n ≡ cellsOf body
+cells-of body n e = ap (tabulate (cellAt body)) (go (ap (λ (m : ℕ). m / 2) e ∙ mul-div-cancel n {n = 2} (omega arith)))
   where
     go : length body / 2 ≡ n → n ≡ length body / 2
     go h = omega arith

@@ -8,7 +8,7 @@ use native.Mathlib.Nat.{mul-le-mul-right, suc-mul, mul-one, zero-add}
 use native.Mathlib.Numerals.{add-one}
 use native.Mathlib.Omega.{arith}
 use lib.ListN.{length, getD, take}
-use Rattle.lists.specs.Lists.{column, total, All}
+use Rattle.lists.specs.Lists.{tabulate, total, All}
 use Rattle.lists.proofs.Columns.{column-suc, column-cong, column-of, map-column}
 use Rattle.expression.specs.Expr.{Expr, distributePowers}
 use Rattle.expression.specs.Nodes.{exprOf}
@@ -34,23 +34,23 @@ root-below s step w len i h l =
     omega arith
 
 -- one expression more
-pub nodes-more : (f : ℕ → Expr) (i : ℕ) → nodesIn (column f (i + 1)) ≡ nodesIn (column f i) + size (f i)
+pub nodes-more : (f : ℕ → Expr) (i : ℕ) → nodesIn (tabulate f (i + 1)) ≡ nodesIn (tabulate f i) + size (f i)
 nodes-more f i =
-    ap (λ (n : ℕ). nodesIn (column f n)) (add-one i) ∙ ap nodesIn (column-suc f i) ∙ nodes-append (column f i) (f i ∷ [])
-    ∙ ap (λ (n : ℕ). nodesIn (column f i) + n) (nodes-one (f i))
+    ap (λ (n : ℕ). nodesIn (tabulate f n)) (add-one i) ∙ ap nodesIn (column-suc f i) ∙ nodes-append (tabulate f i) (f i ∷ [])
+    ∙ ap (λ (n : ℕ). nodesIn (tabulate f i) + n) (nodes-one (f i))
 
-pub count-more : (f : ℕ → Expr) (i r sum x : ℕ) → r ≡ min most (sum + x) → sum ≡ min most (nodesIn (column f i))
+pub count-more : (f : ℕ → Expr) (i r sum x : ℕ) → r ≡ min most (sum + x) → sum ≡ min most (nodesIn (tabulate f i))
     → x ≡ min most (size (f i))
-    → r ≡ min most (nodesIn (column f (i + 1)))
+    → r ≡ min most (nodesIn (tabulate f (i + 1)))
 count-more f i r sum x h p q =
-    capped r sum x (nodesIn (column f i)) (size (f i)) h p q ∙ ap (min most) (sym (nodes-more f i))
+    capped r sum x (nodesIn (tabulate f i)) (size (f i)) h p q ∙ ap (min most) (sym (nodes-more f i))
 
-pub count-none : (f : ℕ → Expr) → 0 ≡ min most (nodesIn (column f 0))
-unfolding column nodesIn
+pub count-none : (f : ℕ → Expr) → 0 ≡ min most (nodesIn (tabulate f 0))
+unfolding tabulate nodesIn
 count-none f = refl
 
-pub count-all : (f : ℕ → Expr) (sum i n : ℕ) → i ≡ n → sum ≡ min most (nodesIn (column f i)) → sum ≡ min most (nodesIn (column f n))
-count-all f sum i n e h = h ∙ ap (λ (m : ℕ). min most (nodesIn (column f m))) e
+pub count-all : (f : ℕ → Expr) (sum i n : ℕ) → i ≡ n → sum ≡ min most (nodesIn (tabulate f i)) → sum ≡ min most (nodesIn (tabulate f n))
+count-all f sum i n e h = h ∙ ap (λ (m : ℕ). min most (nodesIn (tabulate f m))) e
 
 -- what a list adds
 pub list-none : 1 ≡ min most (listNodes 0)
@@ -69,12 +69,12 @@ list-many (suc (suc n)) r h k e = omega arith
 
 -- a side, a lookup
 pub side-counted : (nodes pairs : List ℕ) (beta s w r x y : ℕ) → r ≡ min most (x + y)
-    → x ≡ min most (nodesIn (column (λ i. exprOf nodes (getD pairs (s + i * 2) 0)) w))
+    → x ≡ min most (nodesIn (tabulate (λ i. exprOf nodes (getD pairs (s + i * 2) 0)) w))
     → y ≡ min most (listNodes w)
     → r ≡ min most (size (distributePowers (sideExprs nodes pairs s w) (Expr.challenge beta)))
 unfolding sideExprs
 side-counted nodes pairs beta s w r x y h p q =
-    let es : List Expr = column (λ i. exprOf nodes (getD pairs (s + i * 2) 0)) w in
+    let es : List Expr = tabulate (λ i. exprOf nodes (getD pairs (s + i * 2) 0)) w in
     capped r x y (nodesIn es) (listNodes w) h p q
     ∙ ap (min most)
     (ap (λ (n : ℕ). nodesIn es + listNodes n) (sym (side-length nodes pairs s w))
@@ -128,7 +128,7 @@ permutation-some v h = ap (λ (t : Bool). cond t 0 (6 + v .«num_permutation_pol
 
 -- the user's own constraints
 pub own-nodes : (nodes roots : List ℕ)
-    → nodesIn (column (λ i. exprOf nodes (getD roots (0 + i * 1) 0)) (length roots)) ≡ nodesIn (map (exprOf nodes) roots)
+    → nodesIn (tabulate (λ i. exprOf nodes (getD roots (0 + i * 1) 0)) (length roots)) ≡ nodesIn (map (exprOf nodes) roots)
 own-nodes nodes roots =
     ap nodesIn
     (column-cong (λ i. exprOf nodes (getD roots (0 + i * 1) 0)) (λ i. exprOf nodes (getD roots i 0)) (length roots)
@@ -140,7 +140,7 @@ own-nodes nodes roots =
 module _ {c : Circuit} {v : CircuitParams} {names nodes roots widths pairs : List ℕ} where
   counted : Limits v → DecodedFrom c v names nodes roots widths pairs
       → composedNodes c
-      ≡ nodesIn (map (exprOf nodes) roots) + nodesIn (column (lookupTreeOf v (lookupsOf nodes widths pairs)) (v .«num_lookups»))
+      ≡ nodesIn (map (exprOf nodes) roots) + nodesIn (tabulate (lookupTreeOf v (lookupsOf nodes widths pairs)) (v .«num_lookups»))
       + permutationNodes v
       + listNodes (numConstraints (length roots) v)
       + 2
@@ -156,8 +156,8 @@ module _ {c : Circuit} {v : CircuitParams} {names nodes roots widths pairs : Lis
       omega arith
 
   pub composed-counted : (r own looks perm x y z u m k : ℕ) → Limits v → DecodedFrom c v names nodes roots widths pairs
-      → own ≡ min most (nodesIn (column (λ i. exprOf nodes (getD roots (0 + i * 1) 0)) (length roots)))
-      → looks ≡ min most (nodesIn (column (lookupTreeOf v (lookupsOf nodes widths pairs)) (v .«num_lookups»)))
+      → own ≡ min most (nodesIn (tabulate (λ i. exprOf nodes (getD roots (0 + i * 1) 0)) (length roots)))
+      → looks ≡ min most (nodesIn (tabulate (lookupTreeOf v (lookupsOf nodes widths pairs)) (v .«num_lookups»)))
       → perm ≡ permutationNodes v
       → m ≡ min most (listNodes (numConstraints (length roots) v))
       → k ≡ min most (listNodes (v .«num_lookups» + 1))
@@ -169,7 +169,7 @@ module _ {c : Circuit} {v : CircuitParams} {names nodes roots widths pairs : Lis
       → r ≡ min most (composedNodes c)
   composed-counted r own looks perm x y z u m k l p ho hl hp hm hk hx hy hz hu hr =
       let A : ℕ = nodesIn (map (exprOf nodes) roots) in
-      let B : ℕ = nodesIn (column (lookupTreeOf v (lookupsOf nodes widths pairs)) (v .«num_lookups»)) in
+      let B : ℕ = nodesIn (tabulate (lookupTreeOf v (lookupsOf nodes widths pairs)) (v .«num_lookups»)) in
       let M : ℕ = listNodes (numConstraints (length roots) v) in
       let K : ℕ = listNodes (v .«num_lookups» + 1) in
       let ex : x ≡ min most (A + B) = capped x own looks A B hx (ho ∙ ap (min most) (own-nodes nodes roots)) hl in

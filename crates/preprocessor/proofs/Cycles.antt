@@ -5,7 +5,7 @@ use mathlib.Core.List.{List, [], _∷_, _++_}
 use Prim.Native.Nat.{suc, _≤_}
 use native.Mathlib.Omega.{arith}
 use lib.ListN.{length}
-use Rattle.lists.specs.Lists.{those, countOf, All}
+use Rattle.lists.specs.Lists.{filter, countOf, All}
 use Rattle.lists.proofs.Tests.{by-test, count-cons, count-none}
 use Rattle.lists.proofs.All.{all-weaken, all-both, all-any}
 use Rattle.backend.specs.Circuit.{Cell, sameCell}
@@ -27,7 +27,7 @@ Distinct [] = Unit {0}
 Distinct (x ∷ xs) = All (Other x) xs × Distinct xs
 
 distinct-le : (xs : List Cell) → All (λ x. countOf (sameCell x) xs ≤ 1) xs → Distinct xs
-unfolding those
+unfolding filter
 distinct-le [] a = tt
 distinct-le (x ∷ xs) a = (
   count-none (sameCell x) xs none,
@@ -36,8 +36,8 @@ distinct-le (x ∷ xs) a = (
   where
     none : countOf (sameCell x) xs ≡ 0
     none =
-        let e : length (cond (sameCell x x) (x ∷ those (sameCell x) xs) (those (sameCell x) xs)) ≡ suc (countOf (sameCell x) xs) =
-        ap (λ (t : Bool). length (cond t (x ∷ those (sameCell x) xs) (those (sameCell x) xs))) (same-self x) in
+        let e : length (cond (sameCell x x) (x ∷ filter (sameCell x) xs) (filter (sameCell x) xs)) ≡ suc (countOf (sameCell x) xs) =
+        ap (λ (t : Bool). length (cond t (x ∷ filter (sameCell x) xs) (filter (sameCell x) xs))) (same-self x) in
         let l = a .0 in
         omega arith
 

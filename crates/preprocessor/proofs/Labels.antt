@@ -11,7 +11,7 @@ use lib.ListN.{length, getD, drop, set, drop-of-length-le, length-map}
 use lib.Seq.{drop-cons}
 use lib.Dec.{eqb}
 use borrow.Author.Tests.{eq-eqb, ne-eqb}
-use Rattle.lists.specs.Lists.{column, below, concat, indexOf, over, All}
+use Rattle.lists.specs.Lists.{tabulate, range, concat, indexOf, writeAt, All}
 use Rattle.lists.proofs.Tests.{false-true, by-test}
 use Rattle.lists.proofs.Columns.{column-length, column-cong, column-of, columns-length, get-columns}
 use Rattle.lists.proofs.Over.{over-inside, over-front, length-over}
@@ -21,7 +21,7 @@ use Rattle.lists.proofs.Turns.{grid-lt}
 use Rattle.lists.proofs.Places.{get-index}
 use Rattle.backend.specs.Circuit.{Cell, sameCell}
 use Rattle.backend.proofs.Cells.{same-cell, same-self}
-use Rattle.preprocessor.specs.Permutation.{lastCell, before, source, firstLabelIn, cellIn, labelIn, labelColumns, Placed, Once, Starts, cellWord, CycleIn, Moved, inOne, movedWords, Walked}
+use Rattle.preprocessor.specs.Permutation.{lastCell, before, source, firstLabelIn, cellIn, labelIn, labelColumns, CellPlaced, Once, Starts, cellWord, CycleIn, Moved, inOne, movedWords, Walked}
 use Rattle.preprocessor.proofs.Cycles.{Other, Distinct, last-all, source-all, apart-distinct, taken, passed, passed-cycle}
 
 -- ---- labels exchanged: the first place takes v, each after it what the place before it held
@@ -34,26 +34,26 @@ module _ (ps : List ℕ) (rows : ℕ) where
   pub labels-same : (l m : Cell → ℕ) → ((x : Cell) → l x ≡ m x) → labelColumns ps rows l ≡ labelColumns ps rows m
   unfolding labelColumns
   labels-same l m h =
-      ap concat (column-cong (λ i. column (λ b. l (cellIn ps i b)) rows) (λ i. column (λ b. m (cellIn ps i b)) rows) (length ps)
+      ap concat (column-cong (λ i. tabulate (λ b. l (cellIn ps i b)) rows) (λ i. tabulate (λ b. m (cellIn ps i b)) rows) (length ps)
       (λ i w. column-cong (λ b. l (cellIn ps i b)) (λ b. m (cellIn ps i b)) rows (λ b u. h (cellIn ps i b))))
 
   pub labels-length : (l : Cell → ℕ) → length (labelColumns ps rows l) ≡ length ps * rows
   unfolding labelColumns
   labels-length l = columns-length rows (λ i b. l (cellIn ps i b)) (length ps)
 
-  labels-flat : (l : Cell → ℕ) → labelColumns ps rows l ≡ column (λ j. l (cellIn ps (j / rows) (j % rows))) (length ps * rows)
+  labels-flat : (l : Cell → ℕ) → labelColumns ps rows l ≡ tabulate (λ j. l (cellIn ps (j / rows) (j % rows))) (length ps * rows)
   unfolding labelColumns
   labels-flat l = columns-flat rows (λ i b. l (cellIn ps i b)) (length ps)
 
   -- ---- cells and places
-  pub placed-lt : (x : Cell) → Placed ps rows x → firstLabelIn ps rows x < length ps * rows
+  pub placed-lt : (x : Cell) → CellPlaced ps rows x → firstLabelIn ps rows x < length ps * rows
   placed-lt x h = grid-lt (length ps) rows (indexOf (x .polynomial) ps) (x .row) (h .column-in) (h .row-in)
 
   -- the cell at its column and row
-  cell-at : (x : Cell) → Placed ps rows x → cellIn ps (indexOf (x .polynomial) ps) (x .row) ≡ x
+  cell-at : (x : Cell) → CellPlaced ps rows x → cellIn ps (indexOf (x .polynomial) ps) (x .row) ≡ x
   cell-at x h = ap (λ (q : ℕ). record { polynomial = q; row = x .row }) (get-index (x .polynomial) ps 0 (h .column-in))
 
-  pub label-of : (l : Cell → ℕ) (x : Cell) → Placed ps rows x → getD (labelColumns ps rows l) (firstLabelIn ps rows x) 0 ≡ l x
+  pub label-of : (l : Cell → ℕ) (x : Cell) → CellPlaced ps rows x → getD (labelColumns ps rows l) (firstLabelIn ps rows x) 0 ≡ l x
   unfolding labelColumns
   label-of l x h =
       get-columns rows (λ i b. l (cellIn ps i b)) (length ps) (indexOf (x .polynomial) ps) (x .row) 0 (h .column-in) (h .row-in)
@@ -71,17 +71,17 @@ module _ (ps : List ℕ) (rows : ℕ) where
     pub cell-number : (i b : ℕ) → i < length ps → firstLabelIn ps rows (cellIn ps i b) ≡ i * rows + b
     cell-number i b l = ap (λ (j : ℕ). j * rows + b) (once i l)
 
-    pub cell-placed : (i b : ℕ) → i < length ps → b < rows → Placed ps rows (cellIn ps i b)
+    pub cell-placed : (i b : ℕ) → i < length ps → b < rows → CellPlaced ps rows (cellIn ps i b)
     cell-placed i b l m = record { column-in = (let e = once i l in omega arith); row-in = m }
 
     -- a label is the place of a cell
-    pub label-lt : (cycles : List (List Cell)) → All (All (Placed ps rows)) cycles → (i b : ℕ) → i < length ps → b < rows
+    pub label-lt : (cycles : List (List Cell)) → All (All (CellPlaced ps rows)) cycles → (i b : ℕ) → i < length ps → b < rows
         → labelIn ps rows cycles i b < length ps * rows
     label-lt cycles a i b l m =
-        placed-lt (source cycles (cellIn ps i b)) (source-all (Placed ps rows) cycles (cellIn ps i b) a (cell-placed i b l m))
+        placed-lt (source cycles (cellIn ps i b)) (source-all (CellPlaced ps rows) cycles (cellIn ps i b) a (cell-placed i b l m))
 
     -- the place is a cell's exactly where the cell is the same
-    place-same : (y : Cell) → Placed ps rows y → (j : ℕ) → j < length ps * rows
+    place-same : (y : Cell) → CellPlaced ps rows y → (j : ℕ) → j < length ps * rows
         → eqb j (firstLabelIn ps rows y) ≡ sameCell (cellIn ps (j / rows) (j % rows)) y
     place-same y h j l = go (ℕ-discrete j (firstLabelIn ps rows y))
       where
@@ -109,7 +109,7 @@ module _ (ps : List ℕ) (rows : ℕ) where
                 ∙ ap (firstLabelIn ps rows) e
 
     -- one cell's label changed
-    pub label-set : (l : Cell → ℕ) (y : Cell) (v : ℕ) → Placed ps rows y
+    pub label-set : (l : Cell → ℕ) (y : Cell) (v : ℕ) → CellPlaced ps rows y
         → set (labelColumns ps rows l) (firstLabelIn ps rows y) v ≡ labelColumns ps rows (taken l y v)
     label-set l y v h =
         ap (λ (s : List ℕ). set s (firstLabelIn ps rows y) v) (labels-flat l)
@@ -121,7 +121,7 @@ module _ (ps : List ℕ) (rows : ℕ) where
         ∙ sym (labels-flat (taken l y v))
 
     -- "column idx of the sorted list starts as idx × 2^k + row": the words are 0, 1, 2, …
-    pub first-labels : below (length ps * rows) ≡ labelColumns ps rows (firstLabelIn ps rows)
+    pub first-labels : range (length ps * rows) ≡ labelColumns ps rows (firstLabelIn ps rows)
     first-labels =
         column-cong (λ j. j) (λ j. firstLabelIn ps rows (cellIn ps (j / rows) (j % rows))) (length ps * rows)
         (λ j l. sym (div-add-mod' j rows) ∙ sym (cell-number (j / rows) (j % rows) (place-column j l)))
@@ -130,26 +130,26 @@ module _ (ps : List ℕ) (rows : ℕ) where
     -- ---- the columns as a run of a buffer
     module _ (d : List ℕ) (at : ℕ) (room : at + length ps * rows ≤ length d) where
       abbrev run : (Cell → ℕ) → List ℕ
-      run l = over d at (labelColumns ps rows l)
+      run l = writeAt d at (labelColumns ps rows l)
 
       pub run-length : (l : Cell → ℕ) → length (run l) ≡ length d
       run-length l = length-over d at (labelColumns ps rows l) (let e = labels-length l in omega arith)
 
-      run-get : (l : Cell → ℕ) (x : Cell) → Placed ps rows x → getD (run l) (at + firstLabelIn ps rows x) 0 ≡ l x
+      run-get : (l : Cell → ℕ) (x : Cell) → CellPlaced ps rows x → getD (run l) (at + firstLabelIn ps rows x) 0 ≡ l x
       run-get l x h =
           over-inside d at (labelColumns ps rows l) (firstLabelIn ps rows x) 0 (omega arith)
           (let e = labels-length l in let w = placed-lt x h in omega arith)
           ∙ label-of l x h
 
-      run-set : (l : Cell → ℕ) (y : Cell) (v : ℕ) → Placed ps rows y → set (run l) (at + firstLabelIn ps rows y) v ≡ run (taken l y v)
+      run-set : (l : Cell → ℕ) (y : Cell) (v : ℕ) → CellPlaced ps rows y → set (run l) (at + firstLabelIn ps rows y) v ≡ run (taken l y v)
       run-set l y v h =
           over-set d at (labelColumns ps rows l) (firstLabelIn ps rows y) v (let e = labels-length l in omega arith)
           (let e = labels-length l in let w = placed-lt y h in omega arith)
-          ∙ ap (over d at) (label-set l y v h)
+          ∙ ap (writeAt d at) (label-set l y v h)
 
       -- labels exchanged along the places of cells are passed on along the cells
-      run-exchanged : (word : Cell → ℕ) → ((x : Cell) → Placed ps rows x → word x ≡ at + firstLabelIn ps rows x)
-          → (l : Cell → ℕ) (v : ℕ) (ys : List Cell) → All (Placed ps rows) ys
+      run-exchanged : (word : Cell → ℕ) → ((x : Cell) → CellPlaced ps rows x → word x ≡ at + firstLabelIn ps rows x)
+          → (l : Cell → ℕ) (v : ℕ) (ys : List Cell) → All (CellPlaced ps rows) ys
           → exchanged (run l) v (map word ys) ≡ run (passed l v ys)
       unfolding exchanged passed
       run-exchanged word e l v [] a = refl
@@ -184,46 +184,46 @@ walked starts (y ∷ ys) old new p e ps rows at d l once placed apart words room
     e
     ∙ ap₂ (λ (s : List ℕ) (v : ℕ). exchanged s v (map (cellWord starts) (y ∷ ys))) start held
     ∙ run-exchanged ps rows once d at room (cellWord starts) place l (l (lastCell y ys)) (y ∷ ys) placed
-    ∙ ap (over d at)
+    ∙ ap (writeAt d at)
     (labels-same ps rows (passed l (l (lastCell y ys)) (y ∷ ys)) (λ x. l (before (y ∷ ys) x))
     (λ x. passed-cycle l y ys x (apart-distinct (y ∷ ys) apart)))
   where
-    place : (x : Cell) → Placed ps rows x → cellWord starts x ≡ at + firstLabelIn ps rows x
+    place : (x : Cell) → CellPlaced ps rows x → cellWord starts x ≡ at + firstLabelIn ps rows x
     place x h = let q = words (x .polynomial) (h .column-in) in omega arith
 
-    last-placed : Placed ps rows (lastCell y ys)
-    last-placed = last-all (Placed ps rows) y ys placed
+    last-placed : CellPlaced ps rows (lastCell y ys)
+    last-placed = last-all (CellPlaced ps rows) y ys placed
 
     held : getD old (getD (map (cellWord starts) (y ∷ ys)) (length (y ∷ ys) - 1) 0) 0 ≡ l (lastCell y ys)
     held =
         let z : Cell = lastCell y ys in
         let i : length (y ∷ ys) - 1 ≡ length ys = omega arith in
         ap₂ (λ (s : List ℕ) (n : ℕ). getD s (getD (map (cellWord starts) (y ∷ ys)) n 0) 0) start i
-        ∙ ap (λ (n : ℕ). getD (over d at (labelColumns ps rows l)) n 0) (last-word (cellWord starts) y ys ∙ place z last-placed)
+        ∙ ap (λ (n : ℕ). getD (writeAt d at (labelColumns ps rows l)) n 0) (last-word (cellWord starts) y ys ∙ place z last-placed)
         ∙ run-get ps rows once d at room l z last-placed
 
 -- ---- every word after a walk
 
 -- words as the rows of one column
 module _ (old : List ℕ) where
-  one-column : (m : Cell → ℕ) → labelColumns (0 ∷ []) (length old) m ≡ column (λ j. m (inOne j)) (length old)
-  unfolding labelColumns column concat
-  one-column m = append-nil (column (λ j. m (inOne j)) (length old))
+  one-column : (m : Cell → ℕ) → labelColumns (0 ∷ []) (length old) m ≡ tabulate (λ j. m (inOne j)) (length old)
+  unfolding labelColumns tabulate concat
+  one-column m = append-nil (tabulate (λ j. m (inOne j)) (length old))
 
-  all-over : (f : ℕ → ℕ) → over old 0 (column f (length old)) ≡ column f (length old)
+  all-over : (f : ℕ → ℕ) → writeAt old 0 (tabulate f (length old)) ≡ tabulate f (length old)
   all-over f =
       let e = column-length f (length old) in
-      over-front old (column f (length old))
-      ∙ ap (λ (s : List ℕ). column f (length old) ++ s) (drop-of-length-le old {i = length (column f (length old))} (omega arith))
-      ∙ append-nil (column f (length old))
+      over-front old (tabulate f (length old))
+      ∙ ap (λ (s : List ℕ). tabulate f (length old) ++ s) (drop-of-length-le old {i = length (tabulate f (length old))} (omega arith))
+      ∙ append-nil (tabulate f (length old))
 
-  one-over : (m : Cell → ℕ) → over old 0 (labelColumns (0 ∷ []) (length old) m) ≡ column (λ j. m (inOne j)) (length old)
-  one-over m = ap (over old 0) (one-column m) ∙ all-over (λ j. m (inOne j))
+  one-over : (m : Cell → ℕ) → writeAt old 0 (labelColumns (0 ∷ []) (length old) m) ≡ tabulate (λ j. m (inOne j)) (length old)
+  one-over m = ap (writeAt old 0) (one-column m) ∙ all-over (λ j. m (inOne j))
 
   held-at : Cell → ℕ
   held-at x = getD old (x .row) 0
 
-  as-held : over old 0 (labelColumns (0 ∷ []) (length old) held-at) ≡ old
+  as-held : writeAt old 0 (labelColumns (0 ∷ []) (length old) held-at) ≡ old
   unfolding held-at
   as-held = one-over held-at ∙ column-of old 0
 
@@ -231,7 +231,7 @@ rows-back : (ws : List ℕ) → map (λ (x : Cell). x .row) (map inOne ws) ≡ w
 rows-back [] = refl
 rows-back (w ∷ ws) = ap (λ (s : List ℕ). w ∷ s) (rows-back ws)
 
-one-place : (n : ℕ) (x : Cell) → Placed (0 ∷ []) n x → x .row ≡ 0 + firstLabelIn (0 ∷ []) n x
+one-place : (n : ℕ) (x : Cell) → CellPlaced (0 ∷ []) n x → x .row ≡ 0 + firstLabelIn (0 ∷ []) n x
 one-place n x h =
     let q : indexOf (x .polynomial) (0 ∷ []) ≡ 0 = (let c = h .column-in in omega arith) in
     let e : indexOf (x .polynomial) (0 ∷ []) * n ≡ 0 = ap (λ (i : ℕ). i * n) q ∙ zero-mul n in
@@ -248,7 +248,7 @@ words-walked (w ∷ ws) old new p a t e =
     ∙ ap₂ (λ (s : List ℕ) (v : ℕ). exchanged s v (w ∷ ws)) (sym (as-held old)) held
     ∙ ap (exchanged run (held-at old z)) (sym (rows-back (w ∷ ws)))
     ∙ run-exchanged (0 ∷ []) (length old) once old 0 (omega (arith, one-mul (length old))) (λ (x : Cell). x .row) place (held-at old) (held-at old z) (map inOne (w ∷ ws)) (placed (w ∷ ws) a)
-    ∙ ap (over old 0)
+    ∙ ap (writeAt old 0)
     (labels-same (0 ∷ []) (length old) (passed (held-at old) (held-at old z) (map inOne (w ∷ ws))) (λ x. held-at old (before (map inOne (w ∷ ws)) x))
     (λ x. passed-cycle (held-at old) (inOne w) (map inOne ws) x t))
     ∙ one-over old (λ x. held-at old (before (map inOne (w ∷ ws)) x))
@@ -257,16 +257,16 @@ words-walked (w ∷ ws) old new p a t e =
     z = lastCell (inOne w) (map inOne ws)
 
     run : List ℕ
-    run = over old 0 (labelColumns (0 ∷ []) (length old) (held-at old))
+    run = writeAt old 0 (labelColumns (0 ∷ []) (length old) (held-at old))
 
     once : Once (0 ∷ [])
     once zero l = refl
     once (suc i) l = absurd (omega arith)
 
-    place : (x : Cell) → Placed (0 ∷ []) (length old) x → x .row ≡ 0 + firstLabelIn (0 ∷ []) (length old) x
+    place : (x : Cell) → CellPlaced (0 ∷ []) (length old) x → x .row ≡ 0 + firstLabelIn (0 ∷ []) (length old) x
     place x h = one-place (length old) x h
 
-    placed : (us : List ℕ) → All (λ u. u < length old) us → All (Placed (0 ∷ []) (length old)) (map inOne us)
+    placed : (us : List ℕ) → All (λ u. u < length old) us → All (CellPlaced (0 ∷ []) (length old)) (map inOne us)
     placed [] b = tt
     placed (u ∷ us) b = (record { column-in = omega arith; row-in = b .0 }, placed us (b .1))
 
@@ -279,29 +279,29 @@ words-walked (w ∷ ws) old new p a t e =
 
 -- ---- different cells have different words
 module _ (starts : List ℕ) (ps : List ℕ) (rows at : ℕ) (words : Starts starts ps rows at) where
-  cell-of : (x : Cell) → Placed ps rows x → cellIn ps (firstLabelIn ps rows x / rows) (firstLabelIn ps rows x % rows) ≡ x
+  cell-of : (x : Cell) → CellPlaced ps rows x → cellIn ps (firstLabelIn ps rows x / rows) (firstLabelIn ps rows x % rows) ≡ x
   cell-of x h =
       ap₂ (cellIn ps) (div-row (indexOf (x .polynomial) ps) rows (x .row) (h .row-in)) (mod-row (indexOf (x .polynomial) ps) rows (x .row) (h .row-in))
       ∙ cell-at ps rows x h
 
-  same-word : (x y : Cell) → Placed ps rows x → Placed ps rows y → cellWord starts x ≡ cellWord starts y → x ≡ y
+  same-word : (x y : Cell) → CellPlaced ps rows x → CellPlaced ps rows y → cellWord starts x ≡ cellWord starts y → x ≡ y
   same-word x y h g e =
       let p = words (x .polynomial) (h .column-in) in
       let q = words (y .polynomial) (g .column-in) in
       let n : firstLabelIn ps rows x ≡ firstLabelIn ps rows y = omega arith in
       sym (cell-of x h) ∙ ap (λ (j : ℕ). cellIn ps (j / rows) (j % rows)) n ∙ cell-of y g
 
-  other-word : (x y : Cell) → Placed ps rows x → Placed ps rows y → Other x y → Other (inOne (cellWord starts x)) (inOne (cellWord starts y))
+  other-word : (x y : Cell) → CellPlaced ps rows x → CellPlaced ps rows y → Other x y → Other (inOne (cellWord starts x)) (inOne (cellWord starts y))
   other-word x y h g o =
       ne-eqb (cellWord starts x) (cellWord starts y)
       (λ e. false-true (sym o ∙ ap (sameCell x) (sym (same-word x y h g e)) ∙ same-self x))
 
-  others : (x : Cell) → Placed ps rows x → (ys : List Cell) → All (Placed ps rows) ys → All (Other x) ys
+  others : (x : Cell) → CellPlaced ps rows x → (ys : List Cell) → All (CellPlaced ps rows) ys → All (Other x) ys
       → All (Other (inOne (cellWord starts x))) (map inOne (map (cellWord starts) ys))
   others x h [] a o = tt
   others x h (y ∷ ys) a o = (other-word x y h (a .0) (o .0), others x h ys (a .1) (o .1))
 
-  distinct-words : (ys : List Cell) → All (Placed ps rows) ys → Distinct ys → Distinct (map inOne (map (cellWord starts) ys))
+  distinct-words : (ys : List Cell) → All (CellPlaced ps rows) ys → Distinct ys → Distinct (map inOne (map (cellWord starts) ys))
   distinct-words [] a t = tt
   distinct-words (y ∷ ys) a t = (others y (a .0) ys (a .1) (t .0), distinct-words ys (a .1) (t .1))
 

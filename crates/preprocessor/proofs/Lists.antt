@@ -8,11 +8,11 @@ use native.Mathlib.Numerals.{add-one}
 use native.Mathlib.Omega.{arith}
 use lib.ListN.{length, getD, take, drop, length-append, drop-of-length-le}
 use lib.Seq.{drop-cons}
-use Rattle.lists.specs.Lists.{column, All}
+use Rattle.lists.specs.Lists.{tabulate, All}
 use Rattle.lists.proofs.Columns.{column-suc, column-first}
 use Rattle.expression.specs.Expr.{Expr, Exprs, exprsOf, distributePowers, productFrom, productOf}
 use Rattle.expression.specs.Flat.{body, sizes, extra, size}
-use Rattle.expression.specs.Written.{Pushed, Written, WrittenBase, WrittenList}
+use Rattle.expression.specs.Written.{Pushed, ExprWritten, WrittenBase, WrittenList}
 use Rattle.expression.proofs.Written.{
   written-as,
   written-constant,
@@ -60,12 +60,12 @@ module _ (es : List Expr) (n : ℕ) (long : length es ≡ n) (i : ℕ) (e : Expr
       go (no h) = omega (arith, last-sizes (omega arith) .0)
 
   module _ {b : Expr} {from at x next base : ℕ} {d d1 d2 : List ℕ} where
-    pub end-from : n ≤ i + 1 → Written from e at d d1 x → WrittenBase from b x d1 d2 next base
+    pub end-from : n ≤ i + 1 → ExprWritten from e at d d1 x → WrittenBase from b x d1 d2 next base
         → WrittenList from (exprsFrom es i) b at d d2 next base
     end-from h v w = subst (λ (l : Exprs). WrittenList from l b at d d2 next base) (sym (from-last h)) (list-last v w)
 
   module _ {b : Expr} {from at x y next base : ℕ} {d d1 d2 d3 : List ℕ} where
-    pub more-from : i + 1 < n → Written from e at d d1 x → WrittenList from (exprsFrom es (i + 1)) b x d1 d2 y base
+    pub more-from : i + 1 < n → ExprWritten from e at d d1 x → WrittenList from (exprsFrom es (i + 1)) b x d1 d2 y base
         → Pushed from y 12 (x - 1) (y - 1) 1 d2 d3 next
         → WrittenList from (exprsFrom es i) b at d d3 next base
     more-from h v w p =
@@ -73,12 +73,12 @@ module _ (es : List Expr) (n : ℕ) (long : length es ≡ n) (i : ℕ) (e : Expr
 
 -- ---- by powers of b
 module _ (b : Expr) {from at next : ℕ} {d d1 : List ℕ} where
-  pub powers-none : (es : List Expr) → length es ≡ 0 → Pushed from at 1 0 0 0 d d1 next → Written from (distributePowers es b) at d d1 next
+  pub powers-none : (es : List Expr) → length es ≡ 0 → Pushed from at 1 0 0 0 d d1 next → ExprWritten from (distributePowers es b) at d d1 next
   unfolding distributePowers
   powers-none [] h p = written-constant p
   powers-none (e ∷ es) h p = absurd (omega arith)
 
-  pub powers-one : (es : List Expr) → length es ≡ 1 → Written from (nth es 0) at d d1 next → Written from (distributePowers es b) at d d1 next
+  pub powers-one : (es : List Expr) → length es ≡ 1 → ExprWritten from (nth es 0) at d d1 next → ExprWritten from (distributePowers es b) at d d1 next
   unfolding distributePowers
   powers-one [] h w = absurd (omega arith)
   powers-one (e ∷ []) h w = w
@@ -87,7 +87,7 @@ module _ (b : Expr) {from at next : ℕ} {d d1 : List ℕ} where
 module _ (b : Expr) {from at x next base : ℕ} {d d1 d2 : List ℕ} where
   pub powers-many : (es : List Expr) → 1 < length es → WrittenList from (exprsFrom es 0) b at d d1 x base
       → Pushed from x 11 base (x - 1) 0 d1 d2 next
-      → Written from (distributePowers es b) at d d2 next
+      → ExprWritten from (distributePowers es b) at d d2 next
   unfolding distributePowers exprsFrom
   powers-many [] h w p = absurd (omega arith)
   powers-many (e ∷ []) h w p = absurd (omega arith)
@@ -109,33 +109,33 @@ many-size b (e ∷ (f ∷ es)) h = omega arith
 
 -- ---- products
 module _ (f : ℕ → Expr) {from at next : ℕ} {d d1 : List ℕ} where
-  product-one : Written from (f 0) at d d1 next → Written from (productOf (column f 1)) at d d1 next
-  unfolding productOf productFrom column
+  product-one : ExprWritten from (f 0) at d d1 next → ExprWritten from (productOf (tabulate f 1)) at d d1 next
+  unfolding productOf productFrom tabulate
   product-one w = w
 
-  pub product-all : (j n : ℕ) → j ≡ n → Written from (productOf (column f j)) at d d1 next → Written from (productOf (column f n)) at d d1 next
-  product-all j n e w = subst (λ (m : ℕ). Written from (productOf (column f m)) at d d1 next) e w
+  pub product-all : (j n : ℕ) → j ≡ n → ExprWritten from (productOf (tabulate f j)) at d d1 next → ExprWritten from (productOf (tabulate f n)) at d d1 next
+  product-all j n e w = subst (λ (m : ℕ). ExprWritten from (productOf (tabulate f m)) at d d1 next) e w
 
 -- factors that are numbered from `first` on
 module _ (f : ℕ → Expr) (first : ℕ) {from at next : ℕ} {d d1 : List ℕ} where
-  pub product-first : Written from (f first) at d d1 next → Written from (productOf (column (λ j. f (first + j)) 1)) at d d1 next
+  pub product-first : ExprWritten from (f first) at d d1 next → ExprWritten from (productOf (tabulate (λ j. f (first + j)) 1)) at d d1 next
   product-first w = product-one (λ j. f (first + j)) (written-as (ap f (add-zero first)) w)
 
 module _ (f : ℕ → Expr) {from at x y next : ℕ} {d d1 d2 d3 : List ℕ} where
   -- one factor more
-  more-factors : (j : ℕ) → 0 < j → Written from (productOf (column f j)) at d d1 x → Written from (f j) x d1 d2 y
+  more-factors : (j : ℕ) → 0 < j → ExprWritten from (productOf (tabulate f j)) at d d1 x → ExprWritten from (f j) x d1 d2 y
       → Pushed from y 9 (x - 1) (y - 1) 0 d2 d3 next
-      → Written from (productOf (column f (suc j))) at d d3 next
+      → ExprWritten from (productOf (tabulate f (suc j))) at d d3 next
   unfolding productOf
   more-factors zero h v w p = absurd (omega arith)
   more-factors (suc m) h v w p =
-      let fs : List Expr = column (λ i. f (suc i)) m in
+      let fs : List Expr = tabulate (λ i. f (suc i)) m in
       written-as (ap productOf (column-suc f (suc m) ∙ ap (λ (l : List Expr). l ++ (f (suc m) ∷ [])) (column-first f m)))
       (written-factor (f 0) fs (written-as (sym (ap productOf (column-first f m))) v) w p)
 
-  pub product-more : (j : ℕ) → 0 < j → Written from (productOf (column f j)) at d d1 x → Written from (f j) x d1 d2 y
+  pub product-more : (j : ℕ) → 0 < j → ExprWritten from (productOf (tabulate f j)) at d d1 x → ExprWritten from (f j) x d1 d2 y
       → Pushed from y 9 (x - 1) (y - 1) 0 d2 d3 next
-      → Written from (productOf (column f (j + 1))) at d d3 next
+      → ExprWritten from (productOf (tabulate f (j + 1))) at d d3 next
   product-more j h v w p = product-all f (suc j) (j + 1) (sym (add-one j)) (more-factors j h v w p)
 
 -- the nodes of a product whose factors have s each

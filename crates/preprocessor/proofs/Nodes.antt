@@ -6,14 +6,14 @@ use Prim.Native.Nat.{ℕ, zero, suc, _+_, _-_, _*_, _≤_, _<_}
 use native.Mathlib.Omega.{arith}
 use lib.Dec.{eqb}
 use lib.ListN.{length, getD, take, drop, length-append}
-use Rattle.lists.specs.Lists.{column, total, cut, below, concat, ceilDiv}
+use Rattle.lists.specs.Lists.{tabulate, total, cut, range, concat, ceilDiv}
 use Rattle.lists.proofs.Lists.{concat-length}
 use Rattle.lists.proofs.Columns.{column-length, column-cong, column-of, map-column, below-length}
 use Rattle.lists.proofs.Totals.{total-append, concat-cut, cut-length}
 use Rattle.expression.specs.Expr.{Expr, Exprs, at, exprsOf, distributePowers}
 use Rattle.expression.specs.Nodes.{exprOf}
 use Rattle.expression.specs.Flat.{body, sizes, extra, size}
-use Rattle.backend.specs.Circuit.{Circuit, Pair, numUser, numLookups, numCopied, copied}
+use Rattle.backend.specs.Circuit.{Circuit, Pair, numChallenges, numLookups, numCopied, copied}
 use Rattle.backend.specs.Constraints.{inputsOf, tablesOf, lookupTree}
 use Rattle.preprocessor.specs.Compose.{numZ, compose, composedConstraints, composedNodes, numberOfH, chunk, startTree, partTree, lookupTreeOf, permutationTrees, constraintTrees, zeroTree, outerTrees, composeTree, paramsOf}
 use Rattle.preprocessor.specs.ComposeWords.{Limits, numConstraints, permutationNodes}
@@ -31,13 +31,13 @@ pub nodes-one : (e : Expr) → nodesIn (e ∷ []) ≡ size e
 unfolding nodesIn
 nodes-one e = omega arith
 
-pub nodes-column : (f : ℕ → Expr) (n : ℕ) → nodesIn (column f n) ≡ total (column (λ i. size (f i)) n)
-unfolding nodesIn column total
+pub nodes-column : (f : ℕ → Expr) (n : ℕ) → nodesIn (tabulate f n) ≡ total (tabulate (λ i. size (f i)) n)
+unfolding nodesIn tabulate total
 nodes-column f zero = refl
 nodes-column f (suc n) =
-    nodes-append (column f n) (f n ∷ [])
+    nodes-append (tabulate f n) (f n ∷ [])
     ∙ ap (λ (m : ℕ). m + (size (f n) + 0)) (nodes-column f n)
-    ∙ sym (total-append (column (λ i. size (f i)) n) (size (f n) ∷ []))
+    ∙ sym (total-append (tabulate (λ i. size (f i)) n) (size (f n) ∷ []))
 
 -- ---- lists
 exprs-sizes : (e : Expr) (es : List Expr) → sizes (exprsOf e es) ≡ size e + nodesIn es
@@ -68,18 +68,18 @@ unfolding body
 query-size q = refl
 
 -- ---- the outer list
-queries-nodes : (f : ℕ → ℕ) (n : ℕ) → nodesIn (column (λ j. at (f j)) n) ≡ n
-unfolding column nodesIn
+queries-nodes : (f : ℕ → ℕ) (n : ℕ) → nodesIn (tabulate (λ j. at (f j)) n) ≡ n
+unfolding tabulate nodesIn
 queries-nodes f zero = refl
 queries-nodes f (suc n) =
-    nodes-append (column (λ j. at (f j)) n) (at (f n) ∷ [])
+    nodes-append (tabulate (λ j. at (f j)) n) (at (f n) ∷ [])
     ∙ ap₂ _+_ (queries-nodes f n) (nodes-one (at (f n)) ∙ query-size (f n))
     ∙ omega arith
 
 outer-nodes : (v : CircuitParams) (es : List Expr) → nodesIn (outerTrees v es) ≡ v .«num_lookups» + size (zeroTree v es)
 unfolding outerTrees
 outer-nodes v es =
-    nodes-append (column (λ j. at (numberOfH v j)) (v .«num_lookups»)) (zeroTree v es ∷ [])
+    nodes-append (tabulate (λ j. at (numberOfH v j)) (v .«num_lookups»)) (zeroTree v es ∷ [])
     ∙ ap₂ _+_ (queries-nodes (numberOfH v) (v .«num_lookups»)) (nodes-one (zeroTree v es))
 
 pub compose-size : (v : CircuitParams) (es : List Expr)
@@ -108,32 +108,32 @@ lookup-nodes v lookups j =
     omega arith
 
 -- ---- the permutation
-scaled-total : (a : ℕ → ℕ) (n : ℕ) → total (column (λ i. a i * 18 + 4) n) ≡ total (column a n) * 18 + n * 4
-unfolding column total
+scaled-total : (a : ℕ → ℕ) (n : ℕ) → total (tabulate (λ i. a i * 18 + 4) n) ≡ total (tabulate a n) * 18 + n * 4
+unfolding tabulate total
 scaled-total a zero = refl
 scaled-total a (suc n) =
-    let p = total-append (column (λ i. a i * 18 + 4) n) ((a n * 18 + 4) ∷ []) in
-    let q = total-append (column a n) (a n ∷ []) in
+    let p = total-append (tabulate (λ i. a i * 18 + 4) n) ((a n * 18 + 4) ∷ []) in
+    let q = total-append (tabulate a n) (a n ∷ []) in
     let r = scaled-total a n in
     omega arith
 
 -- the parts hold each copied column once
-parts-total : (v : CircuitParams) → Limits v → total (column (λ i. length (chunk v i)) (v .«num_chunks»)) ≡ v .«num_permutation_polys»
+parts-total : (v : CircuitParams) → Limits v → total (tabulate (λ i. length (chunk v i)) (v .«num_chunks»)) ≡ v .«num_permutation_polys»
 parts-total v l =
-    let C : List (List ℕ) = cut (v .«chunk_size») (below (v .«num_permutation_polys»)) in
+    let C : List (List ℕ) = cut (v .«chunk_size») (range (v .«num_permutation_polys»)) in
     let n : v .«num_chunks» ≡ length C =
     l .parts-are
     ∙ ap (λ (n : ℕ). ceilDiv n (v .«chunk_size»)) (sym (below-length (v .«num_permutation_polys»)))
-    ∙ sym (cut-length (v .«chunk_size») (below (v .«num_permutation_polys»))) in
-    ap (λ (m : ℕ). total (column (λ i. length (getD C i [])) m)) n
+    ∙ sym (cut-length (v .«chunk_size») (range (v .«num_permutation_polys»))) in
+    ap (λ (m : ℕ). total (tabulate (λ i. length (getD C i [])) m)) n
     ∙ ap total
     (sym (map-column (λ (xs : List ℕ). length xs) (λ i. getD C i []) (length C)) ∙ ap (map (λ (xs : List ℕ). length xs)) (column-of C []))
     ∙ sym (concat-length C)
-    ∙ ap length (concat-cut (v .«chunk_size») (below (v .«num_permutation_polys»)) (l .some-part))
+    ∙ ap length (concat-cut (v .«chunk_size») (range (v .«num_permutation_polys»)) (l .some-part))
     ∙ below-length (v .«num_permutation_polys»)
 
 pub permutation-nodes : (v : CircuitParams) (l : Limits v) (names : List ℕ)
-    → nodesIn (startTree v ∷ column (partTree v names) (v .«num_chunks»)) ≡ 6 + v .«num_permutation_polys» * 18 + v .«num_chunks» * 4
+    → nodesIn (startTree v ∷ tabulate (partTree v names) (v .«num_chunks»)) ≡ 6 + v .«num_permutation_polys» * 18 + v .«num_chunks» * 4
 unfolding nodesIn
 permutation-nodes v l names =
     let p =
@@ -147,27 +147,27 @@ permutation-nodes v l names =
 
 -- ---- all constraints
 some-nodes : (v : CircuitParams) (l : Limits v) (names : List ℕ) (t : Bool)
-    → nodesIn (cond t [] (startTree v ∷ column (partTree v names) (v .«num_chunks»))) ≡ cond t 0 (6 + v .«num_permutation_polys» * 18 + v .«num_chunks» * 4)
+    → nodesIn (cond t [] (startTree v ∷ tabulate (partTree v names) (v .«num_chunks»))) ≡ cond t 0 (6 + v .«num_permutation_polys» * 18 + v .«num_chunks» * 4)
 unfolding nodesIn
 some-nodes v l names true = refl
 some-nodes v l names false = permutation-nodes v l names
 
 pub constraints-nodes : (v : CircuitParams) (l : Limits v) (names : List ℕ) (user : List Expr) (lookups : List (List Pair))
     → nodesIn (constraintTrees v names user lookups)
-    ≡ nodesIn user + nodesIn (column (lookupTreeOf v lookups) (v .«num_lookups»))
+    ≡ nodesIn user + nodesIn (tabulate (lookupTreeOf v lookups) (v .«num_lookups»))
     + permutationNodes v
 unfolding constraintTrees permutationTrees permutationNodes
 constraints-nodes v l names user lookups =
-    let P : List Expr = cond (eqb (v .«num_permutation_polys») 0) [] (startTree v ∷ column (partTree v names) (v .«num_chunks»)) in
-    let a = nodes-append user (column (lookupTreeOf v lookups) (v .«num_lookups») ++ P) in
-    let b = nodes-append (column (lookupTreeOf v lookups) (v .«num_lookups»)) P in
+    let P : List Expr = cond (eqb (v .«num_permutation_polys») 0) [] (startTree v ∷ tabulate (partTree v names) (v .«num_chunks»)) in
+    let a = nodes-append user (tabulate (lookupTreeOf v lookups) (v .«num_lookups») ++ P) in
+    let b = nodes-append (tabulate (lookupTreeOf v lookups) (v .«num_lookups»)) P in
     let c = some-nodes v l names (eqb (v .«num_permutation_polys») 0) in
     omega arith
 
 -- user nodes, lookups, permutation, what the lists add, the product with EqXY(0), the h queries
 pub composed-nodes : (c : Circuit) → Limits (paramsOf c)
     → composedNodes c
-    ≡ nodesIn (c .constraints) + nodesIn (column (lookupTreeOf (paramsOf c) (c .lookups)) (numLookups c))
+    ≡ nodesIn (c .constraints) + nodesIn (tabulate (lookupTreeOf (paramsOf c) (c .lookups)) (numLookups c))
     + permutationNodes (paramsOf c)
     + listNodes (length (composedConstraints c))
     + 2

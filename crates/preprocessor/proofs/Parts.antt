@@ -11,14 +11,14 @@ use lib.ListN.{length, getD, take, drop, length-take, length-drop}
 use mir.Val.{Fits}
 use mir.Syntax.{w64}
 use borrow.Author.Tests.{lt-ltb, le-ltb}
-use Rattle.lists.specs.Lists.{column, below, cut, ceilDiv, All}
+use Rattle.lists.specs.Lists.{tabulate, range, cut, ceilDiv, All}
 use Rattle.lists.proofs.Columns.{column-length, column-first, map-column, below-length}
 use Rattle.lists.proofs.Totals.{ceil-below, ceil-le, get-cut}
 use Rattle.lists.proofs.Runs.{drop-column, take-min}
 use Rattle.lists.proofs.All.{all-column}
 use Rattle.expression.specs.Expr.{Expr, minus, at, productOf}
 use Rattle.expression.specs.Flat.{body, size}
-use Rattle.expression.specs.Written.{Pushed, Written}
+use Rattle.expression.specs.Written.{Pushed, ExprWritten}
 use Rattle.expression.proofs.Written.{written-as, written-minus, written-poly, written-product, written-lagrange, written-constant}
 use Rattle.preprocessor.specs.Compose.{chunk, identityTree, permutationTree, nextTree, partTree, startTree, numberOfZ}
 use Rattle.preprocessor.specs.ComposeWords.{Limits}
@@ -48,14 +48,14 @@ module _ (v : CircuitParams) (l : Limits v) (i : ℕ) (h : i < v .«num_chunks»
   pub part-start : i * v .«chunk_size» < v .«num_permutation_polys»
   part-start = ceil-below (v .«num_permutation_polys») (v .«chunk_size») i (l .some-part) (subst (λ (n : ℕ). i < n) (l .parts-are) h)
 
-  part-run : chunk v i ≡ take (v .«chunk_size») (drop (i * v .«chunk_size») (below (v .«num_permutation_polys»)))
-  part-run = get-cut (v .«chunk_size») (below (v .«num_permutation_polys»)) i (l .some-part)
+  part-run : chunk v i ≡ take (v .«chunk_size») (drop (i * v .«chunk_size») (range (v .«num_permutation_polys»)))
+  part-run = get-cut (v .«chunk_size») (range (v .«num_permutation_polys»)) i (l .some-part)
 
   pub part-length : length (chunk v i) ≡ min (v .«chunk_size») (v .«num_permutation_polys» - i * v .«chunk_size»)
   part-length =
       ap length part-run
-      ∙ length-take (v .«chunk_size») (drop (i * v .«chunk_size») (below (v .«num_permutation_polys»)))
-      ∙ ap (min (v .«chunk_size»)) (length-drop (i * v .«chunk_size») (below (v .«num_permutation_polys»)) ∙ ap (λ (n : ℕ). n - i * v .«chunk_size») (below-length (v .«num_permutation_polys»)))
+      ∙ length-take (v .«chunk_size») (drop (i * v .«chunk_size») (range (v .«num_permutation_polys»)))
+      ∙ ap (min (v .«chunk_size»)) (length-drop (i * v .«chunk_size») (range (v .«num_permutation_polys»)) ∙ ap (λ (n : ℕ). n - i * v .«chunk_size») (below-length (v .«num_permutation_polys»)))
 
   pub part-pos : 0 < length (chunk v i)
   part-pos = let a = part-start in let b = l .some-part in omega (arith, part-length)
@@ -63,28 +63,28 @@ module _ (v : CircuitParams) (l : Limits v) (i : ℕ) (h : i < v .«num_chunks»
   pub part-end : i * v .«chunk_size» + length (chunk v i) ≤ v .«num_permutation_polys»
   part-end = let a = part-start in omega (arith, part-length)
 
-  part-is : chunk v i ≡ column (λ j. i * v .«chunk_size» + j) (length (chunk v i))
+  part-is : chunk v i ≡ tabulate (λ j. i * v .«chunk_size» + j) (length (chunk v i))
   part-is =
       part-run
       ∙ ap (take (v .«chunk_size»)) (drop-column (λ j. j) (i * v .«chunk_size») (v .«num_permutation_polys») (let a = part-start in omega arith))
       ∙ take-min (λ j. i * v .«chunk_size» + j) (v .«chunk_size») (v .«num_permutation_polys» - i * v .«chunk_size»)
-      ∙ ap (column (λ j. i * v .«chunk_size» + j)) (sym part-length)
+      ∙ ap (tabulate (λ j. i * v .«chunk_size» + j)) (sym part-length)
 
-  part-map : (f : ℕ → Expr) → map f (chunk v i) ≡ column (λ j. f (i * v .«chunk_size» + j)) (length (chunk v i))
+  part-map : (f : ℕ → Expr) → map f (chunk v i) ≡ tabulate (λ j. f (i * v .«chunk_size» + j)) (length (chunk v i))
   part-map f =
       ap (map f) part-is ∙ map-column f (λ j. i * v .«chunk_size» + j) (length (chunk v i))
 
   module _ (names : List ℕ) where
     pub part-tree : (count : ℕ) → count ≡ length (chunk v i)
         → partTree v names i
-        ≡ minus (Expr.product (at (numberOfZ v i)) (productOf (column (λ j. identityTree v names (i * v .«chunk_size» + j)) count)))
-        (Expr.product (nextTree v i) (productOf (column (λ j. permutationTree v names (i * v .«chunk_size» + j)) count)))
+        ≡ minus (Expr.product (at (numberOfZ v i)) (productOf (tabulate (λ j. identityTree v names (i * v .«chunk_size» + j)) count)))
+        (Expr.product (nextTree v i) (productOf (tabulate (λ j. permutationTree v names (i * v .«chunk_size» + j)) count)))
     unfolding partTree
     part-tree count e =
         ap₂
         (λ (a b : List Expr). minus (Expr.product (at (numberOfZ v i)) (productOf a)) (Expr.product (nextTree v i) (productOf b)))
-        (part-map (identityTree v names) ∙ ap (column (λ j. identityTree v names (i * v .«chunk_size» + j))) (sym e))
-        (part-map (permutationTree v names) ∙ ap (column (λ j. permutationTree v names (i * v .«chunk_size» + j))) (sym e))
+        (part-map (identityTree v names) ∙ ap (tabulate (λ j. identityTree v names (i * v .«chunk_size» + j))) (sym e))
+        (part-map (permutationTree v names) ∙ ap (tabulate (λ j. permutationTree v names (i * v .«chunk_size» + j))) (sym e))
 
 -- ---- the nodes
 pub identity-size : (v : CircuitParams) (names : List ℕ) (i : ℕ) → size (identityTree v names i) ≡ 9
@@ -114,12 +114,12 @@ unfolding body
 sides-size z y p q m a b c d = omega arith
 
 pub column-product : (s : ℕ) (f : ℕ → Expr) (n : ℕ) → 0 < n → ((i : ℕ) → size (f i) ≡ s)
-    → size (productOf (column f n)) + 1 ≡ n * (s + 1)
+    → size (productOf (tabulate f n)) + 1 ≡ n * (s + 1)
 column-product s f zero h q = absurd (omega arith)
 column-product s f (suc n) h q =
     let g : ℕ → Expr = λ i. f (suc i) in
     ap (λ (l : List Expr). size (productOf l) + 1) (column-first f n)
-    ∙ product-size s (f 0) (column g n) (q 0, all-column (λ (e : Expr). size e ≡ s) g n (λ i l. q (suc i)))
+    ∙ product-size s (f 0) (tabulate g n) (q 0, all-column (λ (e : Expr). size e ≡ s) g n (λ i l. q (suc i)))
     ∙ ap (λ (m : ℕ). suc m * (s + 1)) (column-length g n)
 
 pub part-size : (v : CircuitParams) (l : Limits v) (i : ℕ) (h : i < v .«num_chunks») (names : List ℕ)
@@ -129,7 +129,7 @@ part-size v l i h names =
     let a = column-product 9 (λ j. identityTree v names (i * v .«chunk_size» + j)) m (part-pos v l i h) (λ j. identity-size v names (i * v .«chunk_size» + j)) in
     let b = column-product 7 (λ j. permutationTree v names (i * v .«chunk_size» + j)) m (part-pos v l i h) (λ j. permutation-size v names (i * v .«chunk_size» + j)) in
     ap size (part-tree v l i h names m refl)
-    ∙ sides-size (at (numberOfZ v i)) (nextTree v i) (productOf (column (λ j. identityTree v names (i * v .«chunk_size» + j)) m)) (productOf (column (λ j. permutationTree v names (i * v .«chunk_size» + j)) m)) m (at-size (numberOfZ v i)) (next-size v i) a b
+    ∙ sides-size (at (numberOfZ v i)) (nextTree v i) (productOf (tabulate (λ j. identityTree v names (i * v .«chunk_size» + j)) m)) (productOf (tabulate (λ j. permutationTree v names (i * v .«chunk_size» + j)) m)) m (at-size (numberOfZ v i)) (next-size v i) a b
 
 pub start-size : (v : CircuitParams) → size (startTree v) ≡ 6
 unfolding startTree body
@@ -143,23 +143,23 @@ next-by v i t e = ap (λ (s : Bool). cond s (at (numberOfZ v (suc i))) (Expr.pol
 
 module _ (v : CircuitParams) (i : ℕ) {from n next : ℕ} {d d1 : List ℕ} where
   -- the following part's z
-  pub next-written : (q : ℕ) → q ≡ numberOfZ v (suc i) → suc i < v .«num_chunks» → Written from (at q) n d d1 next → Written from (nextTree v i) n d d1 next
+  pub next-written : (q : ℕ) → q ≡ numberOfZ v (suc i) → suc i < v .«num_chunks» → ExprWritten from (at q) n d d1 next → ExprWritten from (nextTree v i) n d d1 next
   next-written q e h w = written-as (next-by v i true (lt-ltb (suc i) (v .«num_chunks») h) ∙ ap at (sym e)) w
 
   -- the first z with rotation 1
   pub around-written : (q : ℕ) → q ≡ numberOfZ v 0 → v .«num_chunks» ≤ suc i → Pushed from n 5 q 0 2147483649 d d1 next
-      → Written from (nextTree v i) n d d1 next
+      → ExprWritten from (nextTree v i) n d d1 next
   around-written q e h p =
       written-as (next-by v i false (le-ltb (suc i) (v .«num_chunks») h) ∙ ap (λ (z : ℕ). Expr.poly z (pos 1)) (sym e))
       (written-poly {q = q} {r = pos 1} p)
 
 module _ (v : CircuitParams) {from n x y z u w next : ℕ} {d d1 d2 d3 d4 d5 d6 : List ℕ} where
-  pub start-written : (q : ℕ) → q ≡ numberOfZ v 0 → Pushed from n 3 0 0 2147483649 d d1 x → Written from (at q) x d1 d2 y
+  pub start-written : (q : ℕ) → q ≡ numberOfZ v 0 → Pushed from n 3 0 0 2147483649 d d1 x → ExprWritten from (at q) x d1 d2 y
       → Pushed from y 1 0 0 1 d2 d3 z
       → Pushed from z 7 (z - 1) 0 0 d3 d4 u
       → Pushed from u 8 (y - 1) (u - 1) 0 d4 d5 w
       → Pushed from w 9 (x - 1) (w - 1) 0 d5 d6 next
-      → Written from (startTree v) n d d6 next
+      → ExprWritten from (startTree v) n d d6 next
   unfolding startTree
   start-written q e a b p r s t =
       written-as (ap (λ (z : ℕ). Expr.product (Expr.lagrange (pos 1)) (minus (at z) (Expr.constant 1))) (sym e))
@@ -168,9 +168,9 @@ module _ (v : CircuitParams) {from n x y z u w next : ℕ} {d d1 d2 d3 d4 d5 d6 
 module _ (v : CircuitParams) (l : Limits v) (i : ℕ) (h : i < v .«num_chunks») (names : List ℕ) (count : ℕ) {from n x y z next : ℕ}
     {d d1 d2 d3 d4 : List ℕ} where
   pub part-written : count ≡ length (chunk v i)
-      → Written from (Expr.product (at (numberOfZ v i)) (productOf (column (λ j. identityTree v names (i * v .«chunk_size» + j)) count))) n d d1 x
-      → Written from (Expr.product (nextTree v i) (productOf (column (λ j. permutationTree v names (i * v .«chunk_size» + j)) count))) x d1 d2 y
+      → ExprWritten from (Expr.product (at (numberOfZ v i)) (productOf (tabulate (λ j. identityTree v names (i * v .«chunk_size» + j)) count))) n d d1 x
+      → ExprWritten from (Expr.product (nextTree v i) (productOf (tabulate (λ j. permutationTree v names (i * v .«chunk_size» + j)) count))) x d1 d2 y
       → Pushed from y 7 (y - 1) 0 0 d2 d3 z
       → Pushed from z 8 (x - 1) (z - 1) 0 d3 d4 next
-      → Written from (partTree v names i) n d d4 next
+      → ExprWritten from (partTree v names i) n d d4 next
   part-written e a b p q = written-as (part-tree v l i h names count e) (written-minus a b p q)

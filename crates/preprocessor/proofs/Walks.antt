@@ -8,7 +8,7 @@ use native.Mathlib.Decide.{ℕ-discrete}
 use native.Mathlib.Omega.{arith}
 use lib.ListN.{length, getD, take, drop, set, length-set, length-map, length-drop}
 use lib.Seq.{getD-set-same, getD-set-other, getD-take, getD-drop, length-take-le, take-all, take-suc}
-use Rattle.lists.specs.Lists.{column, below, indexOf, over, split, total, All}
+use Rattle.lists.specs.Lists.{tabulate, range, indexOf, writeAt, split, total, All}
 use Rattle.lists.proofs.All.{all-get, all-weaken}
 use Rattle.lists.proofs.Lists.{get-map, split-length}
 use Rattle.lists.proofs.Columns.{column-length, column-cong, get-column, below-length}
@@ -17,7 +17,7 @@ use Rattle.lists.proofs.Parts.{total-next, total-within, get-split}
 use Rattle.lists.proofs.Searches.{column-part}
 use Rattle.lists.proofs.Places.{get-index}
 use Rattle.backend.specs.Circuit.{Cell, cellAt, cellsOf}
-use Rattle.preprocessor.specs.Permutation.{source, before, firstLabelIn, labelColumns, permutationColumns, Placed, Once, Apart, Walkable, Starts, cellWord, CycleIn, Walked}
+use Rattle.preprocessor.specs.Permutation.{source, before, firstLabelIn, labelColumns, permutationColumns, CellPlaced, Once, Apart, Walkable, Starts, cellWord, CycleIn, Walked}
 use Rattle.preprocessor.proofs.Cycles.{source-end}
 use Rattle.preprocessor.proofs.Labels.{labels-same, labels-length, placed-lt, first-labels, run-length, exchanged, exchanged-next, exchanged-none, all-walked}
 
@@ -25,11 +25,11 @@ use Rattle.preprocessor.proofs.Labels.{labels-same, labels-length, plac
 pub record First (d : List ℕ) (at count : ℕ) (columns : List ℕ) (j : ℕ) : Type 0 where
   pub low : j ≤ count
   pub long : length columns ≡ length d
-  pub words : columns ≡ over d at (below j)
+  pub words : columns ≡ writeAt d at (range j)
 
 module _ (d : List ℕ) (at count : ℕ) where
   pub first-start : First d at count d 0
-  unfolding column
+  unfolding tabulate
   first-start = record { low = omega arith; long = refl; words = sym (over-none d at) }
 
   pub first-next : (columns : List ℕ) (j : ℕ) → at + count ≤ length d → First d at count columns j → j < count
@@ -40,18 +40,18 @@ module _ (d : List ℕ) (at count : ℕ) where
         long = length-set columns (at + j) j ∙ w .long;
         words =
             ap (λ (s : List ℕ). set s (at + j) j) (w .words) ∙ over-column d at (λ i. i) j (omega arith)
-            ∙ ap (λ (n : ℕ). over d at (below n)) (sym (add-one j));
+            ∙ ap (λ (n : ℕ). writeAt d at (range n)) (sym (add-one j));
       }
 
-  pub first-end : (columns : List ℕ) (j : ℕ) → First d at count columns j → count ≤ j → columns ≡ over d at (below count)
+  pub first-end : (columns : List ℕ) (j : ℕ) → First d at count columns j → count ≤ j → columns ≡ writeAt d at (range count)
   first-end columns j w l =
       let e : j ≡ count = let q = w .low in omega arith in
-      w .words ∙ ap (λ (n : ℕ). over d at (below n)) e
+      w .words ∙ ap (λ (n : ℕ). writeAt d at (range n)) e
 
-pub first-room : (d₀ d : List ℕ) (at count : ℕ) → at + count ≤ length d₀ → d ≡ over d₀ at (below count) → at + count ≤ length d
+pub first-room : (d₀ d : List ℕ) (at count : ℕ) → at + count ≤ length d₀ → d ≡ writeAt d₀ at (range count) → at + count ≤ length d
 first-room d₀ d at count h e =
     let n = below-length count in
-    let q : length d ≡ length d₀ = ap length e ∙ length-over d₀ at (below count) (omega arith) in
+    let q : length d ≡ length d₀ = ap length e ∙ length-over d₀ at (range count) (omega arith) in
     omega arith
 
 -- ---- where the columns begin
@@ -209,7 +209,7 @@ pub record Turning (rows : ℕ) (ps lengths cells d : List ℕ) (at : ℕ) (colu
   pub low : i ≤ length lengths
   pub long : length columns ≡ length d
   pub from : start ≡ total (take i lengths) * 2
-  pub words : columns ≡ over d at (permutationColumns ps rows (take i (split lengths (cellsOf cells))))
+  pub words : columns ≡ writeAt d at (permutationColumns ps rows (take i (split lengths (cellsOf cells))))
 
 module _ (rows : ℕ) (ps lengths cells : List ℕ) (at : ℕ) (walk : Walkable ps rows (split lengths (cellsOf cells))) (sums : total lengths ≡ length cells / 2) where
   abbrev cycles : List (List Cell)
@@ -218,15 +218,15 @@ module _ (rows : ℕ) (ps lengths cells : List ℕ) (at : ℕ) (walk : Walkable 
   abbrev labelled : List (List Cell) → List ℕ
   labelled Cs = permutationColumns ps rows Cs
 
-  first-length : (Cs : List (List Cell)) → length (below (length ps * rows)) ≡ length (labelled Cs)
+  first-length : (Cs : List (List Cell)) → length (range (length ps * rows)) ≡ length (labelled Cs)
   first-length Cs = below-length (length ps * rows) ∙ sym (labels-length ps rows (λ x. firstLabelIn ps rows (source Cs x)))
 
-  module _ (d₀ d : List ℕ) (room : at + length ps * rows ≤ length d₀) (first : d ≡ over d₀ at (below (length ps * rows))) where
+  module _ (d₀ d : List ℕ) (room : at + length ps * rows ≤ length d₀) (first : d ≡ writeAt d₀ at (range (length ps * rows))) where
     -- the labels that are written over the first ones
-    again : (Cs : List (List Cell)) → over d at (labelled Cs) ≡ over d₀ at (labelled Cs)
+    again : (Cs : List (List Cell)) → writeAt d at (labelled Cs) ≡ writeAt d₀ at (labelled Cs)
     again Cs =
-        ap (λ (s : List ℕ). over s at (labelled Cs)) first
-        ∙ over-again d₀ at (below (length ps * rows)) (labelled Cs) (let e = below-length (length ps * rows) in omega arith) (first-length Cs)
+        ap (λ (s : List ℕ). writeAt s at (labelled Cs)) first
+        ∙ over-again d₀ at (range (length ps * rows)) (labelled Cs) (let e = below-length (length ps * rows) in omega arith) (first-length Cs)
 
     pub turning-start : Turning rows ps lengths cells d at d 0 0
     unfolding total source
@@ -235,14 +235,14 @@ module _ (rows : ℕ) (ps lengths cells : List ℕ) (at : ℕ) (walk : Walkable 
           low = omega arith;
           long = refl;
           from = refl;
-          words = first ∙ ap (over d₀ at) (first-labels ps rows (walk .once)) ∙ sym (again []);
+          words = first ∙ ap (writeAt d₀ at) (first-labels ps rows (walk .once)) ∙ sym (again []);
         }
 
     pub turning-end : (columns : List ℕ) (start i : ℕ) → Turning rows ps lengths cells d at columns start i → length lengths ≤ i
-        → columns ≡ over d₀ at (labelled cycles)
+        → columns ≡ writeAt d₀ at (labelled cycles)
     turning-end columns start i w l =
         w .words
-        ∙ ap (λ (Cs : List (List Cell)). over d at (labelled Cs)) (take-all i cycles (let e = split-length lengths (cellsOf cells) in omega arith))
+        ∙ ap (λ (Cs : List (List Cell)). writeAt d at (labelled Cs)) (take-all i cycles (let e = split-length lengths (cellsOf cells) in omega arith))
         ∙ again cycles
 
   module _ (d columns : List ℕ) (start i : ℕ) (w : Turning rows ps lengths cells d at columns start i) (l : i < length lengths) where
@@ -272,7 +272,7 @@ module _ (rows : ℕ) (ps lengths cells : List ℕ) (at : ℕ) (walk : Walkable 
     -- they are the cycle
     pub turn-cycle : cellsOf part ≡ getD cycles i []
     turn-cycle =
-        ap (column (cellAt part)) part-count
+        ap (tabulate (cellAt part)) part-count
         ∙ column-cong (cellAt part) (λ j. cellAt cells (total (take i lengths) + j)) (getD lengths i 0) same
         ∙ sym (column-part (cellAt cells) (length cells / 2) (total (take i lengths)) (getD lengths i 0) (let q = total-within lengths i in omega arith))
         ∙ sym (get-split lengths (cellsOf cells) i l)
@@ -293,7 +293,7 @@ module _ (rows : ℕ) (ps lengths cells : List ℕ) (at : ℕ) (walk : Walkable 
     here Q a = subst Q (sym turn-cycle) (all-get Q cycles a i [] inside)
 
     module _ (starts : List ℕ) (begin : Starts starts ps rows at) (room : at + length ps * rows ≤ length d) where
-      cell-in : (x : Cell) → Placed ps rows x → (x .polynomial < 72) × (cellWord starts x < length columns)
+      cell-in : (x : Cell) → CellPlaced ps rows x → (x .polynomial < 72) × (cellWord starts x < length columns)
       cell-in x h =
           let few : getD ps (indexOf (x .polynomial) ps) 0 < 72 = all-get (λ q. q < 72) ps (walk .few) (indexOf (x .polynomial) ps) 0 (h .column-in) in
           let e = get-index (x .polynomial) ps 0 (h .column-in) in
@@ -308,13 +308,13 @@ module _ (rows : ℕ) (ps lengths cells : List ℕ) (at : ℕ) (walk : Walkable 
       turn-asks = (
         (let s = here (λ cycle. 0 < length cycle) (walk .some) in let e = column-length (cellAt part) (length part / 2) in omega arith),
         (
-          all-weaken (Placed ps rows) (λ (x : Cell). (x .polynomial < 72) × (cellWord starts x < length columns)) cell-in (cellsOf part) (here (All (Placed ps rows)) (walk .placed)),
+          all-weaken (CellPlaced ps rows) (λ (x : Cell). (x .polynomial < 72) × (cellWord starts x < length columns)) cell-in (cellsOf part) (here (All (CellPlaced ps rows)) (walk .placed)),
           record {
             list = ps;
             rows = rows;
             at = at;
             once = walk .once;
-            placed = here (All (Placed ps rows)) (walk .placed);
+            placed = here (All (CellPlaced ps rows)) (walk .placed);
             apart = here Apart (walk .apart);
             begun = begin;
             room = (let q = w .long in omega arith);
@@ -334,14 +334,14 @@ module _ (rows : ℕ) (ps lengths cells : List ℕ) (at : ℕ) (walk : Walkable 
                 omega arith;
             words =
                 moved
-                ∙ ap (over d at)
+                ∙ ap (writeAt d at)
                 (labels-same ps rows (λ x. firstLabelIn ps rows (source (take i cycles) (before (cellsOf part) x))) (λ x. firstLabelIn ps rows (source (take (i + 1) cycles) x))
                 (λ x. ap (firstLabelIn ps rows) (one-more x)));
           }
         where
-          moved : after ≡ over d at (labelColumns ps rows (λ x. firstLabelIn ps rows (source (take i cycles) (before (cellsOf part) x))))
+          moved : after ≡ writeAt d at (labelColumns ps rows (λ x. firstLabelIn ps rows (source (take i cycles) (before (cellsOf part) x))))
           moved =
-              m .0 ps rows at d (λ x. firstLabelIn ps rows (source (take i cycles) x)) (walk .once) (here (All (Placed ps rows)) (walk .placed))
+              m .0 ps rows at d (λ x. firstLabelIn ps rows (source (take i cycles) x)) (walk .once) (here (All (CellPlaced ps rows)) (walk .placed))
               (here Apart (walk .apart))
               begin
               room

@@ -5,7 +5,7 @@ use mathlib.Core.List.{List, map}
 use Prim.Native.Nat.{ℕ, suc, _+_, _*_, _≤_, _<_}
 use lib.ListN.{length, getD, drop}
 use lib.Dec.{eqb}
-use Rattle.lists.specs.Lists.{column, ceilDiv, split, total, laid, All}
+use Rattle.lists.specs.Lists.{tabulate, ceilDiv, split, total, writeWindow, All}
 use Rattle.expression.specs.Expr.{Expr, Exprs, exprsOf}
 use Rattle.expression.specs.Nodes.{exprOf}
 use Rattle.backend.specs.Circuit.{Circuit, Pair, pairsOf, copied}
@@ -19,7 +19,7 @@ lookupsOf nodes widths pairs = split widths (pairsOf nodes pairs)
 
 -- the expressions whose roots are every second word, w of them from s on
 unfoldable pub sideExprs : List ℕ → List ℕ → ℕ → ℕ → List Expr
-sideExprs nodes pairs s w = column (λ i. exprOf nodes (getD pairs (s + i * 2) 0)) w
+sideExprs nodes pairs s w = tabulate (λ i. exprOf nodes (getD pairs (s + i * 2) 0)) w
 
 -- those by powers of beta, and gamma
 unfoldable pub sideTree : List ℕ → List ℕ → ℕ → ℕ → ℕ → Expr
@@ -79,4 +79,4 @@ pub record DecodedFrom (c : Circuit) (params : CircuitParams) (names nodes roots
 -- the composed nodes of a circuit stand from node 0 on, as far as they fall into the buffer, which stands for the words from `from` on
 pub record Composed (from : ℕ) (c : Circuit) (before after : List ℕ) (next : ℕ) : Type 0 where
   pub number : next ≡ composedNodes c
-  pub buffer : after ≡ laid from before 0 (composedWords c)
+  pub buffer : after ≡ writeWindow from before 0 (composedWords c)

@@ -17,7 +17,7 @@ ghost use lib.ListN.{length, take, getD};
 ghost use Rattle.lists.specs.Lists.{total};
 ghost use Rattle.expression.specs.Expr.{Expr, distributePowers};
 ghost use Rattle.expression.specs.Flat.{size, sizes, extra};
-ghost use Rattle.expression.specs.Written.{mostWords, Written, WrittenList};
+ghost use Rattle.expression.specs.Written.{mostWords, ExprWritten, WrittenList};
 ghost use Rattle.preprocessor.specs.ComposeWords.{constraintsFromWords, exprsFrom, Limits, ComposeInput, numConstraints};
 
 // The pairs of the lookups before lookup j.
@@ -70,7 +70,7 @@ fn constraint(
     place: ItemPlace,
 ) -> usize
     requires { ⌜ ComposeInput params (now copied) (now user) (now roots) (now widths) (now pairs) × ((place .i < numConstraints (length (now roots)) params) × ((place .at + size (getD (constraintsFromWords params (now copied) (now user) (now roots) (now widths) (now pairs)) (place .i) (Expr.constant 0))) * 4 ≤ mostWords)) ⌝ }
-    ensures { λ r. ⌜ Written (place .from) (getD (constraintsFromWords params (now (copied .entry)) (now (user .entry)) (now (roots .entry)) (now (widths .entry)) (now (pairs .entry))) (place .i) (Expr.constant 0)) (place .at) (now (out .entry)) (now (out .exit)) r ⌝ }
+    ensures { λ r. ⌜ ExprWritten (place .from) (getD (constraintsFromWords params (now (copied .entry)) (now (user .entry)) (now (roots .entry)) (now (widths .entry)) (now (pairs .entry))) (place .i) (Expr.constant 0)) (place .at) (now (out .entry)) (now (out .exit)) r ⌝ }
 {
     let own = roots.len();
     let i = place.i;
@@ -135,7 +135,7 @@ pub fn constraint_powers(
     place: Place,
 ) -> usize
     requires { ⌜ ComposeInput params (now copied) (now user) (now roots) (now widths) (now pairs) × ((place .at + size (distributePowers (constraintsFromWords params (now copied) (now user) (now roots) (now widths) (now pairs)) (Expr.challenge (params .«num_challenges» + 2)))) * 4 ≤ mostWords) ⌝ }
-    ensures { λ r. ⌜ Written (place .from) (distributePowers (constraintsFromWords params (now (copied .entry)) (now (user .entry)) (now (roots .entry)) (now (widths .entry)) (now (pairs .entry))) (Expr.challenge (params .«num_challenges» + 2))) (place .at) (now (out .entry)) (now (out .exit)) r ⌝ }
+    ensures { λ r. ⌜ ExprWritten (place .from) (distributePowers (constraintsFromWords params (now (copied .entry)) (now (user .entry)) (now (roots .entry)) (now (widths .entry)) (now (pairs .entry))) (Expr.challenge (params .«num_challenges» + 2))) (place .at) (now (out .entry)) (now (out .exit)) r ⌝ }
 {
     let n = num_constraints(roots.len(), params);
     if n == 0 {

@@ -7,7 +7,7 @@ ghost use mathlib.Core.Path.{_≡_};
 ghost use mathlib.Core.List.{List};
 ghost use Prim.Native.Nat.{ℕ, suc, _+_, _*_, _≤_, _<_, _^_, min};
 ghost use lib.ListN.{length, getD};
-ghost use Rattle.lists.specs.Lists.{column, All};
+ghost use Rattle.lists.specs.Lists.{tabulate, All};
 ghost use Rattle.expression.specs.Expr.{Expr, distributePowers};
 ghost use Rattle.expression.specs.Nodes.{exprOf};
 ghost use Rattle.expression.specs.Flat.{size};
@@ -48,7 +48,7 @@ fn list_nodes(n: usize) -> u64
 // The nodes of w expressions, whose roots stand `step` words apart from word s on.
 fn roots_nodes(user: &[u64], roots: &[u64], s: usize, step: usize, w: usize) -> u64
     requires { ⌜ All (IsNode (now user)) (now roots) × (s + w * step < length (now roots) + step) ⌝ }
-    ensures { λ r. ⌜ r ≡ min most (nodesIn (column (λ i. exprOf (now (user .entry)) (getD (now (roots .entry)) (s + i * step) 0)) w)) ⌝ }
+    ensures { λ r. ⌜ r ≡ min most (nodesIn (tabulate (λ i. exprOf (now (user .entry)) (getD (now (roots .entry)) (s + i * step) 0)) w)) ⌝ }
 {
     let mut sum: u64 = 0;
     let mut i = 0;
@@ -91,7 +91,7 @@ fn lookups_nodes(
     params: CircuitParams,
 ) -> u64
     requires { ⌜ Words params (now user) (now roots) (now widths) (now pairs) ⌝ }
-    ensures { λ r. ⌜ r ≡ min most (nodesIn (column (lookupTreeOf params (lookupsOf (now (user .entry)) (now (widths .entry)) (now (pairs .entry)))) (params .«num_lookups»))) ⌝ }
+    ensures { λ r. ⌜ r ≡ min most (nodesIn (tabulate (lookupTreeOf params (lookupsOf (now (user .entry)) (now (widths .entry)) (now (pairs .entry)))) (params .«num_lookups»))) ⌝ }
 {
     let mut sum: u64 = 0;
     let mut s = 0;

@@ -17,7 +17,7 @@ ghost use mathlib.Core.Path.{_≡_};
 ghost use Prim.Native.Nat.{_+_, _-_, _*_, _≤_, _<_, _^_};
 ghost use Rattle.expression.specs.Expr.{Expr};
 ghost use Rattle.expression.specs.Flat.{size, sizes, extra};
-ghost use Rattle.expression.specs.Written.{mostWords, Written, WrittenList};
+ghost use Rattle.expression.specs.Written.{mostWords, ExprWritten, WrittenList};
 ghost use Rattle.backend.specs.Circuit.{Circuit};
 ghost use Rattle.preprocessor.specs.Compose.{zeroTree, outerTrees, composeTree};
 ghost use Rattle.preprocessor.specs.ComposeWords.{constraintsFromWords, exprsFrom, ComposeInput, DecodedFrom, Composed};
@@ -34,7 +34,7 @@ fn zero_check(
     place: Place,
 ) -> usize
     requires { ⌜ ComposeInput params (now copied) (now user) (now roots) (now widths) (now pairs) × ((place .at + size (zeroTree params (constraintsFromWords params (now copied) (now user) (now roots) (now widths) (now pairs)))) * 4 ≤ mostWords) ⌝ }
-    ensures { λ r. ⌜ Written (place .from) (zeroTree params (constraintsFromWords params (now (copied .entry)) (now (user .entry)) (now (roots .entry)) (now (widths .entry)) (now (pairs .entry)))) (place .at) (now (out .entry)) (now (out .exit)) r ⌝ }
+    ensures { λ r. ⌜ ExprWritten (place .from) (zeroTree params (constraintsFromWords params (now (copied .entry)) (now (user .entry)) (now (roots .entry)) (now (widths .entry)) (now (pairs .entry)))) (place .at) (now (out .entry)) (now (out .exit)) r ⌝ }
 {
     let x = constraint_powers(copied, user, roots, widths, pairs, out, params, place);
     let y = push(out, place.from, x, 4, 0, 0, 0);
@@ -86,7 +86,7 @@ fn outer(
     params: CircuitParams,
 ) -> usize
     requires { ⌜ ComposeInput params (now copied) (now user) (now roots) (now widths) (now pairs) × (size (composeTree params (constraintsFromWords params (now copied) (now user) (now roots) (now widths) (now pairs))) * 4 ≤ mostWords) ⌝ }
-    ensures { λ r. ⌜ Written from (composeTree params (constraintsFromWords params (now (copied .entry)) (now (user .entry)) (now (roots .entry)) (now (widths .entry)) (now (pairs .entry)))) 0 (now (out .entry)) (now (out .exit)) r ⌝ }
+    ensures { λ r. ⌜ ExprWritten from (composeTree params (constraintsFromWords params (now (copied .entry)) (now (user .entry)) (now (roots .entry)) (now (widths .entry)) (now (pairs .entry)))) 0 (now (out .entry)) (now (out .exit)) r ⌝ }
 {
     if params.num_lookups == 0 {
         let place = Place { from, at: 0 };

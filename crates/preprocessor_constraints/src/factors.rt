@@ -9,16 +9,16 @@ ghost use mathlib.Core.Path.{_≡_};
 ghost use Prim.Native.Nat.{_+_, _*_, _≤_, _<_};
 ghost use lib.IntN.{pos};
 ghost use lib.ListN.{length};
-ghost use Rattle.lists.specs.Lists.{column};
+ghost use Rattle.lists.specs.Lists.{tabulate};
 ghost use Rattle.expression.specs.Expr.{Expr, productOf};
-ghost use Rattle.expression.specs.Written.{mostWords, Written};
+ghost use Rattle.expression.specs.Written.{mostWords, ExprWritten};
 ghost use Rattle.preprocessor.specs.Compose.{identityTree, permutationTree};
 ghost use Rattle.preprocessor.specs.ComposeWords.{Limits};
 
 // beta * (label + id)
 fn beta_label(out: &mut [u64], from: usize, at: usize, user: u64, label: u64) -> usize
     requires { ⌜ (at + 5) * 4 ≤ mostWords ⌝ }
-    ensures { λ r. ⌜ Written from (Expr.product (Expr.challenge user) (Expr.sum (Expr.constant label) Expr.identity)) at (now (out .entry)) (now (out .exit)) r ⌝ }
+    ensures { λ r. ⌜ ExprWritten from (Expr.product (Expr.challenge user) (Expr.sum (Expr.constant label) Expr.identity)) at (now (out .entry)) (now (out .exit)) r ⌝ }
 {
     let beta = challenge(out, from, at, user);
     let x = push(out, from, beta, 1, 0, 0, label);
@@ -30,7 +30,7 @@ fn beta_label(out: &mut [u64], from: usize, at: usize, user: u64, label: u64) ->
 // beta * poly
 fn beta_query(out: &mut [u64], from: usize, at: usize, user: u64, q: u64) -> usize
     requires { ⌜ (at + 3) * 4 ≤ mostWords ⌝ }
-    ensures { λ r. ⌜ Written from (Expr.product (Expr.challenge user) (Expr.poly q (pos 0))) at (now (out .entry)) (now (out .exit)) r ⌝ }
+    ensures { λ r. ⌜ ExprWritten from (Expr.product (Expr.challenge user) (Expr.poly q (pos 0))) at (now (out .entry)) (now (out .exit)) r ⌝ }
 {
     let beta = challenge(out, from, at, user);
     let x = query(out, from, beta, q);
@@ -47,7 +47,7 @@ fn identity_factor(
     at: usize,
 ) -> usize
     requires { ⌜ Limits params × ((i < params .«num_permutation_polys») × ((i < length (now copied)) × ((at + 9) * 4 ≤ mostWords))) ⌝ }
-    ensures { λ r. ⌜ Written from (identityTree params (now (copied .entry)) i) at (now (out .entry)) (now (out .exit)) r ⌝ }
+    ensures { λ r. ⌜ ExprWritten from (identityTree params (now (copied .entry)) i) at (now (out .entry)) (now (out .exit)) r ⌝ }
 {
     let poly = query(out, from, at, copied[i]);
     let label = beta_label(
@@ -72,7 +72,7 @@ fn permutation_factor(
     at: usize,
 ) -> usize
     requires { ⌜ Limits params × ((i < params .«num_permutation_polys») × ((i < length (now copied)) × ((at + 7) * 4 ≤ mostWords))) ⌝ }
-    ensures { λ r. ⌜ Written from (permutationTree params (now (copied .entry)) i) at (now (out .entry)) (now (out .exit)) r ⌝ }
+    ensures { λ r. ⌜ ExprWritten from (permutationTree params (now (copied .entry)) i) at (now (out .entry)) (now (out .exit)) r ⌝ }
 {
     let poly = query(out, from, at, copied[i]);
     let label = beta_query(
@@ -98,7 +98,7 @@ pub fn identity_product(
     at: usize,
 ) -> usize
     requires { ⌜ Limits params × ((0 < count) × ((first + count ≤ params .«num_permutation_polys») × ((params .«num_permutation_polys» ≤ length (now copied)) × ((at + count * 10) * 4 ≤ mostWords + 4)))) ⌝ }
-    ensures { λ r. ⌜ (r + 1 ≡ at + count * 10) × Written from (productOf (column (λ j. identityTree params (now (copied .entry)) (first + j)) count)) at (now (out .entry)) (now (out .exit)) r ⌝ }
+    ensures { λ r. ⌜ (r + 1 ≡ at + count * 10) × ExprWritten from (productOf (tabulate (λ j. identityTree params (now (copied .entry)) (first + j)) count)) at (now (out .entry)) (now (out .exit)) r ⌝ }
 {
     let mut x = identity_factor(copied, out, from, params, first, at);
     let mut j = 1;
@@ -121,7 +121,7 @@ pub fn permutation_product(
     at: usize,
 ) -> usize
     requires { ⌜ Limits params × ((0 < count) × ((first + count ≤ params .«num_permutation_polys») × ((params .«num_permutation_polys» ≤ length (now copied)) × ((at + count * 8) * 4 ≤ mostWords + 4)))) ⌝ }
-    ensures { λ r. ⌜ (r + 1 ≡ at + count * 8) × Written from (productOf (column (λ j. permutationTree params (now (copied .entry)) (first + j)) count)) at (now (out .entry)) (now (out .exit)) r ⌝ }
+    ensures { λ r. ⌜ (r + 1 ≡ at + count * 8) × ExprWritten from (productOf (tabulate (λ j. permutationTree params (now (copied .entry)) (first + j)) count)) at (now (out .entry)) (now (out .exit)) r ⌝ }
 {
     let mut x = permutation_factor(copied, out, from, params, first, at);
     let mut j = 1;

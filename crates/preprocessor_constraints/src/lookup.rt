@@ -18,7 +18,7 @@ ghost use lib.ListN.{length};
 ghost use Rattle.lists.specs.Lists.{All};
 ghost use Rattle.expression.specs.Expr.{Expr, distributePowers};
 ghost use Rattle.expression.specs.Flat.{size, sizes, extra};
-ghost use Rattle.expression.specs.Written.{mostWords, Written, WrittenList};
+ghost use Rattle.expression.specs.Written.{mostWords, ExprWritten, WrittenList};
 ghost use Rattle.backend.specs.Constraints.{lookupTree};
 ghost use Rattle.preprocessor.specs.Compose.{numberOfM, numberOfH};
 ghost use Rattle.preprocessor.specs.ComposeWords.{sideExprs, sideTree, exprsFrom, IsNode, Limits};
@@ -65,7 +65,7 @@ fn side_powers(
     at: usize,
 ) -> usize
     requires { ⌜ All (IsNode (now user)) (now pairs) × ((run .start + run .count * 2 ≤ length (now pairs) + 1) × ((at + size (distributePowers (sideExprs (now user) (now pairs) (run .start) (run .count)) (Expr.challenge beta))) * 4 ≤ mostWords)) ⌝ }
-    ensures { λ r. ⌜ Written from (distributePowers (sideExprs (now (user .entry)) (now (pairs .entry)) (run .start) (run .count)) (Expr.challenge beta)) at (now (out .entry)) (now (out .exit)) r ⌝ }
+    ensures { λ r. ⌜ ExprWritten from (distributePowers (sideExprs (now (user .entry)) (now (pairs .entry)) (run .start) (run .count)) (Expr.challenge beta)) at (now (out .entry)) (now (out .exit)) r ⌝ }
 {
     if run.count == 0 {
         return push(out, from, at, 1, 0, 0, 0);
@@ -90,7 +90,7 @@ fn side(
     at: usize,
 ) -> usize
     requires { ⌜ All (IsNode (now user)) (now pairs) × ((run .start + run .count * 2 ≤ length (now pairs) + 1) × ((beta ≤ 16) × ((at + size (sideTree (now user) (now pairs) beta (run .start) (run .count))) * 4 ≤ mostWords))) ⌝ }
-    ensures { λ r. ⌜ Written from (sideTree (now (user .entry)) (now (pairs .entry)) beta (run .start) (run .count)) at (now (out .entry)) (now (out .exit)) r ⌝ }
+    ensures { λ r. ⌜ ExprWritten from (sideTree (now (user .entry)) (now (pairs .entry)) beta (run .start) (run .count)) at (now (out .entry)) (now (out .exit)) r ⌝ }
 {
     let x = side_powers(user, pairs, out, from, beta, run, at);
     let gamma = challenge(out, from, x, (beta + 1) as u64);
@@ -109,7 +109,7 @@ fn query_side(
     at: usize,
 ) -> usize
     requires { ⌜ All (IsNode (now user)) (now pairs) × ((run .start + run .count * 2 ≤ length (now pairs) + 1) × ((beta ≤ 16) × ((at + size (sideTree (now user) (now pairs) beta (run .start) (run .count)) + 2) * 4 ≤ mostWords))) ⌝ }
-    ensures { λ r. ⌜ Written from (Expr.product (Expr.poly q (pos 0)) (sideTree (now (user .entry)) (now (pairs .entry)) beta (run .start) (run .count))) at (now (out .entry)) (now (out .exit)) r ⌝ }
+    ensures { λ r. ⌜ ExprWritten from (Expr.product (Expr.poly q (pos 0)) (sideTree (now (user .entry)) (now (pairs .entry)) beta (run .start) (run .count))) at (now (out .entry)) (now (out .exit)) r ⌝ }
 {
     let x = query(out, from, at, q as u64);
     let y = side(user, pairs, out, from, beta, run, x);
@@ -128,7 +128,7 @@ pub fn lookup_constraint(
     at: usize,
 ) -> usize
     requires { ⌜ All (IsNode (now user)) (now pairs) × (Limits params × ((j < params .«num_lookups») × ((inputs .start + inputs .count * 2 ≤ length (now pairs)) × ((at + size (sideTree (now user) (now pairs) (params .«num_challenges») (inputs .start) (inputs .count)) * 2 + size (sideTree (now user) (now pairs) (params .«num_challenges») (inputs .start + 1) (inputs .count)) * 2 + 8) * 4 ≤ mostWords)))) ⌝ }
-    ensures { λ r. ⌜ Written from (lookupTree (Expr.poly (numberOfM params j) (pos 0)) (Expr.poly (numberOfH params j) (pos 0)) (sideTree (now (user .entry)) (now (pairs .entry)) (params .«num_challenges») (inputs .start) (inputs .count)) (sideTree (now (user .entry)) (now (pairs .entry)) (params .«num_challenges») (inputs .start + 1) (inputs .count))) at (now (out .entry)) (now (out .exit)) r ⌝ }
+    ensures { λ r. ⌜ ExprWritten from (lookupTree (Expr.poly (numberOfM params j) (pos 0)) (Expr.poly (numberOfH params j) (pos 0)) (sideTree (now (user .entry)) (now (pairs .entry)) (params .«num_challenges») (inputs .start) (inputs .count)) (sideTree (now (user .entry)) (now (pairs .entry)) (params .«num_challenges») (inputs .start + 1) (inputs .count))) at (now (out .entry)) (now (out .exit)) r ⌝ }
 {
     let m = params.num_poly + params.num_permutation_polys + j;
     let h = params.num_poly + params.num_permutation_polys + params.num_lookups + j;

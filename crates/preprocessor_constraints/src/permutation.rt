@@ -11,16 +11,16 @@ ghost use mathlib.Core.Path.{_≡_};
 ghost use Prim.Native.Nat.{_+_, _*_, _≤_, _<_};
 ghost use lib.IntN.{pos};
 ghost use lib.ListN.{length};
-ghost use Rattle.lists.specs.Lists.{column};
+ghost use Rattle.lists.specs.Lists.{tabulate};
 ghost use Rattle.expression.specs.Expr.{Expr, productOf};
-ghost use Rattle.expression.specs.Written.{mostWords, Written};
+ghost use Rattle.expression.specs.Written.{mostWords, ExprWritten};
 ghost use Rattle.preprocessor.specs.Compose.{numberOfZ, identityTree, permutationTree, nextTree, chunk, partTree, startTree};
 ghost use Rattle.preprocessor.specs.ComposeWords.{Limits};
 
 // "Next is the following part's z at that row; after the last part it is the first z with rotation 1."
 fn next_z(out: &mut [u64], from: usize, params: CircuitParams, i: usize, at: usize) -> usize
     requires { ⌜ Limits params × ((i < 72) × ((at + 1) * 4 ≤ mostWords)) ⌝ }
-    ensures { λ r. ⌜ Written from (nextTree params i) at (now (out .entry)) (now (out .exit)) r ⌝ }
+    ensures { λ r. ⌜ ExprWritten from (nextTree params i) at (now (out .entry)) (now (out .exit)) r ⌝ }
 {
     let z = params.num_poly + params.num_permutation_polys + params.num_lookups * 2;
     if i + 1 < params.num_chunks {
@@ -53,7 +53,7 @@ fn z_identities(
     at: usize,
 ) -> usize
     requires { ⌜ Limits params × ((i < 72) × ((0 < count) × ((first + count ≤ params .«num_permutation_polys») × ((params .«num_permutation_polys» ≤ length (now copied)) × ((at + count * 10 + 1) * 4 ≤ mostWords))))) ⌝ }
-    ensures { λ r. ⌜ (r ≡ at + count * 10 + 1) × Written from (Expr.product (Expr.poly (numberOfZ params i) (pos 0)) (productOf (column (λ j. identityTree params (now (copied .entry)) (first + j)) count))) at (now (out .entry)) (now (out .exit)) r ⌝ }
+    ensures { λ r. ⌜ (r ≡ at + count * 10 + 1) × ExprWritten from (Expr.product (Expr.poly (numberOfZ params i) (pos 0)) (productOf (tabulate (λ j. identityTree params (now (copied .entry)) (first + j)) count))) at (now (out .entry)) (now (out .exit)) r ⌝ }
 {
     let z = query(
         out,
@@ -77,7 +77,7 @@ fn z_permutations(
     at: usize,
 ) -> usize
     requires { ⌜ Limits params × ((i < 72) × ((0 < count) × ((first + count ≤ params .«num_permutation_polys») × ((params .«num_permutation_polys» ≤ length (now copied)) × ((at + count * 8 + 1) * 4 ≤ mostWords))))) ⌝ }
-    ensures { λ r. ⌜ (r ≡ at + count * 8 + 1) × Written from (Expr.product (nextTree params i) (productOf (column (λ j. permutationTree params (now (copied .entry)) (first + j)) count))) at (now (out .entry)) (now (out .exit)) r ⌝ }
+    ensures { λ r. ⌜ (r ≡ at + count * 8 + 1) × ExprWritten from (Expr.product (nextTree params i) (productOf (tabulate (λ j. permutationTree params (now (copied .entry)) (first + j)) count))) at (now (out .entry)) (now (out .exit)) r ⌝ }
 {
     let z = next_z(out, from, params, i, at);
     let p = permutation_product(copied, out, from, params, first, count, z);
@@ -94,7 +94,7 @@ pub fn part_constraint(
     at: usize,
 ) -> usize
     requires { ⌜ Limits params × ((i < params .«num_chunks») × ((params .«num_permutation_polys» ≤ length (now copied)) × ((at + length (chunk params i) * 18 + 4) * 4 ≤ mostWords))) ⌝ }
-    ensures { λ r. ⌜ Written from (partTree params (now (copied .entry)) i) at (now (out .entry)) (now (out .exit)) r ⌝ }
+    ensures { λ r. ⌜ ExprWritten from (partTree params (now (copied .entry)) i) at (now (out .entry)) (now (out .exit)) r ⌝ }
 {
     let count = part_count(params, i);
     let first = i * params.chunk_size;
@@ -107,7 +107,7 @@ pub fn part_constraint(
 // l_1 * (z_0 - one)
 pub fn start_constraint(out: &mut [u64], from: usize, params: CircuitParams, at: usize) -> usize
     requires { ⌜ Limits params × ((at + 6) * 4 ≤ mostWords) ⌝ }
-    ensures { λ r. ⌜ Written from (startTree params) at (now (out .entry)) (now (out .exit)) r ⌝ }
+    ensures { λ r. ⌜ ExprWritten from (startTree params) at (now (out .entry)) (now (out .exit)) r ⌝ }
 {
     let l = push(out, from, at, 3, 0, 0, 2147483649);
     let z = query(

@@ -4,14 +4,14 @@ pub mod records;
 ghost use mathlib.Core.Path.{_≡_};
 ghost use Prim.Native.Nat.{_+_, _*_, _/_, _^_, _≤_, _<_};
 ghost use lib.ListN.{length, getD, set};
-ghost use Rattle.lists.specs.Lists.{All, below, over, split, total};
+ghost use Rattle.lists.specs.Lists.{All, range, writeAt, split, total};
 ghost use Rattle.backend.specs.Circuit.{Cell, cellsOf};
 ghost use Rattle.preprocessor.specs.Permutation.{Once, Starts, Walkable, CycleIn, Walked, cellWord, permutationColumns};
 
 // The first labels of `count` cells: column idx of the sorted list starts as idx × 2^k + row, so that the words are 0, 1, 2, …
 fn first_labels(columns: &mut [u64], at: usize, count: usize)
     requires { ⌜ at + count ≤ length (now columns) ⌝ }
-    ensures { λ r. ⌜ now (columns .exit) ≡ over (now (columns .entry)) at (below count) ⌝ }
+    ensures { λ r. ⌜ now (columns .exit) ≡ writeAt (now (columns .entry)) at (range count) ⌝ }
 {
     let mut j = 0;
     while j < count {
@@ -97,7 +97,7 @@ pub fn permutation_polys(
     requires { ⌜ total (now lengths) ≡ length (now cells) / 2 ⌝ }
     requires { ⌜ at + length (now copied) * rows ≤ length (now columns) ⌝ }
     ensures { λ r. ⌜ now (columns .exit)
-        ≡ over (now (columns .entry)) at (permutationColumns (now (copied .entry)) rows (split (now (lengths .entry)) (cellsOf (now (cells .entry))))) ⌝ }
+        ≡ writeAt (now (columns .entry)) at (permutationColumns (now (copied .entry)) rows (split (now (lengths .entry)) (cellsOf (now (cells .entry))))) ⌝ }
 {
     first_labels(columns, at, copied.len() * rows);
     let starts = column_starts(copied, rows, at);

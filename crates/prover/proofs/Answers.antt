@@ -9,19 +9,19 @@ use lib.Dec.{eqb}
 use lib.ListN.{length, replicate}
 use Rattle.field.specs.Algebra.{Field}
 use Rattle.field.specs.Field.{𝔾}
-use Rattle.lists.specs.Lists.{column, below, those, countOf, allOf, total, isSome, isAt, over}
+use Rattle.lists.specs.Lists.{tabulate, range, filter, countOf, allOf, total, isSome, isAt, writeAt}
 use Rattle.lists.proofs.Columns.{column-cong}
 use Rattle.prover.specs.declared.Found.{Found}
 use Rattle.prover.specs.Lookup.{lastEqual, multiplicity, covered}
 use Rattle.prover.specs.Words.{countWords}
-use Rattle.prover.specs.Answers.{answered, countedAt, found, searches, firstNumber, mWords}
+use Rattle.prover.specs.Answers.{foundOf, countedAt, found, searches, firstNumber, mWords}
 
 -- what an answer says of the last equal row
-at-some : (o : Option ℕ) (a : ℕ) → answered o ≡ Found.At a → o ≡ some a
+at-some : (o : Option ℕ) (a : ℕ) → foundOf o ≡ Found.At a → o ≡ some a
 at-some none a e = let z : _≡_ {A = ℕ} 0 1 = cc in absurd (omega arith)
 at-some (some b) a e = let z : b ≡ a = cc in ap some z
 
-nothing-none : (o : Option ℕ) → answered o ≡ Found.Nothing → o ≡ none
+nothing-none : (o : Option ℕ) → foundOf o ≡ Found.Nothing → o ≡ none
 nothing-none none e = refl
 nothing-none (some b) e = let z : _≡_ {A = ℕ} 0 1 = cc in absurd (omega arith)
 
@@ -36,45 +36,45 @@ module _ (𝓕 : Field) (rows : ℕ) (table : ℕ → 𝓕 .F) (v : 𝓕 .F) whe
 
 -- the answers of rows given by g
 module _ (g : ℕ → Option ℕ) where
-  first-number : (bs : List ℕ) → firstNumber (map (λ b. answered (g b)) bs) ≡ cond (allOf (λ b. isSome (g b)) bs) 0 15
+  first-number : (bs : List ℕ) → firstNumber (map (λ b. foundOf (g b)) bs) ≡ cond (allOf (λ b. isSome (g b)) bs) 0 15
   unfolding firstNumber allOf
   first-number [] = refl
   first-number (b ∷ bs) = go (g b) (first-number bs)
     where
-      go : (o : Option ℕ) → firstNumber (map (λ b. answered (g b)) bs) ≡ cond (allOf (λ b. isSome (g b)) bs) 0 15
-          → firstNumber (answered o ∷ map (λ b. answered (g b)) bs) ≡ cond (isSome o && allOf (λ b. isSome (g b)) bs) 0 15
+      go : (o : Option ℕ) → firstNumber (map (λ b. foundOf (g b)) bs) ≡ cond (allOf (λ b. isSome (g b)) bs) 0 15
+          → firstNumber (foundOf o ∷ map (λ b. foundOf (g b)) bs) ≡ cond (isSome o && allOf (λ b. isSome (g b)) bs) 0 15
       go none h = refl
       go (some a) h = h
 
   counted-total : (j : ℕ) (bs : List ℕ)
-      → total (map (countedAt j) (map (λ b. answered (g b)) bs)) ≡ countOf (λ b. isAt j (g b)) bs
-  unfolding total those
+      → total (map (countedAt j) (map (λ b. foundOf (g b)) bs)) ≡ countOf (λ b. isAt j (g b)) bs
+  unfolding total filter
   counted-total j [] = refl
   counted-total j (b ∷ bs) = go (g b) (counted-total j bs)
     where
       rest : List ℕ
-      rest = those (λ b. isAt j (g b)) bs
+      rest = filter (λ b. isAt j (g b)) bs
 
       one : (t : Bool) → cond t 1 0 + length rest ≡ length (cond t (b ∷ rest) rest)
       one true = omega arith
       one false = omega arith
 
-      go : (o : Option ℕ) → total (map (countedAt j) (map (λ b. answered (g b)) bs)) ≡ length rest
-          → countedAt j (answered o) + total (map (countedAt j) (map (λ b. answered (g b)) bs)) ≡ length (cond (isAt j o) (b ∷ rest) rest)
+      go : (o : Option ℕ) → total (map (countedAt j) (map (λ b. foundOf (g b)) bs)) ≡ length rest
+          → countedAt j (foundOf o) + total (map (countedAt j) (map (λ b. foundOf (g b)) bs)) ≡ length (cond (isAt j o) (b ∷ rest) rest)
       go none h = omega (arith, h)
       go (some a) h = ap (λ (n : ℕ). cond (eqb a j) 1 0 + n) h ∙ one (eqb a j)
 
 module _ (𝓕 : Field) (rows : ℕ) (input table : ℕ → 𝓕 .F) where
   pub number-is : firstNumber (searches 𝓕 rows input table) ≡ cond (covered 𝓕 rows input table) 0 15
   unfolding searches found covered
-  number-is = first-number (λ b. lastEqual 𝓕 rows table (input b)) (below rows)
+  number-is = first-number (λ b. lastEqual 𝓕 rows table (input b)) (range rows)
 
-  counts : column (λ j. total (map (countedAt j) (searches 𝓕 rows input table))) rows ≡ column (multiplicity 𝓕 rows input table) rows
+  counts : tabulate (λ j. total (map (countedAt j) (searches 𝓕 rows input table))) rows ≡ tabulate (multiplicity 𝓕 rows input table) rows
   unfolding searches found multiplicity
-  counts = column-cong _ _ rows (λ j l. counted-total (λ b. lastEqual 𝓕 rows table (input b)) j (below rows))
+  counts = column-cong _ _ rows (λ j l. counted-total (λ b. lastEqual 𝓕 rows table (input b)) j (range rows))
 
   pub words-are : mWords rows (searches 𝓕 rows input table)
-      ≡ cond (covered 𝓕 rows input table) (column (multiplicity 𝓕 rows input table) rows) (replicate rows 0)
+      ≡ cond (covered 𝓕 rows input table) (tabulate (multiplicity 𝓕 rows input table) rows) (replicate rows 0)
   unfolding mWords
   words-are =
       ap₂ (λ (n : ℕ) (ms : List ℕ). cond (eqb n 0) ms (replicate rows 0)) number-is counts ∙ by (covered 𝓕 rows input table) _ _
@@ -85,14 +85,14 @@ module _ (𝓕 : Field) (rows : ℕ) (input table : ℕ → 𝓕 .F) where
 
 -- so the answer and the words of `lookup_m_poly` are said by the answers of the search
 module _ (rows : ℕ) (input table : ℕ → 𝔾 .F) (r : Bool) (d : List ℕ) (at : ℕ) (m : List ℕ) where
-  pub by-search : (r ≡ covered 𝔾 rows input table) × (m ≡ over d at (countWords rows input table))
-      → ((r ≡ covered 𝔾 rows input table) × (m ≡ over d at (countWords rows input table)))
-      × ((cond r 0 15 ≡ firstNumber (searches 𝔾 rows input table)) × (m ≡ over d at (mWords rows (searches 𝔾 rows input table))))
+  pub by-search : (r ≡ covered 𝔾 rows input table) × (m ≡ writeAt d at (countWords rows input table))
+      → ((r ≡ covered 𝔾 rows input table) × (m ≡ writeAt d at (countWords rows input table)))
+      × ((cond r 0 15 ≡ firstNumber (searches 𝔾 rows input table)) × (m ≡ writeAt d at (mWords rows (searches 𝔾 rows input table))))
   unfolding countWords
   by-search h = (
     h,
     (
       ap (λ (t : Bool). cond t 0 15) (h .0) ∙ sym (number-is 𝔾 rows input table),
-      h .1 ∙ ap (over d at) (sym (words-are 𝔾 rows input table)),
+      h .1 ∙ ap (writeAt d at) (sym (words-are 𝔾 rows input table)),
     ),
   )

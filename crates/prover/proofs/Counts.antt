@@ -12,7 +12,7 @@ use native.Mathlib.Omega.{arith}
 use lib.ListN.{length, getD, set, replicate, length-replicate}
 use borrow.Author.Tests.{eq-eqb, ne-eqb}
 use Rattle.field.specs.Field.{𝔾}
-use Rattle.lists.specs.Lists.{column, below, those, countOf, allOf, isSome, isAt, over}
+use Rattle.lists.specs.Lists.{tabulate, range, filter, countOf, allOf, isSome, isAt, writeAt}
 use Rattle.lists.proofs.Columns.{column-length, get-column, column-suc, column-cong, column-replicate, below-length, below-get}
 use Rattle.lists.proofs.Tests.{false-true, by-test, and-both, all-each, all-append, count-append, count-one}
 use Rattle.lists.proofs.Over.{over-before, over-inside, over-again}
@@ -23,17 +23,17 @@ use Rattle.prover.proofs.Search.{lastRow, row-same}
 
 -- the inputs below i that are counted at row j
 abbrev pub tally : (ℕ → Option ℕ) → ℕ → ℕ → ℕ
-tally found i j = countOf (λ b. isAt j (found b)) (below i)
+tally found i j = countOf (λ b. isAt j (found b)) (range i)
 
 module _ (found : ℕ → Option ℕ) where
   tally-none : (j : ℕ) → tally found 0 j ≡ 0
-  unfolding column those
+  unfolding tabulate filter
   tally-none j = refl
 
   tally-suc : (i j : ℕ) → tally found (suc i) j ≡ tally found i j + cond (isAt j (found i)) 1 0
   tally-suc i j =
       ap (λ (l : List ℕ). countOf (λ b. isAt j (found b)) l) (column-suc (λ b. b) i)
-      ∙ count-append (λ b. isAt j (found b)) (below i) (i ∷ [])
+      ∙ count-append (λ b. isAt j (found b)) (range i) (i ∷ [])
       ∙ ap (λ (n : ℕ). tally found i j + n) (count-one (λ b. isAt j (found b)) i)
 
   tally-le : (i j : ℕ) → tally found i j ≤ i
@@ -58,10 +58,10 @@ module _ (found : ℕ → Option ℕ) where
 
   -- has each input below n a row?
   abbrev pub allFound : ℕ → Bool
-  allFound n = allOf (λ b. isSome (found b)) (below n)
+  allFound n = allOf (λ b. isSome (found b)) (range n)
 
   found-none : allFound 0 ≡ true
-  unfolding allOf column
+  unfolding allOf tabulate
   found-none = refl
 
   found-more : (i a : ℕ) → found i ≡ some a → allFound i ≡ true → allFound (i + 1) ≡ true
@@ -69,7 +69,7 @@ module _ (found : ℕ → Option ℕ) where
   found-more i a f h =
       ap allFound (add-one i)
       ∙ ap (allOf (λ b. isSome (found b))) (column-suc (λ b. b) i)
-      ∙ all-append (λ b. isSome (found b)) (below i) (i ∷ [])
+      ∙ all-append (λ b. isSome (found b)) (range i) (i ∷ [])
       ∙ and-both (allFound i) (isSome (found i) && true) h (and-both (isSome (found i)) true (ap (λ o. isSome o) f) refl)
 
   -- one input without a row
@@ -80,23 +80,23 @@ module _ (found : ℕ → Option ℕ) where
       false-true
       (sym (ap (λ o. isSome o) f)
       ∙ ap (λ (b : ℕ). isSome (found b)) (sym (below-get n i 0 l))
-      ∙ all-each (λ b. isSome (found b)) 0 (below n) t i (let q = below-length n in omega arith)))
+      ∙ all-each (λ b. isSome (found b)) 0 (range n) t i (let q = below-length n in omega arith)))
       (λ e. e)
 
 -- the buffer when the inputs below i are counted
 pub record Counted (rows : ℕ) (found : ℕ → Option ℕ) (d : List ℕ) (at : ℕ) (m : List ℕ) (i : ℕ) : Type 0 where
   pub upto : i ≤ rows
-  pub now : m ≡ over d at (column (tally found i) rows)
+  pub now : m ≡ writeAt d at (tabulate (tally found i) rows)
   pub ok : allFound found i ≡ true
 
 module _ (rows : ℕ) (found : ℕ → Option ℕ) (d : List ℕ) (at : ℕ) (room : at + rows ≤ length d) where
-  pub counted-start : (m : List ℕ) → m ≡ over d at (replicate rows 0) → Counted rows found d at m 0
+  pub counted-start : (m : List ℕ) → m ≡ writeAt d at (replicate rows 0) → Counted rows found d at m 0
   counted-start m e =
       record {
         upto = omega arith;
         now =
             e
-            ∙ ap (over d at)
+            ∙ ap (writeAt d at)
             (sym (column-replicate 0 rows) ∙ column-cong (λ j. 0) (tally found 0) rows (λ j l. sym (tally-none found j)));
         ok = found-none found;
       }
@@ -106,7 +106,7 @@ module _ (rows : ℕ) (found : ℕ → Option ℕ) (d : List ℕ) (at : ℕ) (ro
     counted-word : (a : ℕ) → a < rows → getD m (at + a) 0 ≡ tally found i a
     counted-word a l =
         ap (λ (x : List ℕ). getD x (at + a) 0) (inv .now)
-        ∙ over-inside d at (column (tally found i) rows) a 0 (omega arith) (let q = column-length (tally found i) rows in omega arith)
+        ∙ over-inside d at (tabulate (tally found i) rows) a 0 (omega arith) (let q = column-length (tally found i) rows in omega arith)
         ∙ get-column (tally found i) rows a 0 l
 
     -- at the word p, row a of the column
@@ -129,7 +129,7 @@ module _ (rows : ℕ) (found : ℕ → Option ℕ) (d : List ℕ) (at : ℕ) (ro
 
     -- what stands before the column is as it was
     pub counted-before : (j : ℕ) → j < at → getD m j 0 ≡ getD d j 0
-    counted-before j l = ap (λ (x : List ℕ). getD x j 0) (inv .now) ∙ over-before d at (column (tally found i) rows) j 0 (omega arith) l
+    counted-before j l = ap (λ (x : List ℕ). getD x j 0) (inv .now) ∙ over-before d at (tabulate (tally found i) rows) j 0 (omega arith) l
 
     -- a search in the buffer, of an input and in a table that stand before the column
     pub counted-rows : (input table : ℕ) → input + rows ≤ at → table + rows ≤ at → (b : ℕ) → b < rows
@@ -140,10 +140,10 @@ module _ (rows : ℕ) (found : ℕ → Option ℕ) (d : List ℕ) (at : ℕ) (ro
         (sym (counted-before (input + b) (omega arith))) (λ r lr. sym (counted-before (table + r) (omega arith)))
 
     -- the words cleared again
-    pub counted-cleared : (n : List ℕ) → n ≡ over m at (replicate rows 0) → n ≡ over d at (replicate rows 0)
+    pub counted-cleared : (n : List ℕ) → n ≡ writeAt m at (replicate rows 0) → n ≡ writeAt d at (replicate rows 0)
     counted-cleared n e =
-        e ∙ ap (λ (x : List ℕ). over x at (replicate rows 0)) (inv .now)
-        ∙ over-again d at (column (tally found i) rows) (replicate rows 0)
+        e ∙ ap (λ (x : List ℕ). writeAt x at (replicate rows 0)) (inv .now)
+        ∙ over-again d at (tabulate (tally found i) rows) (replicate rows 0)
         (let q = column-length (tally found i) rows in omega arith)
         (column-length (tally found i) rows ∙ sym (length-replicate rows 0))
 
@@ -155,21 +155,21 @@ module _ (rows : ℕ) (input table : ℕ → 𝔾 .F) where
   rowFor b = lastEqual 𝔾 rows table (input b)
 
   pub answer-true : (d : List ℕ) (at : ℕ) (m : List ℕ) (i : ℕ) → Counted rows rowFor d at m i → rows ≤ i
-      → (true ≡ covered 𝔾 rows input table) × (m ≡ over d at (countWords rows input table))
+      → (true ≡ covered 𝔾 rows input table) × (m ≡ writeAt d at (countWords rows input table))
   unfolding covered countWords multiplicity
   answer-true d at m i inv l =
       let e : i ≡ rows = omega arith in
       let t : allFound rowFor rows ≡ true = ap (allFound rowFor) (sym e) ∙ inv .ok in (
         sym t,
-        inv .now ∙ ap (λ (n : ℕ). over d at (column (tally rowFor n) rows)) e
-            ∙ ap (λ (t : Bool). over d at (cond t (column (tally rowFor rows) rows) (replicate rows 0))) (sym t),
+        inv .now ∙ ap (λ (n : ℕ). writeAt d at (tabulate (tally rowFor n) rows)) e
+            ∙ ap (λ (t : Bool). writeAt d at (cond t (tabulate (tally rowFor rows) rows) (replicate rows 0))) (sym t),
       )
 
-  pub answer-false : (d : List ℕ) (at : ℕ) (m : List ℕ) (i : ℕ) → i < rows → rowFor i ≡ none → m ≡ over d at (replicate rows 0)
-      → (false ≡ covered 𝔾 rows input table) × (m ≡ over d at (countWords rows input table))
+  pub answer-false : (d : List ℕ) (at : ℕ) (m : List ℕ) (i : ℕ) → i < rows → rowFor i ≡ none → m ≡ writeAt d at (replicate rows 0)
+      → (false ≡ covered 𝔾 rows input table) × (m ≡ writeAt d at (countWords rows input table))
   unfolding covered countWords multiplicity
   answer-false d at m i l f e =
       let t : allFound rowFor rows ≡ false = not-found rowFor rows i l f in (
         sym t,
-        e ∙ ap (λ (t : Bool). over d at (cond t (column (tally rowFor rows) rows) (replicate rows 0))) (sym t),
+        e ∙ ap (λ (t : Bool). writeAt d at (cond t (tabulate (tally rowFor rows) rows) (replicate rows 0))) (sym t),
       )

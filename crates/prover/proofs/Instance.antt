@@ -15,7 +15,7 @@ use Rattle.field.proofs.Elements.{val-zero, val-el-mod}
 use Rattle.bh.specs.Rows.{rowAt, placeOf}
 use Rattle.bh.proofs.Order.{row-lt}
 use Rattle.bh.proofs.Place.{row-place, place-row}
-use Rattle.lists.specs.Lists.{column, over, split, total}
+use Rattle.lists.specs.Lists.{tabulate, writeAt, split, total}
 use Rattle.lists.proofs.Columns.{column-cong, column-replicate}
 use Rattle.lists.proofs.Lists.{get-none, get-map, split-length}
 use Rattle.lists.proofs.Parts.{split-more}
@@ -74,27 +74,27 @@ module _ (k : ℕ) (hk : 0 < k) (lk : k < 21) (vs : List ℕ) (t : ℕ) where
 
   -- the next value written at its place
   pub place-more : (d : List ℕ) (at : ℕ) (m : List ℕ) (row w : ℕ) → row ≡ rowAt k (suc t) → w ≡ getD vs t 0 % P → at ≤ length d
-      → t < length vs → suc t < 2 ^ k → m ≡ over d at (column (placed k vs t) (2 ^ k))
-      → set m (at + row) w ≡ over d at (column (placed k vs (t + 1)) (2 ^ k))
+      → t < length vs → suc t < 2 ^ k → m ≡ writeAt d at (tabulate (placed k vs t) (2 ^ k))
+      → set m (at + row) w ≡ writeAt d at (tabulate (placed k vs (t + 1)) (2 ^ k))
   place-more d at m row w e q h l r now =
       let v : w ≡ placed k vs (suc t) (rowAt k (suc t)) = q ∙ sym (placed-here l r) in
       ap₂ (λ (x : List ℕ) (i : ℕ). set x (at + i) w) now e
-      ∙ ap (λ (y : ℕ). set (over d at (column (placed k vs t) (2 ^ k))) (at + rowAt k (suc t)) y) v
+      ∙ ap (λ (y : ℕ). set (writeAt d at (tabulate (placed k vs t) (2 ^ k))) (at + rowAt k (suc t)) y) v
       ∙ over-column-set d at (placed k vs t) (placed k vs (suc t)) (2 ^ k) (rowAt k (suc t)) h (row-lt k hk lk (suc t))
       (λ b lb n. placed-other b lb n)
-      ∙ ap (λ (n : ℕ). over d at (column (placed k vs n) (2 ^ k))) (sym (add-one t))
+      ∙ ap (λ (n : ℕ). writeAt d at (tabulate (placed k vs n) (2 ^ k))) (sym (add-one t))
 
-pub place-start : (k : ℕ) (vs d : List ℕ) (at : ℕ) (m : List ℕ) → m ≡ over d at (replicate (2 ^ k) 0)
-    → m ≡ over d at (column (placed k vs 0) (2 ^ k))
+pub place-start : (k : ℕ) (vs d : List ℕ) (at : ℕ) (m : List ℕ) → m ≡ writeAt d at (replicate (2 ^ k) 0)
+    → m ≡ writeAt d at (tabulate (placed k vs 0) (2 ^ k))
 place-start k vs d at m e =
     e
-    ∙ ap (over d at)
+    ∙ ap (writeAt d at)
     (sym (column-replicate 0 (2 ^ k)) ∙ column-cong (λ _. 0) (placed k vs 0) (2 ^ k) (λ b _. sym (placed-none k vs b)))
 
 pub place-end : (k : ℕ) (vs : List ℕ) (t : ℕ) → length vs ≤ t → (d : List ℕ) (at : ℕ)
-    → over d at (column (placed k vs t) (2 ^ k)) ≡ over d at (column (λ b. val (instanceAt 𝔾 k (map el vs) b)) (2 ^ k))
+    → writeAt d at (tabulate (placed k vs t) (2 ^ k)) ≡ writeAt d at (tabulate (λ b. val (instanceAt 𝔾 k (map el vs) b)) (2 ^ k))
 place-end k vs t l d at =
-    ap (λ (xs : List ℕ). over d at (column (λ b. val (instanceAt 𝔾 k (map el xs) b)) (2 ^ k))) (take-all t vs l)
+    ap (λ (xs : List ℕ). writeAt d at (tabulate (λ b. val (instanceAt 𝔾 k (map el xs) b)) (2 ^ k))) (take-all t vs l)
 
 -- the values of one column
 module _ (xs : List ℕ) (from count : ℕ) (fit : from + count ≤ length xs) where
@@ -123,19 +123,19 @@ module _ (k : ℕ) (ns xs : List ℕ) (i : ℕ) (lt : i < length ns) where
       ∙ length-take-le i ns (omega arith)
 
   pub instance-more : (d m n : List ℕ) (from at : ℕ) → from ≡ total (take i ns) → at ≡ i * 2 ^ k → at ≤ length d
-      → m ≡ over d 0 (wordsOf (2 ^ k) (polys k (take i ns) xs))
-      → n ≡ over m at (column (λ b. val (instanceAt 𝔾 k (map el (take (getD ns i 0) (drop from xs))) b)) (2 ^ k))
-      → n ≡ over d 0 (wordsOf (2 ^ k) (polys k (take (i + 1) ns) xs))
+      → m ≡ writeAt d 0 (wordsOf (2 ^ k) (polys k (take i ns) xs))
+      → n ≡ writeAt m at (tabulate (λ b. val (instanceAt 𝔾 k (map el (take (getD ns i 0) (drop from xs))) b)) (2 ^ k))
+      → n ≡ writeAt d 0 (wordsOf (2 ^ k) (polys k (take (i + 1) ns) xs))
   instance-more d m n from at e a h now new =
       new
-      ∙ ap₂ (λ (x : List ℕ) (f : ℕ). over x at (column (λ b. val (instanceAt 𝔾 k (map el (take (getD ns i 0) (drop f xs))) b)) (2 ^ k))) now e
+      ∙ ap₂ (λ (x : List ℕ) (f : ℕ). writeAt x at (tabulate (λ b. val (instanceAt 𝔾 k (map el (take (getD ns i 0) (drop f xs))) b)) (2 ^ k))) now e
       ∙ words-more (2 ^ k) d (polys k (take i ns) xs) (λ b. instanceAt 𝔾 k (map el (take (getD ns i 0) (drop (total (take i ns)) xs))) b) at
       (a ∙ ap (λ (n : ℕ). n * 2 ^ k) (sym polys-length)) h
-      ∙ ap (λ (ps : List (ℕ → 𝔾 .F)). over d 0 (wordsOf (2 ^ k) ps)) (sym polys-more)
+      ∙ ap (λ (ps : List (ℕ → 𝔾 .F)). writeAt d 0 (wordsOf (2 ^ k) ps)) (sym polys-more)
 
-pub instance-start : (k : ℕ) (xs d : List ℕ) → d ≡ over d 0 (wordsOf (2 ^ k) (polys k [] xs))
+pub instance-start : (k : ℕ) (xs d : List ℕ) → d ≡ writeAt d 0 (wordsOf (2 ^ k) (polys k [] xs))
 unfolding split
-instance-start k xs d = sym (ap (over d 0) (words-none (2 ^ k)) ∙ Rattle.lists.proofs.Over.over-none d 0)
+instance-start k xs d = sym (ap (writeAt d 0) (words-none (2 ^ k)) ∙ Rattle.lists.proofs.Over.over-none d 0)
 
 -- the words of column i are there
 pub words-there : (i n r at len : ℕ) → i < n → at ≡ i * r → n * r ≤ len → at + r ≤ len

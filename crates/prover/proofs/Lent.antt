@@ -6,7 +6,7 @@ use native.Mathlib.Omega.{arith}
 use lib.ListN.{length, getD, take, drop, length-map}
 use lib.Seq.{getD-take, getD-drop}
 use Rattle.field.specs.Field.{𝔾, el, val, el-zero, el-val}
-use Rattle.lists.specs.Lists.{column, concat, split}
+use Rattle.lists.specs.Lists.{tabulate, concat, split}
 use Rattle.lists.proofs.All.{all-any, map-same}
 use Rattle.lists.proofs.Columns.{column-length, column-cong, get-column}
 use Rattle.lists.proofs.Turns.{grid-lt}
@@ -31,12 +31,12 @@ use Rattle.prover.specs.Lent.{Given, environmentFromWords, compressedIn,
 
 module _ (l : Layout) (perms : l .permutations ≡ 0) (rest : l .rest ≡ 0) (circuit witness : List ℕ) where
   abbrev frontOf : List ℕ → List (ℕ → 𝔾 .F)
-  frontOf c = column (λ i b. el (getD c (i * l .rows + b) 0)) (l .instances)
+  frontOf c = tabulate (λ i b. el (getD c (i * l .rows + b) 0)) (l .instances)
 
   abbrev backOf : List (ℕ → 𝔾 .F)
   backOf =
-      column (λ i b. el (getD circuit (l .start + i * l .rows + b) 0)) (l .preprocess)
-      ++ column (λ i b. el (getD witness (i * l .rows + b) 0)) (l .witness)
+      tabulate (λ i b. el (getD circuit (l .start + i * l .rows + b) 0)) (l .preprocess)
+      ++ tabulate (λ i b. el (getD witness (i * l .rows + b) 0)) (l .witness)
 
   front-length : (c : List ℕ) → length (frontOf c) ≡ l .instances
   front-length c = column-length (λ i b. el (getD c (i * l .rows + b) 0)) (l .instances)
@@ -48,18 +48,18 @@ module _ (l : Layout) (perms : l .permutations ≡ 0) (rest : l .rest ≡ 0) (ci
       (let e = front-length c in omega arith))
 
   polys-are : (c : List ℕ) → polysOf l circuit witness c ≡ frontOf c ++ backOf
-  unfolding polysOf column
+  unfolding polysOf tabulate
   polys-are c =
       ap₂ (λ (m n : ℕ).
       frontOf c
-      ++ (column (λ i b. el (getD circuit (l .start + i * l .rows + b) 0)) (l .preprocess)
-      ++ (column (λ i b. el (getD witness (i * l .rows + b) 0)) (l .witness)
-      ++ (column (λ i b. el (getD c ((l .instances + i) * l .rows + b) 0)) m
-      ++ column (λ i b. el (getD c ((l .instances + l .permutations + l .skipped + i) * l .rows + b) 0)) n))))
+      ++ (tabulate (λ i b. el (getD circuit (l .start + i * l .rows + b) 0)) (l .preprocess)
+      ++ (tabulate (λ i b. el (getD witness (i * l .rows + b) 0)) (l .witness)
+      ++ (tabulate (λ i b. el (getD c ((l .instances + i) * l .rows + b) 0)) m
+      ++ tabulate (λ i b. el (getD c ((l .instances + l .permutations + l .skipped + i) * l .rows + b) 0)) n))))
       perms
       rest
-      ∙ ap (λ (w : List (ℕ → 𝔾 .F)). frontOf c ++ (column (λ i b. el (getD circuit (l .start + i * l .rows + b) 0)) (l .preprocess) ++ w))
-      (append-nil (column (λ i b. el (getD witness (i * l .rows + b) 0)) (l .witness)))
+      ∙ ap (λ (w : List (ℕ → 𝔾 .F)). frontOf c ++ (tabulate (λ i b. el (getD circuit (l .start + i * l .rows + b) 0)) (l .preprocess) ++ w))
+      (append-nil (tabulate (λ i b. el (getD witness (i * l .rows + b) 0)) (l .witness)))
 
   module _ (c c' : List ℕ) (same : (j : ℕ) → j < l .instances * l .rows → getD c j 0 ≡ getD c' j 0) where
     pub polys-same : (q b : ℕ) → b < l .rows
@@ -112,7 +112,7 @@ module _ (s t : Environment 𝔾) (rows : ℕ) (same : (e : Expr) (b : ℕ) → 
       (all-any (λ _. Unit {0}) (λ e. tt) es))
 
   pub compressed-column : (es : List Expr)
-      → column (λ b. val (compressedIn 𝔾 s β es b)) rows ≡ column (λ b. val (compressedIn 𝔾 t β es b)) rows
+      → tabulate (λ b. val (compressedIn 𝔾 s β es b)) rows ≡ tabulate (λ b. val (compressedIn 𝔾 t β es b)) rows
   compressed-column es =
       column-cong (λ b. val (compressedIn 𝔾 s β es b)) (λ b. val (compressedIn 𝔾 t β es b)) rows
       (λ b l. ap val (compressed-same es b l))
@@ -198,13 +198,13 @@ module _ (g : Log 𝔾) (l : Layout) (circuit witness columns challenges : List 
       m
     where
       fronts : List (ℕ → 𝔾 .F)
-      fronts = column (λ i b. el (getD columns (i * l .rows + b) 0)) (l .instances)
+      fronts = tabulate (λ i b. el (getD columns (i * l .rows + b) 0)) (l .instances)
 
       pres : List (ℕ → 𝔾 .F)
-      pres = column (λ i b. el (getD circuit (l .start + i * l .rows + b) 0)) (l .preprocess)
+      pres = tabulate (λ i b. el (getD circuit (l .start + i * l .rows + b) 0)) (l .preprocess)
 
       wits : List (ℕ → 𝔾 .F)
-      wits = column (λ i b. el (getD witness (i * l .rows + b) 0)) (l .witness)
+      wits = tabulate (λ i b. el (getD witness (i * l .rows + b) 0)) (l .witness)
 
       same-fronts : Same 𝔾 rows fronts (instancePolys 𝔾 g)
       same-fronts =
@@ -231,8 +231,8 @@ module _ (g : Log 𝔾) (l : Layout) (circuit witness columns challenges : List 
 
       wits-are : wits ≡ witnessPolys 𝔾 g
       wits-are =
-          ap₂ (λ (R n : ℕ). column (λ i b. el (getD witness (i * R + b) 0)) n) lent-rows (r .witnesses)
-          ∙ ap₂ (λ (f : ℕ → 𝔾 .F) (ws : List ℕ). column (λ i b. f (getD ws (i * rows + b) 0)) (numWitness (g .circuit)))
+          ap₂ (λ (R n : ℕ). tabulate (λ i b. el (getD witness (i * R + b) 0)) n) lent-rows (r .witnesses)
+          ∙ ap₂ (λ (f : ℕ → 𝔾 .F) (ws : List ℕ). tabulate (λ i b. f (getD ws (i * rows + b) 0)) (numWitness (g .circuit)))
           (sym (r .el-is))
           (sym (r .witness-is))
 
@@ -259,5 +259,5 @@ pub lookups-are : (ws : List ℕ) → length (bodyOf ws Section.pairs) ≡ entri
     → split (bodyOf ws Section.widths) (pairsOf (bodyOf ws Section.nodes) (bodyOf ws Section.pairs)) ≡ circuitOf ws .lookups
 unfolding circuitOf
 lookups-are ws e =
-    ap (λ (n : ℕ). split (bodyOf ws Section.widths) (column (pairAt (bodyOf ws Section.nodes) (bodyOf ws Section.pairs)) n))
+    ap (λ (n : ℕ). split (bodyOf ws Section.widths) (tabulate (pairAt (bodyOf ws Section.nodes) (bodyOf ws Section.pairs)) n))
     (omega arith)

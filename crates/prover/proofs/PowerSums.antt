@@ -11,7 +11,7 @@ use lib.Seq.{getD-take, getD-drop, ext-getD, length-take-le}
 use Rattle.field.specs.Field.{𝔾, el, val, el-zero, el-one}
 use Rattle.field.specs.Algebra.{pow, mul-comm}
 use Rattle.bh.specs.Sums.{upTo}
-use Rattle.lists.specs.Lists.{column, concat, over, split, total}
+use Rattle.lists.specs.Lists.{tabulate, concat, writeAt, split, total}
 use Rattle.lists.proofs.Columns.{column-length, column-cong, get-column, map-column}
 use Rattle.lists.proofs.Lists.{get-none, concat-end, pairs-length, split-length}
 use Rattle.lists.proofs.Over.{over-none, over-over, over-before}
@@ -20,7 +20,7 @@ use Rattle.identities.proofs.Totals.{upTo-cong, upTo-suc}
 use Rattle.expression.specs.Expr.{Expr, evaluate}
 use Rattle.expression.specs.Nodes.{wordOf, nodeOf, kindOf, noExpr, noExprs, under, exprOf, itemsOf}
 use Rattle.expression.specs.Value.{Environment, valueAt}
-use Rattle.expression.specs.Point.{environmentOf, opsOf, pointOf, layoutOf}
+use Rattle.expression.specs.Point.{environmentOf, opsOf, pointOf, layoutIn}
 use Rattle.expression.specs.declared.poly.Layout.{Layout}
 use Rattle.expression.proofs.Fuel.{expr-step}
 use Rattle.expression.proofs.Step.{under-yes, under-no}
@@ -45,7 +45,7 @@ no-node ws n e h =
 -- what `lower` ensures, with as many nodes as there are
 pub root-value : (circuit witness columns challenges c ws : List ℕ) (n root : ℕ) → n ≡ length ws / 4 → length ws % 4 ≡ 0 → (x : 𝔾 .F)
     → x ≡ evaluate (opsOf circuit witness columns challenges c) (under n noExpr (exprOf ws) root)
-    → x ≡ valueAt 𝔾 (environmentOf circuit witness columns challenges (layoutOf c) (pointOf c)) (exprOf ws root) (pointOf c .row)
+    → x ≡ valueAt 𝔾 (environmentOf circuit witness columns challenges (layoutIn c) (pointOf c)) (exprOf ws root) (pointOf c .row)
 unfolding opsOf valueAt
 root-value circuit witness columns challenges c ws n root q e x h =
     h ∙ ap (evaluate (opsOf circuit witness columns challenges c)) (go (decLt root n))
@@ -94,15 +94,15 @@ module _ (s : Environment 𝔾) (β : 𝔾 .F) (nodes pairs : List ℕ) (r : Roo
       h .sum-is
       ∙ ap (λ (n : ℕ). partialSum β rootValue n) e
       ∙ upTo-cong (𝔾 .add) (𝔾 .zero) (λ j. 𝔾 .mul (pow 𝔾 β j) (rootValue j))
-      (λ j. 𝔾 .mul (pow 𝔾 β j) (getD (column rootValue (r .width)) j (𝔾 .zero))) (r .width)
+      (λ j. 𝔾 .mul (pow 𝔾 β j) (getD (tabulate rootValue (r .width)) j (𝔾 .zero))) (r .width)
       (λ j l. ap (𝔾 .mul (pow 𝔾 β j)) (sym (get-column rootValue (r .width) j (𝔾 .zero) l)))
       ∙ ap₂ (λ (xs : List (𝔾 .F)) (n : ℕ). upTo (𝔾 .add) (𝔾 .zero) (λ j. 𝔾 .mul (pow 𝔾 β j) (getD xs j (𝔾 .zero))) n) whole
       (sym (ap length (sym whole) ∙ column-length rootValue (r .width)))
     where
       exprs : List Expr
-      exprs = column (λ i. exprOf nodes (getD pairs ((r .start + i) * 2 + r .side) 0)) (r .width)
+      exprs = tabulate (λ i. exprOf nodes (getD pairs ((r .start + i) * 2 + r .side) 0)) (r .width)
 
-      whole : column rootValue (r .width) ≡ map (λ e. valueAt 𝔾 s e b) exprs
+      whole : tabulate rootValue (r .width) ≡ map (λ e. valueAt 𝔾 s e b) exprs
       whole = sym (map-column (λ e. valueAt 𝔾 s e b) (λ i. exprOf nodes (getD pairs ((r .start + i) * 2 + r .side) 0)) (r .width))
 
 -- ---- the expressions of a lookup's roots
@@ -111,17 +111,17 @@ module _ (nodes pairs : List ℕ) (start width : ℕ) (fit : (start + width) * 2
   abbrev one : List Pair
   one = take width (drop start (pairsOf nodes pairs))
 
-  pairs-there : one ≡ column (λ i. pairAt nodes pairs (start + i)) width
+  pairs-there : one ≡ tabulate (λ i. pairAt nodes pairs (start + i)) width
   pairs-there =
       let n : ℕ = length pairs / 2 in
-      let all : List Pair = column (pairAt nodes pairs) n in
+      let all : List Pair = tabulate (pairAt nodes pairs) n in
       let len : length all ≡ n = column-length (pairAt nodes pairs) n in
       let z : Pair = pairAt nodes pairs 0 in
       let this : length (take width (drop start all)) ≡ width =
       length-take-le width (drop start all) (let e = length-drop start all in omega arith) in
-      let that : length (column (λ i. pairAt nodes pairs (start + i)) width) ≡ width =
+      let that : length (tabulate (λ i. pairAt nodes pairs (start + i)) width) ≡ width =
       column-length (λ i. pairAt nodes pairs (start + i)) width in
-      ext-getD z (take width (drop start all)) (column (λ i. pairAt nodes pairs (start + i)) width) (this ∙ sym that)
+      ext-getD z (take width (drop start all)) (tabulate (λ i. pairAt nodes pairs (start + i)) width) (this ∙ sym that)
       (λ i l.
       let m : i < width = omega arith in
       getD-take width (drop start all) i z m ∙ getD-drop start all i z
@@ -147,9 +147,9 @@ module _ (nodes pairs : List ℕ) (start width : ℕ) (fit : (start + width) * 2
 -- ---- one column behind another
 
 pub words-two : (rows : ℕ) (p q : ℕ → 𝔾 .F)
-    → wordsOf rows (p ∷ q ∷ []) ≡ column (λ b. val (p b)) rows ++ column (λ b. val (q b)) rows
+    → wordsOf rows (p ∷ q ∷ []) ≡ tabulate (λ b. val (p b)) rows ++ tabulate (λ b. val (q b)) rows
 unfolding wordsOf concat
-words-two rows p q = ap (λ (xs : List ℕ). column (λ b. val (p b)) rows ++ xs) (append-nil (column (λ b. val (q b)) rows))
+words-two rows p q = ap (λ (xs : List ℕ). tabulate (λ b. val (p b)) rows ++ xs) (append-nil (tabulate (λ b. val (q b)) rows))
 
 -- ---- what is written at a row is the column's value there
 
@@ -171,11 +171,11 @@ module _ (k : ℕ) (small : k < 21) (l : Layout) (g : Given k l) (circuit witnes
 
   -- the same column from a buffer that was written behind the instance columns
   behind-column : (d : List ℕ) (to : ℕ) (s : List ℕ) → l .instances * 2 ^ k ≤ to → to ≤ length d → (es : List Expr)
-      → column (λ b. val (at (over d to s) es b)) (2 ^ k) ≡ column (λ b. val (at d es b)) (2 ^ k)
+      → tabulate (λ b. val (at (writeAt d to s) es b)) (2 ^ k) ≡ tabulate (λ b. val (at d es b)) (2 ^ k)
   behind-column d to s h room es =
-      compressed-column (environmentFromWords circuit witness (over d to s) challenges l k) (environmentFromWords circuit witness d challenges l k)
+      compressed-column (environmentFromWords circuit witness (writeAt d to s) challenges l k) (environmentFromWords circuit witness d challenges l k)
       (2 ^ k)
-      (lent-same k small l g circuit witness (over d to s) d challenges (λ j m. over-before d to s j 0 room (omega arith)))
+      (lent-same k small l g circuit witness (writeAt d to s) d challenges (λ j m. over-before d to s j 0 room (omega arith)))
       β es
 
   module _ (nodes pairs : List ℕ) where
@@ -188,22 +188,22 @@ module _ (k : ℕ) (small : k < 21) (l : Layout) (g : Given k l) (circuit witnes
     -- the input, then the table
     pub pair-end : (d m₁ m₂ : List ℕ) (to next start width : ℕ) → (start + width) * 2 ≤ length pairs
         → l .instances * 2 ^ k ≤ to → to + (2 ^ k + 2 ^ k) ≤ length d → next ≡ to + 2 ^ k
-        → m₁ ≡ over d to (column (λ b. val (at d (rootsOf nodes pairs (record { start = start; width = width; side = 0 })) b)) (2 ^ k))
-        → m₂ ≡ over m₁ next (column (λ b. val (at m₁ (rootsOf nodes pairs (record { start = start; width = width; side = 1 })) b)) (2 ^ k))
-        → m₂ ≡ over d to (wordsOf (2 ^ k) (of d (part start width)))
+        → m₁ ≡ writeAt d to (tabulate (λ b. val (at d (rootsOf nodes pairs (record { start = start; width = width; side = 0 })) b)) (2 ^ k))
+        → m₂ ≡ writeAt m₁ next (tabulate (λ b. val (at m₁ (rootsOf nodes pairs (record { start = start; width = width; side = 1 })) b)) (2 ^ k))
+        → m₂ ≡ writeAt d to (wordsOf (2 ^ k) (of d (part start width)))
     pair-end d m₁ m₂ to next start width fit before room q e₁ e₂ =
         let ins : List Expr = rootsOf nodes pairs (record { start = start; width = width; side = 0 }) in
         let tabs : List Expr = rootsOf nodes pairs (record { start = start; width = width; side = 1 }) in
-        let first : List ℕ = column (λ b. val (at d ins b)) (2 ^ k) in
-        let second : List ℕ = column (λ b. val (at d tabs b)) (2 ^ k) in
+        let first : List ℕ = tabulate (λ b. val (at d ins b)) (2 ^ k) in
+        let second : List ℕ = tabulate (λ b. val (at d tabs b)) (2 ^ k) in
         let len : length first ≡ 2 ^ k = column-length (λ b. val (at d ins b)) (2 ^ k) in
         e₂
-        ∙ ap (λ (m : List ℕ). over m next (column (λ b. val (at m tabs b)) (2 ^ k))) e₁
-        ∙ ap (over (over d to first) next) (behind-column d to first before (omega arith) tabs)
-        ∙ ap (λ (n : ℕ). over (over d to first) n second) (let w : next ≡ to + length first = omega arith in w)
+        ∙ ap (λ (m : List ℕ). writeAt m next (tabulate (λ b. val (at m tabs b)) (2 ^ k))) e₁
+        ∙ ap (writeAt (writeAt d to first) next) (behind-column d to first before (omega arith) tabs)
+        ∙ ap (λ (n : ℕ). writeAt (writeAt d to first) n second) (let w : next ≡ to + length first = omega arith in w)
         ∙ over-over d to first second (omega arith)
-        ∙ ap (over d to)
-        (ap₂ (λ (x y : List Expr). column (λ b. val (at d x b)) (2 ^ k) ++ column (λ b. val (at d y b)) (2 ^ k))
+        ∙ ap (writeAt d to)
+        (ap₂ (λ (x y : List Expr). tabulate (λ b. val (at d x b)) (2 ^ k) ++ tabulate (λ b. val (at d y b)) (2 ^ k))
         (roots-inputs nodes pairs start width fit)
         (roots-tables nodes pairs start width fit)
         ∙ sym (words-two (2 ^ k) (at d (inputsOf (part start width))) (at d (tablesOf (part start width)))))
@@ -212,9 +212,9 @@ module _ (k : ℕ) (small : k < 21) (l : Layout) (g : Given k l) (circuit witnes
     abbrev all : List ℕ → List (List Pair) → List (ℕ → 𝔾 .F)
     all c ls = compressedPolysIn 𝔾 (environmentFromWords circuit witness c challenges l k) β ls
 
-    pub all-start : (d : List ℕ) (to : ℕ) → d ≡ over d to (wordsOf (2 ^ k) (all d (split [] (pairsOf nodes pairs))))
+    pub all-start : (d : List ℕ) (to : ℕ) → d ≡ writeAt d to (wordsOf (2 ^ k) (all d (split [] (pairsOf nodes pairs))))
     unfolding split compressedPolysIn concat
-    all-start d to = sym (ap (over d to) (words-none (2 ^ k)) ∙ over-none d to)
+    all-start d to = sym (ap (writeAt d to) (words-none (2 ^ k)) ∙ over-none d to)
 
     all-end : (c : List ℕ) (ls : List (List Pair)) (ps : List Pair) → all c (ls ++ (ps ∷ [])) ≡ all c ls ++ of c ps
     unfolding compressedPolysIn
@@ -231,9 +231,9 @@ module _ (k : ℕ) (small : k < 21) (l : Layout) (g : Given k l) (circuit witnes
 
     pub all-more : (ws : List ℕ) (i : ℕ) → i < length ws → (d m m' : List ℕ) (to at' start width : ℕ)
         → l .instances * 2 ^ k ≤ to → at' ≤ length d → start ≡ total (take i ws) → width ≡ getD ws i 0 → at' ≡ to + i * (2 ^ k + 2 ^ k)
-        → m ≡ over d to (wordsOf (2 ^ k) (all d (split (take i ws) (pairsOf nodes pairs))))
-        → m' ≡ over m at' (wordsOf (2 ^ k) (of m (part start width)))
-        → m' ≡ over d to (wordsOf (2 ^ k) (all d (split (take (i + 1) ws) (pairsOf nodes pairs))))
+        → m ≡ writeAt d to (wordsOf (2 ^ k) (all d (split (take i ws) (pairsOf nodes pairs))))
+        → m' ≡ writeAt m at' (wordsOf (2 ^ k) (of m (part start width)))
+        → m' ≡ writeAt d to (wordsOf (2 ^ k) (all d (split (take (i + 1) ws) (pairsOf nodes pairs))))
     all-more ws i lt d m m' to at' start width before room s w q e₁ e₂ =
         let ls : List (List Pair) = split (take i ws) (pairsOf nodes pairs) in
         let ps : List Pair = part start width in
@@ -241,15 +241,15 @@ module _ (k : ℕ) (small : k < 21) (l : Layout) (g : Given k l) (circuit witnes
         let count : length ls ≡ i = split-length (take i ws) (pairsOf nodes pairs) ∙ length-take-le i ws (omega arith) in
         let len : length front ≡ i * (2 ^ k + 2 ^ k) = all-length d ls ∙ ap (λ (n : ℕ). n * (2 ^ k + 2 ^ k)) count in
         e₂
-        ∙ ap (λ (x : List ℕ). over x at' (wordsOf (2 ^ k) (of x ps))) e₁
-        ∙ ap (over (over d to front) at')
-        (words-two (2 ^ k) (at (over d to front) (inputsOf ps)) (at (over d to front) (tablesOf ps))
+        ∙ ap (λ (x : List ℕ). writeAt x at' (wordsOf (2 ^ k) (of x ps))) e₁
+        ∙ ap (writeAt (writeAt d to front) at')
+        (words-two (2 ^ k) (at (writeAt d to front) (inputsOf ps)) (at (writeAt d to front) (tablesOf ps))
         ∙ ap₂ (λ (x y : List ℕ). x ++ y) (behind-column d to front before (omega arith) (inputsOf ps))
         (behind-column d to front before (omega arith) (tablesOf ps))
         ∙ sym (words-two (2 ^ k) (at d (inputsOf ps)) (at d (tablesOf ps))))
-        ∙ ap (λ (n : ℕ). over (over d to front) n (wordsOf (2 ^ k) (of d ps))) (let p : at' ≡ to + length front = omega arith in p)
+        ∙ ap (λ (n : ℕ). writeAt (writeAt d to front) n (wordsOf (2 ^ k) (of d ps))) (let p : at' ≡ to + length front = omega arith in p)
         ∙ over-over d to front (wordsOf (2 ^ k) (of d ps)) (omega arith)
-        ∙ ap (over d to)
+        ∙ ap (writeAt d to)
         (sym (words-append (2 ^ k) (all d ls) (of d ps))
         ∙ ap (wordsOf (2 ^ k))
         (sym (all-end d ls ps)

@@ -11,7 +11,7 @@ use Rattle.field.proofs.Elements.{el-injective}
 use Rattle.lists.specs.Lists.{lastWhere}
 use Rattle.prover.specs.declared.Found.{Found}
 use Rattle.prover.specs.Lookup.{same, lastEqual}
-use Rattle.prover.specs.Answers.{answered, found}
+use Rattle.prover.specs.Answers.{foundOf, found}
 
 -- words below p are equal exactly when they are in the field
 pub same-true : (a b : ℕ) → a ≡ b → same 𝔾 (el a) (el b) ≡ true
@@ -64,7 +64,7 @@ module _ (table : ℕ → ℕ) (v : ℕ) where
   search-hit zero z h = absurd (z refl)
   search-hit (suc j) z h =
       let p : suc j - 1 ≡ j = omega arith in
-      ap (λ (t : Bool). answered (cond t (some j) (lastRow j))) (same-true (table j) v (ap table (sym p) ∙ h))
+      ap (λ (t : Bool). foundOf (cond t (some j) (lastRow j))) (same-true (table j) v (ap table (sym p) ∙ h))
       ∙ ap (λ (i : ℕ). Found.At i) (sym p)
 
   pub search-miss : (j : ℕ) → j ≢ 0 → table (j - 1) < P → v < P → table (j - 1) ≢ v → foundRow j ≡ foundRow (j - 1)
@@ -73,7 +73,7 @@ module _ (table : ℕ → ℕ) (v : ℕ) where
   search-miss (suc j) z l m h =
       let p : suc j - 1 ≡ j = omega arith in
       let q : table (suc j - 1) ≡ table j = ap table p in
-      ap (λ (t : Bool). answered (cond t (some j) (lastRow j))) (same-false (table j) v (rw q at l) m (λ e. h (q ∙ e)))
+      ap (λ (t : Bool). foundOf (cond t (some j) (lastRow j))) (same-false (table j) v (rw q at l) m (λ e. h (q ∙ e)))
       ∙ ap foundRow (sym p)
 
 -- only the first rows are looked at

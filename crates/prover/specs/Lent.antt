@@ -5,11 +5,11 @@ use Prim.Native.Nat.{ℕ, _+_, _*_, _%_, _^_, _≤_, _<_}
 use lib.ListN.{length, getD}
 use Rattle.field.specs.Algebra.{Field}
 use Rattle.field.specs.Field.{𝔾, el}
-use Rattle.lists.specs.Lists.{column, concat}
+use Rattle.lists.specs.Lists.{tabulate, concat}
 use Rattle.expression.specs.Expr.{Expr}
 use Rattle.expression.specs.Nodes.{exprOf}
 use Rattle.expression.specs.Value.{Environment, polyOf, valueAt}
-use Rattle.expression.specs.Reader.{polysOf, Small}
+use Rattle.expression.specs.Reader.{polysOf, LayoutSmall}
 use Rattle.expression.specs.declared.poly.Layout.{Layout}
 use Rattle.backend.specs.Circuit.{Pair}
 use Rattle.backend.specs.Constraints.{inputsOf, tablesOf}
@@ -19,7 +19,7 @@ use Rattle.prover.specs.declared.Roots.{Roots}
 
 -- the layout of the given polynomials: instance, preprocess and witness columns of 2^k rows, and no others
 pub record Given (k : ℕ) (l : Layout) : Type 0 where
-  pub small : Small l
+  pub small : LayoutSmall l
   pub rows : l .rows ≡ 2 ^ k
   pub permutations : l .permutations ≡ 0
   pub rest : l .rest ≡ 0
@@ -47,7 +47,7 @@ environmentFromWords circuit witness columns challenges l k =
 -- the expressions of some roots of lookup pairs
 unfoldable pub rootsOf : List ℕ → List ℕ → Roots → List Expr
 rootsOf nodes pairs r =
-    column (λ i. exprOf nodes (getD pairs ((r .start + i) * 2 + r .side) 0)) (r .width)
+    tabulate (λ i. exprOf nodes (getD pairs ((r .start + i) * 2 + r .side) 0)) (r .width)
 
 module _ (𝓕 : Field) (s : Environment 𝓕) (β : 𝓕 .F) where
   -- `lookup_compressed_poly`: "sum of β^i × expression i at each row"

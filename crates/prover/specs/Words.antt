@@ -5,12 +5,12 @@ use Prim.Native.Nat.{ℕ, _+_, _<_}
 use lib.ListN.{length, getD, replicate}
 use Rattle.field.specs.Prime.{P}
 use Rattle.field.specs.Field.{𝔾, el, val}
-use Rattle.lists.specs.Lists.{column, concat}
+use Rattle.lists.specs.Lists.{tabulate, concat}
 use Rattle.prover.specs.Lookup.{multiplicity, covered}
 
 -- columns as words, "each 2^k words"
 unfoldable pub wordsOf : ℕ → List (ℕ → 𝔾 .F) → List ℕ
-wordsOf rows ps = concat (map (λ p. column (λ b. val (p b)) rows) ps)
+wordsOf rows ps = concat (map (λ p. tabulate (λ b. val (p b)) rows) ps)
 
 -- words as a column: those of a list, and those from word `at` of a buffer on
 abbrev pub elements : List ℕ → ℕ → 𝔾 .F
@@ -26,4 +26,4 @@ Small n f = (b : ℕ) → b < n → f b < P
 -- the words of `lookup_m_poly`: the counts; where an input has no equal table row, "the column words needed become 0"
 unfoldable pub countWords : ℕ → (ℕ → 𝔾 .F) → (ℕ → 𝔾 .F) → List ℕ
 countWords rows input table =
-    cond (covered 𝔾 rows input table) (column (multiplicity 𝔾 rows input table) rows) (replicate rows 0)
+    cond (covered 𝔾 rows input table) (tabulate (multiplicity 𝔾 rows input table) rows) (replicate rows 0)

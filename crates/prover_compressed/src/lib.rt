@@ -14,11 +14,11 @@ ghost use Prim.Native.Nat.{_+_, _*_, _/_, _%_, _^_, _≤_, _<_};
 ghost use lib.ListN.{length, take, drop};
 ghost use Rattle.field.specs.Field.{𝔾, val};
 ghost use Rattle.field.specs.Element.{elem};
-ghost use Rattle.lists.specs.Lists.{column, over, split, total};
+ghost use Rattle.lists.specs.Lists.{tabulate, writeAt, split, total};
 ghost use Rattle.expression.specs.Nodes.{exprOf};
 ghost use Rattle.expression.specs.Value.{valueAt};
-ghost use Rattle.expression.specs.Reader.{Small};
-ghost use Rattle.expression.specs.Point.{Placed, Ready, pointOf, layoutOf, environmentOf};
+ghost use Rattle.expression.specs.Reader.{LayoutSmall};
+ghost use Rattle.expression.specs.Point.{PointInOrder, ContextReady, pointOf, layoutIn, environmentOf};
 ghost use Rattle.expression_evaluate.specs.Lent.{lent};
 ghost use Rattle.backend.specs.Circuit.{pairsOf};
 ghost use Rattle.backend.specs.Constraints.{inputsOf, tablesOf};
@@ -45,8 +45,8 @@ pub struct CompressedPolys {
 
 // The value of the expression at a root, 0 where there is no such node. `count` is how many nodes there are.
 fn value_of_root<'a>(s: &[&'a [u64]; 5], c: &[usize; 12], count: usize, root: u64) -> Goldilocks
-    requires { ⌜ (count ≡ length (lent (now s) 0) / 4) × (length (lent (now s) 0) % 4 ≡ 0) × Ready (now c) ⌝ }
-    ensures { λ r. ⌜ elem r ≡ valueAt 𝔾 (environmentOf (lent (now (s .entry)) 1) (lent (now (s .entry)) 2) (lent (now (s .entry)) 3) (lent (now (s .entry)) 4) (layoutOf (now (c .entry))) (pointOf (now (c .entry)))) (exprOf (lent (now (s .entry)) 0) root) (pointOf (now (c .entry)) .row) ⌝ }
+    requires { ⌜ (count ≡ length (lent (now s) 0) / 4) × (length (lent (now s) 0) % 4 ≡ 0) × ContextReady (now c) ⌝ }
+    ensures { λ r. ⌜ elem r ≡ valueAt 𝔾 (environmentOf (lent (now (s .entry)) 1) (lent (now (s .entry)) 2) (lent (now (s .entry)) 3) (lent (now (s .entry)) 4) (layoutIn (now (c .entry))) (pointOf (now (c .entry)))) (exprOf (lent (now (s .entry)) 0) root) (pointOf (now (c .entry)) .row) ⌝ }
 {
     Goldilocks::from_u64(lower(s, c, count, root))
 }
@@ -60,8 +60,8 @@ fn compressed_over<'a>(
     roots: Roots,
     beta: Goldilocks,
 ) -> Goldilocks
-    requires { ⌜ (count ≡ length (lent (now s) 0) / 4) × (length (lent (now s) 0) % 4 ≡ 0) × Ready (now c) × ((roots .start + roots .width) * 2 ≤ length (now pairs)) × (roots .side < 2) ⌝ }
-    ensures { λ r. ⌜ elem r ≡ compressedIn 𝔾 (environmentOf (lent (now (s .entry)) 1) (lent (now (s .entry)) 2) (lent (now (s .entry)) 3) (lent (now (s .entry)) 4) (layoutOf (now (c .entry))) (pointOf (now (c .entry)))) (elem beta) (rootsOf (lent (now (s .entry)) 0) (now (pairs .entry)) roots) (pointOf (now (c .entry)) .row) ⌝ }
+    requires { ⌜ (count ≡ length (lent (now s) 0) / 4) × (length (lent (now s) 0) % 4 ≡ 0) × ContextReady (now c) × ((roots .start + roots .width) * 2 ≤ length (now pairs)) × (roots .side < 2) ⌝ }
+    ensures { λ r. ⌜ elem r ≡ compressedIn 𝔾 (environmentOf (lent (now (s .entry)) 1) (lent (now (s .entry)) 2) (lent (now (s .entry)) 3) (lent (now (s .entry)) 4) (layoutIn (now (c .entry))) (pointOf (now (c .entry)))) (elem beta) (rootsOf (lent (now (s .entry)) 0) (now (pairs .entry)) roots) (pointOf (now (c .entry)) .row) ⌝ }
 {
     let mut sum = Goldilocks::ZERO;
     let mut power = Goldilocks::ONE;
@@ -87,7 +87,7 @@ fn compressed_at<'a>(
     poly: CompressedPoly,
     point: Point,
 ) -> Goldilocks
-    requires { ⌜ (length (now nodes) % 4 ≡ 0) × (Small (poly .layout) × Placed point) × ((poly .roots .start + poly .roots .width) * 2 ≤ length (now pairs)) × (poly .roots .side < 2) ⌝ }
+    requires { ⌜ (length (now nodes) % 4 ≡ 0) × (LayoutSmall (poly .layout) × PointInOrder point) × ((poly .roots .start + poly .roots .width) * 2 ≤ length (now pairs)) × (poly .roots .side < 2) ⌝ }
     ensures { λ r. ⌜ elem r ≡ compressedIn 𝔾 (environmentOf (now (circuit .entry)) (now (witness .entry)) (now (columns .entry)) (now (challenges .entry)) (poly .layout) point) (elem (poly .beta)) (rootsOf (now (nodes .entry)) (now (pairs .entry)) (poly .roots)) (point .row) ⌝ }
 {
     let c = context(poly.layout, point);
@@ -106,7 +106,7 @@ pub fn lookup_compressed_poly<'a>(
     poly: CompressedPoly,
 )
     requires { ⌜ Behind (poly .k) (poly .layout) (now nodes) (now columns) (poly .to) (2 ^ poly .k) × ((poly .roots .start + poly .roots .width) * 2 ≤ length (now pairs)) × (poly .roots .side < 2) ⌝ }
-    ensures { λ _. ⌜ now (columns .exit) ≡ over (now (columns .entry)) (poly .to) (column (λ b. val (compressedIn 𝔾 (environmentFromWords (now (circuit .entry)) (now (witness .entry)) (now (columns .entry)) (now (challenges .entry)) (poly .layout) (poly .k)) (elem (poly .beta)) (rootsOf (now (nodes .entry)) (now (pairs .entry)) (poly .roots)) b)) (2 ^ poly .k)) ⌝ }
+    ensures { λ _. ⌜ now (columns .exit) ≡ writeAt (now (columns .entry)) (poly .to) (tabulate (λ b. val (compressedIn 𝔾 (environmentFromWords (now (circuit .entry)) (now (witness .entry)) (now (columns .entry)) (now (challenges .entry)) (poly .layout) (poly .k)) (elem (poly .beta)) (rootsOf (now (nodes .entry)) (now (pairs .entry)) (poly .roots)) b)) (2 ^ poly .k)) ⌝ }
 {
     let rows = rows_of(poly.k);
     let given = poly.layout.instances * rows;
@@ -145,7 +145,7 @@ fn compressed_pair<'a>(
     poly: CompressedPoly,
 )
     requires { ⌜ Behind (poly .k) (poly .layout) (now nodes) (now columns) (poly .to) (2 ^ poly .k + 2 ^ poly .k) × ((poly .roots .start + poly .roots .width) * 2 ≤ length (now pairs)) × (poly .roots .side ≡ 0) ⌝ }
-    ensures { λ _. ⌜ now (columns .exit) ≡ over (now (columns .entry)) (poly .to) (wordsOf (2 ^ poly .k) (compressedIn 𝔾 (environmentFromWords (now (circuit .entry)) (now (witness .entry)) (now (columns .entry)) (now (challenges .entry)) (poly .layout) (poly .k)) (elem (poly .beta)) (inputsOf (take (poly .roots .width) (drop (poly .roots .start) (pairsOf (now (nodes .entry)) (now (pairs .entry)))))) ∷ compressedIn 𝔾 (environmentFromWords (now (circuit .entry)) (now (witness .entry)) (now (columns .entry)) (now (challenges .entry)) (poly .layout) (poly .k)) (elem (poly .beta)) (tablesOf (take (poly .roots .width) (drop (poly .roots .start) (pairsOf (now (nodes .entry)) (now (pairs .entry)))))) ∷ [])) ⌝ }
+    ensures { λ _. ⌜ now (columns .exit) ≡ writeAt (now (columns .entry)) (poly .to) (wordsOf (2 ^ poly .k) (compressedIn 𝔾 (environmentFromWords (now (circuit .entry)) (now (witness .entry)) (now (columns .entry)) (now (challenges .entry)) (poly .layout) (poly .k)) (elem (poly .beta)) (inputsOf (take (poly .roots .width) (drop (poly .roots .start) (pairsOf (now (nodes .entry)) (now (pairs .entry)))))) ∷ compressedIn 𝔾 (environmentFromWords (now (circuit .entry)) (now (witness .entry)) (now (columns .entry)) (now (challenges .entry)) (poly .layout) (poly .k)) (elem (poly .beta)) (tablesOf (take (poly .roots .width) (drop (poly .roots .start) (pairsOf (now (nodes .entry)) (now (pairs .entry)))))) ∷ [])) ⌝ }
 {
     lookup_compressed_poly(nodes, circuit, witness, columns, challenges, pairs, poly);
     let layout = poly.layout;
@@ -178,7 +178,7 @@ pub fn lookup_compressed_polys<'a>(
     polys: CompressedPolys,
 )
     requires { ⌜ Behind (polys .k) (polys .layout) (now nodes) (now columns) (polys .to) (length (now widths) * (2 ^ polys .k + 2 ^ polys .k)) × (total (now widths) * 2 ≤ length (now pairs)) ⌝ }
-    ensures { λ _. ⌜ now (columns .exit) ≡ over (now (columns .entry)) (polys .to) (wordsOf (2 ^ polys .k) (compressedPolysIn 𝔾 (environmentFromWords (now (circuit .entry)) (now (witness .entry)) (now (columns .entry)) (now (challenges .entry)) (polys .layout) (polys .k)) (elem (polys .beta)) (split (now (widths .entry)) (pairsOf (now (nodes .entry)) (now (pairs .entry)))))) ⌝ }
+    ensures { λ _. ⌜ now (columns .exit) ≡ writeAt (now (columns .entry)) (polys .to) (wordsOf (2 ^ polys .k) (compressedPolysIn 𝔾 (environmentFromWords (now (circuit .entry)) (now (witness .entry)) (now (columns .entry)) (now (challenges .entry)) (polys .layout) (polys .k)) (elem (polys .beta)) (split (now (widths .entry)) (pairsOf (now (nodes .entry)) (now (pairs .entry)))))) ⌝ }
 {
     let rows = rows_of(polys.k);
     let mut start: usize = 0;

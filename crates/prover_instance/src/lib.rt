@@ -9,7 +9,7 @@ ghost use mathlib.Core.List.{map};
 ghost use Prim.Native.Nat.{ℕ, _+_, _*_, _^_, _<_, _≤_};
 ghost use lib.ListN.{length, getD, take, drop};
 ghost use Rattle.field.specs.Field.{𝔾, el, val};
-ghost use Rattle.lists.specs.Lists.{column, over, split, total};
+ghost use Rattle.lists.specs.Lists.{tabulate, writeAt, split, total};
 ghost use Rattle.prover.specs.Columns.{instanceAt};
 ghost use Rattle.prover.specs.Words.{wordsOf};
 
@@ -23,7 +23,7 @@ pub fn instance_column(
     at: usize,
 )
     requires { ⌜ (1 ≤ k) × (k ≤ 20) × (count < 2 ^ k) × (from + count ≤ length (now instance)) × (at + 2 ^ k ≤ length (now columns)) ⌝ }
-    ensures { λ _. ⌜ now (columns .exit) ≡ over (now (columns .entry)) at (column (λ b. val (instanceAt 𝔾 k (map el (take count (drop from (now (instance .entry))))) b)) (2 ^ k)) ⌝ }
+    ensures { λ _. ⌜ now (columns .exit) ≡ writeAt (now (columns .entry)) at (tabulate (λ b. val (instanceAt 𝔾 k (map el (take count (drop from (now (instance .entry))))) b)) (2 ^ k)) ⌝ }
 {
     clear(columns, at, rows_of(k));
     let mut row: usize = 1;
@@ -38,7 +38,7 @@ pub fn instance_column(
 // The instance columns, at the front of the buffer, of these lengths.
 pub fn instance_polys(k: usize, lengths: &[u64], instance: &[u64], columns: &mut [u64])
     requires { ⌜ (1 ≤ k) × (k ≤ 20) × ((i : ℕ) → i < length (now lengths) → getD (now lengths) i 0 < 2 ^ k) × (total (now lengths) ≡ length (now instance)) × (length (now lengths) * 2 ^ k ≤ length (now columns)) ⌝ }
-    ensures { λ _. ⌜ now (columns .exit) ≡ over (now (columns .entry)) 0 (wordsOf (2 ^ k) (map (λ vs b. instanceAt 𝔾 k (map el vs) b) (split (now (lengths .entry)) (now (instance .entry))))) ⌝ }
+    ensures { λ _. ⌜ now (columns .exit) ≡ writeAt (now (columns .entry)) 0 (wordsOf (2 ^ k) (map (λ vs b. instanceAt 𝔾 k (map el vs) b) (split (now (lengths .entry)) (now (instance .entry))))) ⌝ }
 {
     let rows = rows_of(k);
     let mut from: usize = 0;

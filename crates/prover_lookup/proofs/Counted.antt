@@ -7,7 +7,7 @@ use native.Mathlib.Nat.{zero-mul}
 use native.Mathlib.Omega.{arith}
 use lib.ListN.{length, getD, take, drop, replicate, length-append, length-replicate}
 use Rattle.field.specs.Field.{𝔾, el}
-use Rattle.lists.specs.Lists.{column, concat, over}
+use Rattle.lists.specs.Lists.{tabulate, concat, writeAt}
 use Rattle.lists.proofs.Columns.{column-length, column-cong, columns-length}
 use Rattle.lists.proofs.Over.{length-over, take-over, over-before, over-none, drop-past}
 use Rattle.lists.proofs.Tests.{false-true}
@@ -22,22 +22,22 @@ count-length : (rows : ℕ) (input table : ℕ → 𝔾 .F) → length (countWor
 unfolding countWords
 count-length rows input table = go (covered 𝔾 rows input table)
   where
-    go : (t : Bool) → length (cond t (column (multiplicity 𝔾 rows input table) rows) (replicate rows 0)) ≡ rows
+    go : (t : Bool) → length (cond t (tabulate (multiplicity 𝔾 rows input table) rows) (replicate rows 0)) ≡ rows
     go true = column-length (multiplicity 𝔾 rows input table) rows
     go false = length-replicate rows 0
 
 count-covered : (rows : ℕ) (input table : ℕ → 𝔾 .F) → covered 𝔾 rows input table ≡ true
-    → countWords rows input table ≡ column (multiplicity 𝔾 rows input table) rows
+    → countWords rows input table ≡ tabulate (multiplicity 𝔾 rows input table) rows
 unfolding countWords
 count-covered rows input table e =
-    ap (λ (t : Bool). cond t (column (multiplicity 𝔾 rows input table) rows) (replicate rows 0)) e
+    ap (λ (t : Bool). cond t (tabulate (multiplicity 𝔾 rows input table) rows) (replicate rows 0)) e
 
 -- the buffer d after j of n lookups; the next input stands at word `input`, its counts are due at word `to`
 pub record CountedUpto (d : List ℕ) (n at m rows : ℕ) (cur : List ℕ) (input to j : ℕ) : Type 0 where
   pub input-is : input ≡ at + j * 2 * rows
   pub to-is : to ≡ m + j * rows
   pub size : length cur ≡ length d
-  pub now : cur ≡ over d m (countsFrom d at rows j)
+  pub now : cur ≡ writeAt d m (countsFrom d at rows j)
   pub walked : Walked (λ j. covered 𝔾 rows (inputFrom d at rows j) (tableFrom d at rows j)) (λ i. i) n j
 
 module _ (d : List ℕ) (n at m rows : ℕ) where
@@ -48,7 +48,7 @@ module _ (d : List ℕ) (n at m rows : ℕ) where
   count j = multiplicity 𝔾 rows (inputFrom d at rows j) (tableFrom d at rows j)
 
   pub counted-start : CountedUpto d n at m rows d at m 0
-  unfolding column concat
+  unfolding tabulate concat
   counted-start =
       record {
         input-is = omega (arith, zero-mul rows);
@@ -63,7 +63,7 @@ module _ (d : List ℕ) (n at m rows : ℕ) where
     pub counted-end : n ≤ j → CountsWritten d n at m rows true cur
     counted-end h =
         let e : j ≡ n = let w = inv .walked .upto in omega arith in
-        let now : cur ≡ over d m (countsFrom d at rows n) = inv .now ∙ ap (λ (i : ℕ). over d m (countsFrom d at rows i)) e in
+        let now : cur ≡ writeAt d m (countsFrom d at rows n) = inv .now ∙ ap (λ (i : ℕ). writeAt d m (countsFrom d at rows i)) e in
         let len = columns-length rows count n in
         record {
           is = walk-done test (λ i. i) n j (inv .walked) h;
@@ -113,7 +113,7 @@ module _ (d : List ℕ) (n at m rows : ℕ) where
       -- the next lookup
       module _ (answer : Bool) (e : List ℕ)
           (given : (answer ≡ covered 𝔾 rows (elementsFrom cur input) (elementsFrom cur (input + rows)))
-          × (e ≡ over cur to (countWords rows (elementsFrom cur input) (elementsFrom cur (input + rows))))) where
+          × (e ≡ writeAt cur to (countWords rows (elementsFrom cur input) (elementsFrom cur (input + rows))))) where
         answer-is : answer ≡ test j
         answer-is =
             given .0
@@ -141,7 +141,7 @@ module _ (d : List ℕ) (n at m rows : ℕ) where
               now =
                   column-next d m rows count j to (inv .to-is) (let w = counts-there in let t = inv .to-is in omega arith) cur e (inv .now)
                   (given .1
-                  ∙ ap (over cur to)
+                  ∙ ap (writeAt cur to)
                   (count-covered rows (elementsFrom cur input) (elementsFrom cur (input + rows)) (sym (given .0) ∙ u)
                   ∙ column-cong (multiplicity 𝔾 rows (elementsFrom cur input) (elementsFrom cur (input + rows))) (count j) rows
                   (λ b h.
@@ -153,7 +153,7 @@ module _ (d : List ℕ) (n at m rows : ℕ) where
         pub counted-stop : answer ≡ false → CountsWritten d n at m rows false e
         counted-stop u =
             let run : List ℕ = countsFrom d at rows j ++ words in
-            let now : e ≡ over d m run =
+            let now : e ≡ writeAt d m run =
             run-next d m rows count j to (inv .to-is) (let w = counts-there in let t = inv .to-is in omega arith) cur e (inv .now) words
             (given .1) in
             let len : length run ≡ j * rows + rows =

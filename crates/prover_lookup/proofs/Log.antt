@@ -8,7 +8,7 @@ use native.Mathlib.Omega.{arith}
 use lib.ListN.{length, getD, length-map}
 use Rattle.field.specs.Prime.{P}
 use Rattle.field.specs.Field.{𝔾, el, val, P-pos, el-val, val-el}
-use Rattle.lists.specs.Lists.{column, below, concat, allOf}
+use Rattle.lists.specs.Lists.{tabulate, range, concat, allOf}
 use Rattle.lists.proofs.All.{all-getD}
 use Rattle.lists.proofs.Columns.{column-cong, column-of, map-column}
 use Rattle.lists.proofs.Lists.{get-map}
@@ -50,19 +50,19 @@ module _ {A B : Type 0} (f h : A → B) where
 -- columns by number are the columns of a list
 columns-are : {A : Type 0} (xs : List A) (d : A) (rows : ℕ) (f : ℕ → ℕ → ℕ) (p : A → ℕ → 𝔾 .F)
     → ((j : ℕ) → j < length xs → (b : ℕ) → b < rows → f j b ≡ val (p (getD xs j d) b))
-    → concat (column (λ j. column (f j) rows) (length xs)) ≡ wordsOf rows (map p xs)
+    → concat (tabulate (λ j. tabulate (f j) rows) (length xs)) ≡ wordsOf rows (map p xs)
 unfolding wordsOf
 columns-are {A = A} xs d rows f p h =
     ap concat
-    (column-cong (λ j. column (f j) rows) (λ j. column (λ b. val (p (getD xs j d) b)) rows) (length xs)
+    (column-cong (λ j. tabulate (f j) rows) (λ j. tabulate (λ b. val (p (getD xs j d) b)) rows) (length xs)
     (λ j l. column-cong (f j) (λ b. val (p (getD xs j d) b)) rows (h j l))
-    ∙ sym (map-column (λ (x : A). column (λ b. val (p x b)) rows) (λ j. getD xs j d) (length xs))
-    ∙ ap (map (λ (x : A). column (λ b. val (p x b)) rows)) (column-of xs d)
+    ∙ sym (map-column (λ (x : A). tabulate (λ b. val (p x b)) rows) (λ j. getD xs j d) (length xs))
+    ∙ ap (map (λ (x : A). tabulate (λ b. val (p x b)) rows)) (column-of xs d)
     ∙ maps xs)
   where
-    maps : (ys : List A) → map (λ (x : A). column (λ b. val (p x b)) rows) ys ≡ map (λ (q : ℕ → 𝔾 .F). column (λ b. val (q b)) rows) (map p ys)
+    maps : (ys : List A) → map (λ (x : A). tabulate (λ b. val (p x b)) rows) ys ≡ map (λ (q : ℕ → 𝔾 .F). tabulate (λ b. val (q b)) rows) (map p ys)
     maps [] = refl
-    maps (y ∷ ys) = ap (λ (l : List (List ℕ)). column (λ b. val (p y b)) rows ∷ l) (maps ys)
+    maps (y ∷ ys) = ap (λ (l : List (List ℕ)). tabulate (λ b. val (p y b)) rows ∷ l) (maps ys)
 
 -- ---- a log
 
@@ -110,7 +110,7 @@ module _ (g : Log 𝔾) (d : List ℕ) (at : ℕ)
       (λ j l.
       covered-same rows (inputFrom d at rows j) (inputAt 𝔾 g (lookup j)) (tableFrom d at rows j) (tableAt 𝔾 g (lookup j)) (input-is j l)
       (table-is j l))
-      ∙ sym (all-map test lookup (below n))
+      ∙ sym (all-map test lookup (range n))
       ∙ ap (allOf test) (map-column lookup (λ i. i) n ∙ column-of (g .circuit .lookups) [])
     where
       test : List Pair → Bool

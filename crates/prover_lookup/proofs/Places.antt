@@ -6,7 +6,7 @@ use native.Mathlib.Nat.{suc-mul, mul-le-mul-right}
 use native.Mathlib.Numerals.{add-one}
 use native.Mathlib.Omega.{arith}
 use lib.ListN.{length}
-use Rattle.lists.specs.Lists.{column, concat, over}
+use Rattle.lists.specs.Lists.{tabulate, concat, writeAt}
 use Rattle.lists.proofs.Columns.{columns-suc, columns-length}
 use Rattle.lists.proofs.Over.{over-over}
 
@@ -38,17 +38,17 @@ pair-there n j rows l =
 
 -- a run behind the columns that stand from word `to` on
 module _ (d : List ℕ) (to rows : ℕ) (f : ℕ → ℕ → ℕ) (j p : ℕ) (at : p ≡ to + j * rows) (room : to + j * rows ≤ length d)
-    (cur e : List ℕ) (is : cur ≡ over d to (concat (column (λ j. column (f j) rows) j))) where
-  pub run-next : (s : List ℕ) → e ≡ over cur p s → e ≡ over d to (concat (column (λ j. column (f j) rows) j) ++ s)
+    (cur e : List ℕ) (is : cur ≡ writeAt d to (concat (tabulate (λ j. tabulate (f j) rows) j))) where
+  pub run-next : (s : List ℕ) → e ≡ writeAt cur p s → e ≡ writeAt d to (concat (tabulate (λ j. tabulate (f j) rows) j) ++ s)
   run-next s put =
       let len = columns-length rows f j in
-      let q : p ≡ to + length (concat (column (λ j. column (f j) rows) j)) = omega arith in
+      let q : p ≡ to + length (concat (tabulate (λ j. tabulate (f j) rows) j)) = omega arith in
       put
-      ∙ ap₂ (λ (x : List ℕ) (w : ℕ). over x w s) is q
-      ∙ over-over d to (concat (column (λ j. column (f j) rows) j)) s (omega arith)
+      ∙ ap₂ (λ (x : List ℕ) (w : ℕ). writeAt x w s) is q
+      ∙ over-over d to (concat (tabulate (λ j. tabulate (f j) rows) j)) s (omega arith)
 
-  pub column-next : e ≡ over cur p (column (f j) rows) → e ≡ over d to (concat (column (λ j. column (f j) rows) (j + 1)))
+  pub column-next : e ≡ writeAt cur p (tabulate (f j) rows) → e ≡ writeAt d to (concat (tabulate (λ j. tabulate (f j) rows) (j + 1)))
   column-next put =
-      run-next (column (f j) rows) put
-      ∙ ap (over d to) (sym (columns-suc rows f j))
-      ∙ ap (λ (i : ℕ). over d to (concat (column (λ j. column (f j) rows) i))) (sym (add-one j))
+      run-next (tabulate (f j) rows) put
+      ∙ ap (writeAt d to) (sym (columns-suc rows f j))
+      ∙ ap (λ (i : ℕ). writeAt d to (concat (tabulate (λ j. tabulate (f j) rows) i))) (sym (add-one j))

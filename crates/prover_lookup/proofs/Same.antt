@@ -6,7 +6,7 @@ use mathlib.Core.Option.{Option}
 use Prim.Native.Nat.{ℕ, _≤_, _<_}
 use native.Mathlib.Omega.{arith}
 use Rattle.field.specs.Field.{𝔾}
-use Rattle.lists.specs.Lists.{below, countOf, allOf, isSome, isAt}
+use Rattle.lists.specs.Lists.{range, countOf, allOf, isSome, isAt}
 use Rattle.lists.proofs.Columns.{column-cong, map-below, below-length}
 use Rattle.lists.proofs.Searches.{count-le, count-map}
 use Rattle.lists.proofs.Walks.{all-map}
@@ -15,17 +15,17 @@ use Rattle.prover.proofs.Search.{last-same}
 
 -- ---- tests that agree on the first numbers
 
-pub all-agree : (p q : ℕ → Bool) (n : ℕ) → ((b : ℕ) → b < n → p b ≡ q b) → allOf p (below n) ≡ allOf q (below n)
+pub all-agree : (p q : ℕ → Bool) (n : ℕ) → ((b : ℕ) → b < n → p b ≡ q b) → allOf p (range n) ≡ allOf q (range n)
 all-agree p q n h =
-    sym (all-map (λ (t : Bool). t) p (below n))
+    sym (all-map (λ (t : Bool). t) p (range n))
     ∙ ap (allOf (λ (t : Bool). t)) (map-below p n ∙ column-cong p q n h ∙ sym (map-below q n))
-    ∙ all-map (λ (t : Bool). t) q (below n)
+    ∙ all-map (λ (t : Bool). t) q (range n)
 
-count-agree : (p q : ℕ → Bool) (n : ℕ) → ((b : ℕ) → b < n → p b ≡ q b) → countOf p (below n) ≡ countOf q (below n)
+count-agree : (p q : ℕ → Bool) (n : ℕ) → ((b : ℕ) → b < n → p b ≡ q b) → countOf p (range n) ≡ countOf q (range n)
 count-agree p q n h =
-    sym (count-map (λ (t : Bool). t) p (below n))
+    sym (count-map (λ (t : Bool). t) p (range n))
     ∙ ap (λ (ts : List Bool). countOf (λ (t : Bool). t) ts) (map-below p n ∙ column-cong p q n h ∙ sym (map-below q n))
-    ∙ count-map (λ (t : Bool). t) q (below n)
+    ∙ count-map (λ (t : Bool). t) q (range n)
 
 -- ---- columns that agree on the first rows
 
@@ -54,7 +54,7 @@ module _ (rows : ℕ) (input input' table table' : ℕ → 𝔾 .F)
 pub multiplicity-le : (rows : ℕ) (input table : ℕ → 𝔾 .F) (j : ℕ) → multiplicity 𝔾 rows input table j ≤ rows
 unfolding multiplicity
 multiplicity-le rows input table j =
-    omega (arith, count-le (λ b. isAt j (lastEqual 𝔾 rows table (input b))) (below rows), below-length rows)
+    omega (arith, count-le (λ b. isAt j (lastEqual 𝔾 rows table (input b))) (range rows), below-length rows)
 
 -- h at a row
 pub h-agree : (γ : 𝔾 .F) (input input' table table' m m' : ℕ → 𝔾 .F) (b : ℕ) → input b ≡ input' b → table b ≡ table' b → m b ≡ m' b

@@ -6,7 +6,7 @@ use mathlib.Core.List.{List}
 use Prim.Native.Nat.{ℕ, _+_, _*_}
 use lib.ListN.{take, drop}
 use Rattle.field.specs.Field.{𝔾, val}
-use Rattle.lists.specs.Lists.{column, below, concat, allOf, over}
+use Rattle.lists.specs.Lists.{tabulate, range, concat, allOf, writeAt}
 use Rattle.prover.specs.Lookup.{multiplicity, covered, hAt}
 use Rattle.prover.specs.Words.{elementsFrom}
 
@@ -20,21 +20,21 @@ module _ (d : List ℕ) (at rows : ℕ) where
 
   -- question 15 of the first n lookups
   abbrev pub coveredFrom : ℕ → Bool
-  coveredFrom n = allOf (λ j. covered 𝔾 rows (inputFrom j) (tableFrom j)) (below n)
+  coveredFrom n = allOf (λ j. covered 𝔾 rows (inputFrom j) (tableFrom j)) (range n)
 
   -- the words of their counts
   abbrev pub countsFrom : ℕ → List ℕ
-  countsFrom n = concat (column (λ j. column (multiplicity 𝔾 rows (inputFrom j) (tableFrom j)) rows) n)
+  countsFrom n = concat (tabulate (λ j. tabulate (multiplicity 𝔾 rows (inputFrom j) (tableFrom j)) rows) n)
 
   -- the words of their h, with the counts from word m on
   abbrev pub hsFrom : 𝔾 .F → ℕ → ℕ → List ℕ
   hsFrom γ m n =
-      concat (column (λ j. column (λ b. val (hAt 𝔾 γ (inputFrom j) (tableFrom j) (elementsFrom d (m + j * rows)) b)) rows) n)
+      concat (tabulate (λ j. tabulate (λ b. val (hAt 𝔾 γ (inputFrom j) (tableFrom j) (elementsFrom d (m + j * rows)) b)) rows) n)
 
 -- the answer of `lookup_m_polys` on the buffer d, and the buffer e after: the counts stand from word m on if all lookups are covered,
 -- and no other words change in any case
 pub record CountsWritten (d : List ℕ) (n at m rows : ℕ) (answer : Bool) (e : List ℕ) : Type 0 where
   pub is : answer ≡ coveredFrom d at rows n
-  pub counts : answer ≡ true → e ≡ over d m (countsFrom d at rows n)
+  pub counts : answer ≡ true → e ≡ writeAt d m (countsFrom d at rows n)
   pub front : take m e ≡ take m d
   pub back : drop (m + n * rows) e ≡ drop (m + n * rows) d

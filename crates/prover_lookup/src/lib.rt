@@ -10,7 +10,7 @@ ghost use mathlib.Core.Path.{_≡_};
 ghost use Prim.Native.Nat.{_+_, _*_, _≤_};
 ghost use lib.ListN.{length, getD};
 ghost use Rattle.field.specs.Element.{elem};
-ghost use Rattle.lists.specs.Lists.{over};
+ghost use Rattle.lists.specs.Lists.{writeAt};
 ghost use Rattle.prover.specs.Words.{Small};
 ghost use Rattle.prover_lookup.specs.Lookups.{CountsWritten, hsFrom};
 
@@ -52,7 +52,7 @@ pub fn lookup_h_polys(
     rows: usize,
 )
     requires { ⌜ (compressed + lookups * 2 * rows ≤ h) × (m + lookups * rows ≤ h) × (h + lookups * rows ≤ length (now columns)) ⌝ }
-    ensures { λ _. ⌜ now (columns .exit) ≡ over (now (columns .entry)) h (hsFrom (now (columns .entry)) compressed rows (elem gamma) m lookups) ⌝ }
+    ensures { λ _. ⌜ now (columns .exit) ≡ writeAt (now (columns .entry)) h (hsFrom (now (columns .entry)) compressed rows (elem gamma) m lookups) ⌝ }
 {
     let mut input = compressed;
     let mut counts = m;

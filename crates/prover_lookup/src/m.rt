@@ -6,7 +6,7 @@ ghost use mathlib.Core.Bool.{cond};
 ghost use Prim.Native.Nat.{_+_, _≤_};
 ghost use lib.ListN.{length, getD};
 ghost use Rattle.field.specs.Field.{𝔾};
-ghost use Rattle.lists.specs.Lists.{over};
+ghost use Rattle.lists.specs.Lists.{writeAt};
 ghost use Rattle.prover.specs.Lookup.{covered};
 ghost use Rattle.prover.specs.Answers.{searches, firstNumber, mWords};
 ghost use Rattle.prover.specs.Words.{elements, elementsFrom, Small, countWords};
@@ -15,8 +15,8 @@ ghost use Rattle.prover.specs.Words.{elements, elementsFrom, Small, countWords}
 // Both are also said by the answers of the search: its number, 15 where one is `Nothing`, and its column m.
 pub fn m_column(rows: usize, input: &[u64], table: &[u64], m: &mut [u64]) -> bool
     requires { ⌜ (rows ≤ length (now input)) × (rows ≤ length (now table)) × (rows ≤ length (now m)) × Small rows (λ b. getD (now input) b 0) × Small rows (λ b. getD (now table) b 0) ⌝ }
-    ensures counts { λ r. ⌜ (r ≡ covered 𝔾 rows (elements (now (input .entry))) (elements (now (table .entry)))) × (now (m .exit) ≡ over (now (m .entry)) 0 (countWords rows (elements (now (input .entry))) (elements (now (table .entry))))) ⌝ }
-    ensures found { λ r. ⌜ (cond r 0 15 ≡ firstNumber (searches 𝔾 rows (elements (now (input .entry))) (elements (now (table .entry))))) × (now (m .exit) ≡ over (now (m .entry)) 0 (mWords rows (searches 𝔾 rows (elements (now (input .entry))) (elements (now (table .entry)))))) ⌝ }
+    ensures counts { λ r. ⌜ (r ≡ covered 𝔾 rows (elements (now (input .entry))) (elements (now (table .entry)))) × (now (m .exit) ≡ writeAt (now (m .entry)) 0 (countWords rows (elements (now (input .entry))) (elements (now (table .entry))))) ⌝ }
+    ensures found { λ r. ⌜ (cond r 0 15 ≡ firstNumber (searches 𝔾 rows (elements (now (input .entry))) (elements (now (table .entry))))) × (now (m .exit) ≡ writeAt (now (m .entry)) 0 (mWords rows (searches 𝔾 rows (elements (now (input .entry))) (elements (now (table .entry)))))) ⌝ }
 {
     clear(m, 0, rows);
     let mut i: usize = 0;
@@ -50,8 +50,8 @@ pub fn m_column(rows: usize, input: &[u64], table: &[u64], m: &mut [u64]) -> boo
 // The same in the column buffer: the input, the table and, behind both, the counts start at these words.
 pub fn lookup_m_poly(columns: &mut [u64], input: usize, table: usize, m: usize, rows: usize) -> bool
     requires { ⌜ (input + rows ≤ m) × (table + rows ≤ m) × (m + rows ≤ length (now columns)) × Small rows (λ b. getD (now columns) (input + b) 0) × Small rows (λ b. getD (now columns) (table + b) 0) ⌝ }
-    ensures counts { λ r. ⌜ (r ≡ covered 𝔾 rows (elementsFrom (now (columns .entry)) input) (elementsFrom (now (columns .entry)) table)) × (now (columns .exit) ≡ over (now (columns .entry)) m (countWords rows (elementsFrom (now (columns .entry)) input) (elementsFrom (now (columns .entry)) table))) ⌝ }
-    ensures found { λ r. ⌜ (cond r 0 15 ≡ firstNumber (searches 𝔾 rows (elementsFrom (now (columns .entry)) input) (elementsFrom (now (columns .entry)) table))) × (now (columns .exit) ≡ over (now (columns .entry)) m (mWords rows (searches 𝔾 rows (elementsFrom (now (columns .entry)) input) (elementsFrom (now (columns .entry)) table)))) ⌝ }
+    ensures counts { λ r. ⌜ (r ≡ covered 𝔾 rows (elementsFrom (now (columns .entry)) input) (elementsFrom (now (columns .entry)) table)) × (now (columns .exit) ≡ writeAt (now (columns .entry)) m (countWords rows (elementsFrom (now (columns .entry)) input) (elementsFrom (now (columns .entry)) table))) ⌝ }
+    ensures found { λ r. ⌜ (cond r 0 15 ≡ firstNumber (searches 𝔾 rows (elementsFrom (now (columns .entry)) input) (elementsFrom (now (columns .entry)) table))) × (now (columns .exit) ≡ writeAt (now (columns .entry)) m (mWords rows (searches 𝔾 rows (elementsFrom (now (columns .entry)) input) (elementsFrom (now (columns .entry)) table)))) ⌝ }
 {
     clear(columns, m, rows);
     let mut i: usize = 0;

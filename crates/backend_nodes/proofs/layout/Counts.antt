@@ -11,7 +11,7 @@ use lib.Dec.{eqb}
 use lib.ListN.{length, getD, take, set, replicate, length-map, length-set, length-replicate, getD-replicate}
 use lib.Seq.{take-all, take-suc, length-take-le, getD-set-same, getD-set-other}
 use borrow.Author.Tests.{eq-eqb, ne-eqb}
-use Rattle.lists.specs.Lists.{column, those, countOf, concat}
+use Rattle.lists.specs.Lists.{tabulate, filter, countOf, concat}
 use Rattle.lists.proofs.Tests.{count-append, count-one}
 use Rattle.lists.proofs.Searches.{count-joined, count-le}
 use Rattle.expression.specs.Nodes.{Kind, kindOf, wordOf}
@@ -45,7 +45,7 @@ tally-past counts n l =
     }
 
 pub tally-none : (counts : List ℕ) → Tally counts [] counts
-unfolding those
+unfolding filter
 tally-none counts = record { places = refl; each = λ i l. sym (add-zero (getD counts i 0)) }
 
 -- the names are these
@@ -110,10 +110,10 @@ module _ (kind first second value : ℕ) (a b : List ℕ) where
 -- ---- the nodes, one after another
 module _ (nodes : List ℕ) where
   abbrev pub joined : ℕ → List Name
-  joined m = concat (column (byWords named nodes) m)
+  joined m = concat (tabulate (byWords named nodes) m)
 
   joined-few : (i m : ℕ) → countOf (isName i) (joined m) ≤ m * 2
-  unfolding column concat those
+  unfolding tabulate concat filter
   joined-few i zero = omega arith
   joined-few i (suc m) =
       let f = joined-few i m in
@@ -136,7 +136,7 @@ module _ (nodes : List ℕ) where
     pub tally : Tally before (joined m) after
 
   pub noded-none : (before : List ℕ) → Noded before before 0
-  unfolding column concat
+  unfolding tabulate concat
   noded-none before = record { upto = omega arith; tally = tally-none before }
 
   module _ (before now : List ℕ) (m : ℕ) (v : Noded before now m) (l : m < nodeCount nodes) where

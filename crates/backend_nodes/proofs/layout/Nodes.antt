@@ -12,7 +12,7 @@ use lib.ListN.{getD, List·getD-eq-default}
 use borrow.Author.Tests.{lt-ltb, le-ltb, ne-eqb, not-true, not-false}
 use Rattle.lists.specs.Lists.{allOf}
 use Rattle.lists.proofs.Tests.{all-append, and-both}
-use Rattle.expression.specs.Nodes.{wordOf, Kind, kinds, kindOf, signed}
+use Rattle.expression.specs.Nodes.{wordOf, Kind, kinds, kindOf, decodeSigned}
 use Rattle.backend.specs.Layout.{Name, plain, asItem, named, shaped, byWords, right, longEnough, inPlace, nodesHold, isRoot, once, laidOut, inRange}
 
 -- w is none of m + 1, …, m + n
@@ -215,12 +215,12 @@ module _ (nodes xs ys : List ℕ) where
             (sym (all-append (isRoot nodes) xs ys ∙ and-both _ _ (sym q ∙ not-false b g) (sym r ∙ not-false d h)))
 
 -- ---- question 8
-pub near-low : (v k : ℕ) → v < 2147483648 → leb (2147483648 - v) k ≡ leb (natAbs (signed v)) k
+pub near-low : (v k : ℕ) → v < 2147483648 → leb (2147483648 - v) k ≡ leb (natAbs (decodeSigned v)) k
 near-low v k l =
     ap (λ (n : ℕ). leb n k)
     (sym (ap (λ (t : Bool). natAbs (cond t (negsuc (2147483648 - suc v)) (pos (v - 2147483648)))) (lt-ltb v 2147483648 l) ∙ (let q : suc (2147483648 - suc v) ≡ 2147483648 - v = omega arith in q)))
 
-pub near-high : (v k : ℕ) → 2147483648 ≤ v → leb (v - 2147483648) k ≡ leb (natAbs (signed v)) k
+pub near-high : (v k : ℕ) → 2147483648 ≤ v → leb (v - 2147483648) k ≡ leb (natAbs (decodeSigned v)) k
 near-high v k l =
     ap (λ (t : Bool). leb (natAbs (cond t (negsuc (2147483648 - suc v)) (pos (v - 2147483648)))) k) (sym (le-ltb v 2147483648 l))
 

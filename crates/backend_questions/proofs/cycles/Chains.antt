@@ -15,7 +15,7 @@ use Rattle.lists.proofs.Tests.{by-test, true-all}
 use Rattle.lists.proofs.All.{all-column}
 use Rattle.lists.proofs.Walks.{walk-fails}
 use Rattle.backend.specs.Circuit.{Cell, cellAt, sameCell}
-use Rattle.backend.specs.Cycles.{run, fresh}
+use Rattle.backend.specs.Cycles.{cellsFrom, fresh}
 use Rattle.backend.proofs.Cells.{same-cell}
 use Rattle.backend_questions.specs.Chains.{chainOf, lastIn, Linked}
 
@@ -119,15 +119,15 @@ module _ (cells : List ℕ) where
 
   -- ---- the answer
   module _ (start n j : ℕ) where
-    pub down-end : Down (start + n) j → j ≤ start → true ≡ fresh (cellAt cells (start + n)) (run cells start n)
+    pub down-end : Down (start + n) j → j ≤ start → true ≡ fresh (cellAt cells (start + n)) (cellsFrom cells start n)
     down-end d l =
         sym
-        (true-all (λ y. not (sameCell (cellAt cells (start + n)) y)) (run cells start n)
+        (true-all (λ y. not (sameCell (cellAt cells (start + n)) y)) (cellsFrom cells start n)
         (all-column (λ y. not (sameCell (cellAt cells (start + n)) y) ≡ true) (λ i. cellAt cells (start + i)) n
         (λ i k. ap not (d .none (start + i) (omega arith) (omega arith)))))
 
     pub down-met : Down (start + n) j → start < j → sameCell (cellAt cells (start + n)) (cellAt cells (j - 1)) ≡ true
-        → false ≡ fresh (cellAt cells (start + n)) (run cells start n)
+        → false ≡ fresh (cellAt cells (start + n)) (cellsFrom cells start n)
     down-met d l e =
         walk-fails (λ y. not (sameCell (cellAt cells (start + n)) y)) (λ i. cellAt cells (start + i)) n (j - 1 - start)
         (let k = d .low in omega arith)

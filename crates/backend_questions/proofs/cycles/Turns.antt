@@ -7,7 +7,7 @@ use native.Mathlib.Omega.{arith}
 use lib.Dec.{leb, ltb}
 use lib.ListN.{length, getD, drop, drop-of-length-le}
 use borrow.Author.Tests.{leb-true, le-leb, ltb-true, lt-ltb, not-true, not-false}
-use Rattle.lists.specs.Lists.{below, allOf, split, total, within}
+use Rattle.lists.specs.Lists.{range, allOf, split, total, within}
 use Rattle.lists.proofs.Tests.{and-left, and-right, and-both}
 use Rattle.lists.proofs.Columns.{column-length}
 use Rattle.lists.proofs.Searches.{column-part, total-drop, split-drop}
@@ -15,7 +15,7 @@ use Rattle.lists.proofs.Once.{same-tests, once-by-turns}
 use Rattle.backend.specs.Circuit.{Cell, cellAt, cellsOf, sameCell}
 use Rattle.backend.specs.Questions.{goodCell, goodCycle, cyclesGood}
 use Rattle.backend.proofs.Cells.{same-self, same-sym}
-use Rattle.backend.specs.Cycles.{run, fresh, goodAt}
+use Rattle.backend.specs.Cycles.{cellsFrom, fresh, goodAt}
 
 -- ---- a cell
 rows-in : (r rows : ℕ) → (leb 1 r && ltb r rows) ≡ within 1 (rows - 1) r
@@ -48,24 +48,24 @@ module _ (polys rows : ℕ) (x : Cell) where
 -- ---- a cycle
 module _ (polys rows : ℕ) (cells : List ℕ) (start : ℕ) where
   abbrev pub turn : ℕ → Bool
-  turn j = goodAt polys rows (cellAt cells (start + j)) (run cells start j)
+  turn j = goodAt polys rows (cellAt cells (start + j)) (cellsFrom cells start j)
 
-  by-turns : (n : ℕ) → allOf turn (below n) ≡ allOf (goodCell polys rows (run cells start n)) (run cells start n)
+  by-turns : (n : ℕ) → allOf turn (range n) ≡ allOf (goodCell polys rows (cellsFrom cells start n)) (cellsFrom cells start n)
   by-turns n =
       once-by-turns sameCell same-self same-sym (λ (x : Cell). ltb (x .polynomial) polys && within 1 (rows - 1) (x .row)) (λ i. cellAt cells (start + i)) n
 
-  pub no-cell : (n : ℕ) → n ≡ 0 → false ≡ goodCycle polys rows (run cells start n)
+  pub no-cell : (n : ℕ) → n ≡ 0 → false ≡ goodCycle polys rows (cellsFrom cells start n)
   no-cell n e =
-      ap (λ (m : ℕ). ltb 0 m && allOf (goodCell polys rows (run cells start n)) (run cells start n))
+      ap (λ (m : ℕ). ltb 0 m && allOf (goodCell polys rows (cellsFrom cells start n)) (cellsFrom cells start n))
       (sym (column-length (λ i. cellAt cells (start + i)) n ∙ e))
 
-  pub bad-cell : (n : ℕ) → false ≡ allOf turn (below n) → false ≡ goodCycle polys rows (run cells start n)
+  pub bad-cell : (n : ℕ) → false ≡ allOf turn (range n) → false ≡ goodCycle polys rows (cellsFrom cells start n)
   bad-cell n e =
-      sym (and-false (ltb 0 (length (run cells start n)))) ∙ ap (λ (t : Bool). ltb 0 (length (run cells start n)) && t) (e ∙ by-turns n)
+      sym (and-false (ltb 0 (length (cellsFrom cells start n)))) ∙ ap (λ (t : Bool). ltb 0 (length (cellsFrom cells start n)) && t) (e ∙ by-turns n)
 
-  pub good-cells : (n : ℕ) → (n ≡ 0 → ⊥) → true ≡ allOf turn (below n) → true ≡ goodCycle polys rows (run cells start n)
+  pub good-cells : (n : ℕ) → (n ≡ 0 → ⊥) → true ≡ allOf turn (range n) → true ≡ goodCycle polys rows (cellsFrom cells start n)
   good-cells n ne e =
-      ap₂ _&&_ (sym (lt-ltb 0 (length (run cells start n)) (let q = column-length (λ i. cellAt cells (start + i)) n in omega arith)))
+      ap₂ _&&_ (sym (lt-ltb 0 (length (cellsFrom cells start n)) (let q = column-length (λ i. cellAt cells (start + i)) n in omega arith)))
       (e ∙ by-turns n)
 
 -- ---- the cycles
@@ -87,7 +87,7 @@ module _ (polys rows : ℕ) (lengths body : List ℕ) where
     room = let q = next-left in omega arith
 
     next : cyclesGood polys rows (split lengths (cellsOf body))
-        ≡ (goodCycle polys rows (run body start (getD lengths i 0)) && cyclesGood polys rows (split (drop (i + 1) lengths) (drop (start + getD lengths i 0) (cellsOf body))))
+        ≡ (goodCycle polys rows (cellsFrom body start (getD lengths i 0)) && cyclesGood polys rows (split (drop (i + 1) lengths) (drop (start + getD lengths i 0) (cellsOf body))))
     unfolding cyclesGood allOf
     next =
         v .same ∙ ap (cyclesGood polys rows) (split-drop lengths (cellsOf body) start i l)
@@ -96,7 +96,7 @@ module _ (polys rows : ℕ) (lengths body : List ℕ) where
         goodCycle polys rows xs && cyclesGood polys rows (split (drop (i + 1) lengths) (drop (start + getD lengths i 0) (cellsOf body))))
         (column-part (cellAt body) (length body / 2) start (getD lengths i 0) room)
 
-    pub before-next : (t : Bool) → t ≡ goodCycle polys rows (run body start (getD lengths i 0)) → not t ≡ false
+    pub before-next : (t : Bool) → t ≡ goodCycle polys rows (cellsFrom body start (getD lengths i 0)) → not t ≡ false
         → Before (start + getD lengths i 0) (i + 1)
     before-next t e f =
         record {
@@ -108,7 +108,7 @@ module _ (polys rows : ℕ) (lengths body : List ℕ) where
               (sym e ∙ not-false t f);
         }
 
-    pub bad-cycle : (t : Bool) → t ≡ goodCycle polys rows (run body start (getD lengths i 0)) → not t ≡ true
+    pub bad-cycle : (t : Bool) → t ≡ goodCycle polys rows (cellsFrom body start (getD lengths i 0)) → not t ≡ true
         → false ≡ cyclesGood polys rows (split lengths (cellsOf body))
     bad-cycle t e f =
         sym

@@ -6,10 +6,10 @@ use native.Mathlib.Nat.{mul-div-cancel}
 use native.Mathlib.Omega.{arith}
 use lib.ListN.{length}
 use Rattle.backend.specs.Circuit.{Section, entries, bodyOf}
-use Rattle.backend.specs.Laid.{Laid}
+use Rattle.backend.specs.Laid.{ContentsValid}
 use Rattle.backend.proofs.Sections.{body-length}
 
-module _ (ws body : List ℕ) (a : Laid ws) where
+module _ (ws body : List ℕ) (a : ContentsValid ws) where
   pub few-nodes : body ≡ bodyOf ws Section.nodes → length body / 4 ≤ 1024
   few-nodes b =
       let e : length body / 4 ≡ entries ws Section.nodes =

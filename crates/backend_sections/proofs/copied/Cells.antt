@@ -10,7 +10,7 @@ use lib.Dec.{eqb}
 use lib.ListN.{length, getD, take, drop, set, replicate, length-set, length-replicate, take-append-drop}
 use lib.Seq.{length-take-le, getD-set-same, getD-set-other, drop-set-lt, take-suc-set, drop-drop}
 use borrow.Author.Tests.{eq-eqb, ne-eqb}
-use Rattle.lists.specs.Lists.{column, below, anyOf, those}
+use Rattle.lists.specs.Lists.{tabulate, range, anyOf, filter}
 use Rattle.lists.proofs.Tests.{those-append}
 use Rattle.lists.proofs.Columns.{column-suc}
 use Rattle.lists.proofs.Searches.{any-next}
@@ -20,22 +20,22 @@ use Rattle.backend.specs.Circuit.{Cell, cellAt, cellsOf, cellsName, copiedIn}
 pub record Named (cells : List ℕ) (named : List Bool) (i : ℕ) : Type 0 where
   pub upto : i ≤ length cells / 2
   pub many : length named ≡ 72
-  pub each : (q : ℕ) → q < 72 → getD named q false ≡ cellsName (column (cellAt cells) i) q
+  pub each : (q : ℕ) → q < 72 → getD named q false ≡ cellsName (tabulate (cellAt cells) i) q
 
 -- the copied columns among the first q polynomials
 pub record Gathered (cells : List ℕ) (polys : ℕ) (of : List ℕ) (count q : ℕ) : Type 0 where
   pub upto : q ≤ polys
   pub few : count ≤ q
   pub many : length of ≡ 72
-  pub found : take count of ≡ those (cellsName (cellsOf cells)) (below q)
+  pub found : take count of ≡ filter (cellsName (cellsOf cells)) (range q)
   pub rest : drop count of ≡ replicate (72 - count) 0
 
 or-true : (t : Bool) → (t || true) ≡ true
 or-true true = refl
 or-true false = refl
 
-those-one : (p : ℕ → Bool) (q : ℕ) → those p (q ∷ []) ≡ cond (p q) (q ∷ []) []
-unfolding those
+those-one : (p : ℕ → Bool) (q : ℕ) → filter p (q ∷ []) ≡ cond (p q) (q ∷ []) []
+unfolding filter
 those-one p q = refl
 
 none-named : (n : ℕ) (q : ℕ) → getD (replicate n false) q false ≡ false
@@ -45,7 +45,7 @@ none-named (suc n) (suc q) = none-named n q
 
 module _ (cells : List ℕ) where
   pub named-none : (named : List Bool) → named ≡ replicate 72 false → Named cells named 0
-  unfolding column anyOf
+  unfolding tabulate anyOf
   named-none named e =
       record {
         upto = omega arith;
@@ -53,7 +53,7 @@ module _ (cells : List ℕ) where
         each = λ q l. ap (λ (xs : List Bool). getD xs q false) e ∙ none-named 72 q;
       }
 
-  next-named : (i q : ℕ) → cellsName (column (cellAt cells) (i + 1)) q ≡ (cellsName (column (cellAt cells) i) q || eqb (getD cells (i * 2) 0) q)
+  next-named : (i q : ℕ) → cellsName (tabulate (cellAt cells) (i + 1)) q ≡ (cellsName (tabulate (cellAt cells) i) q || eqb (getD cells (i * 2) 0) q)
   next-named i q = any-next (λ (x : Cell). eqb (x .polynomial) q) (cellAt cells) i
 
   -- cell i names a polynomial below 72
@@ -65,16 +65,16 @@ module _ (cells : List ℕ) where
       w : ℕ
       w = getD cells (i * 2) 0
 
-      each : (q : ℕ) → q < 72 → getD (set named w true) q false ≡ cellsName (column (cellAt cells) (i + 1)) q
+      each : (q : ℕ) → q < 72 → getD (set named w true) q false ≡ cellsName (tabulate (cellAt cells) (i + 1)) q
       each q m = go (ℕ-discrete q w)
         where
-          go : Dec (q ≡ w) → getD (set named w true) q false ≡ cellsName (column (cellAt cells) (i + 1)) q
+          go : Dec (q ≡ w) → getD (set named w true) q false ≡ cellsName (tabulate (cellAt cells) (i + 1)) q
           go (yes e) =
               ap (λ (j : ℕ). getD (set named w true) j false) e ∙ getD-set-same named w true false (let r = v .many in omega arith)
-              ∙ sym (next-named i q ∙ ap (λ (t : Bool). cellsName (column (cellAt cells) i) q || t) (eq-eqb w q (sym e)) ∙ or-true (cellsName (column (cellAt cells) i) q))
+              ∙ sym (next-named i q ∙ ap (λ (t : Bool). cellsName (tabulate (cellAt cells) i) q || t) (eq-eqb w q (sym e)) ∙ or-true (cellsName (tabulate (cellAt cells) i) q))
           go (no ne) =
               getD-set-other named w q true false ne ∙ v .each q m
-              ∙ sym (next-named i q ∙ ap (λ (t : Bool). cellsName (column (cellAt cells) i) q || t) (ne-eqb w q (λ e. ne (sym e))) ∙ or-false (cellsName (column (cellAt cells) i) q))
+              ∙ sym (next-named i q ∙ ap (λ (t : Bool). cellsName (tabulate (cellAt cells) i) q || t) (ne-eqb w q (λ e. ne (sym e))) ∙ or-false (cellsName (tabulate (cellAt cells) i) q))
 
   -- cell i names one past them
   pub named-past : (named : List Bool) (i : ℕ) → Named cells named i → i < length cells / 2 → 72 ≤ getD cells (i * 2) 0 → Named cells named (i + 1)
@@ -85,30 +85,30 @@ module _ (cells : List ℕ) where
         each = λ q m.
             v .each q m
             ∙ sym
-            (next-named i q ∙ ap (λ (t : Bool). cellsName (column (cellAt cells) i) q || t) (ne-eqb (getD cells (i * 2) 0) q (λ e. omega arith))
-            ∙ or-false (cellsName (column (cellAt cells) i) q));
+            (next-named i q ∙ ap (λ (t : Bool). cellsName (tabulate (cellAt cells) i) q || t) (ne-eqb (getD cells (i * 2) 0) q (λ e. omega arith))
+            ∙ or-false (cellsName (tabulate (cellAt cells) i) q));
       }
 
   pub named-all : (named : List Bool) (i : ℕ) → Named cells named i → length cells / 2 ≤ i → (q : ℕ) → q < 72
       → getD named q false ≡ cellsName (cellsOf cells) q
   named-all named i v l q m =
-      v .each q m ∙ ap (λ (n : ℕ). cellsName (column (cellAt cells) n) q) (let u = v .upto in let e : i ≡ length cells / 2 = omega arith in e)
+      v .each q m ∙ ap (λ (n : ℕ). cellsName (tabulate (cellAt cells) n) q) (let u = v .upto in let e : i ≡ length cells / 2 = omega arith in e)
 
   -- ---- gathered
   abbrev pub is-named : ℕ → Bool
   is-named q = cellsName (cellsOf cells) q
 
-  those-next : (q : ℕ) → those is-named (below (q + 1)) ≡ those is-named (below q) ++ cond (is-named q) (q ∷ []) []
+  those-next : (q : ℕ) → filter is-named (range (q + 1)) ≡ filter is-named (range q) ++ cond (is-named q) (q ∷ []) []
   those-next q =
-      ap (λ (n : ℕ). those is-named (below n)) (add-one q) ∙ ap (those is-named) (column-suc (λ i. i) q)
-      ∙ those-append is-named (below q) (q ∷ [])
-      ∙ ap (λ (xs : List ℕ). those is-named (below q) ++ xs) one
+      ap (λ (n : ℕ). filter is-named (range n)) (add-one q) ∙ ap (filter is-named) (column-suc (λ i. i) q)
+      ∙ those-append is-named (range q) (q ∷ [])
+      ∙ ap (λ (xs : List ℕ). filter is-named (range q) ++ xs) one
     where
-      one : those is-named (q ∷ []) ≡ cond (is-named q) (q ∷ []) []
+      one : filter is-named (q ∷ []) ≡ cond (is-named q) (q ∷ []) []
       one = those-one is-named q
 
   pub gathered-none : (polys : ℕ) (of : List ℕ) → of ≡ replicate 72 0 → Gathered cells polys of 0 0
-  unfolding column those
+  unfolding tabulate filter
   gathered-none polys of e =
       record { upto = omega arith; few = omega arith; many = ap length e ∙ length-replicate {A = ℕ} 72 0; found = refl; rest = e }
 
@@ -123,7 +123,7 @@ module _ (cells : List ℕ) where
             ap (λ (n : ℕ). take n (set of count q)) (add-one count)
             ∙ take-suc-set of count q (let u = v .few in let w = v .many in omega arith)
             ∙ ap (λ (xs : List ℕ). xs ++ (q ∷ [])) (v .found)
-            ∙ sym (those-next q ∙ ap (λ (t : Bool). those is-named (below q) ++ cond t (q ∷ []) []) e);
+            ∙ sym (those-next q ∙ ap (λ (t : Bool). filter is-named (range q) ++ cond t (q ∷ []) []) e);
         rest =
             drop-set-lt (count + 1) of count q (omega arith) ∙ sym (drop-drop 1 count of)
             ∙ ap (drop 1)
@@ -140,7 +140,7 @@ module _ (cells : List ℕ) where
         many = v .many;
         found =
             v .found
-            ∙ sym (those-next q ∙ ap (λ (t : Bool). those is-named (below q) ++ cond t (q ∷ []) []) e ∙ append-nil (those is-named (below q)));
+            ∙ sym (those-next q ∙ ap (λ (t : Bool). filter is-named (range q) ++ cond t (q ∷ []) []) e ∙ append-nil (filter is-named (range q)));
         rest = v .rest;
       }
 
@@ -154,8 +154,8 @@ module _ (cells : List ℕ) where
       let u = v .upto in
       let w = v .few in
       let d = v .many in
-      let f : take count of ≡ those is-named (below polys) =
-      v .found ∙ ap (λ (n : ℕ). those is-named (below n)) (let e : q ≡ polys = omega arith in e)
+      let f : take count of ≡ filter is-named (range polys) =
+      v .found ∙ ap (λ (n : ℕ). filter is-named (range n)) (let e : q ≡ polys = omega arith in e)
       in (
         omega arith,
         f,

@@ -45,7 +45,7 @@ use denote.Triple.Walked.{Stays, stay-none-slice, walkOf, onExit, Ending, says, 
 use denote.Exit.{yes}
 use denote.Triple.Clauses.{Ended, Clauses, AtExit, closing, ensured, lasts}
 use Rattle.backend.specs.Circuit.{Section, bodyOf}
-use Rattle.backend.specs.Laid.{Laid}
+use Rattle.backend.specs.Laid.{ContentsValid}
 use Rattle.backend_sections.specs.declared.reader.Circuit.{Circuit}
 use Rattle.backend_sections.proofs.reader.Circuit as T
 use Rattle.backend_sections.proofs.reader.Circuit.Laws as T′
@@ -227,7 +227,7 @@ module _ {M : Type 1} (𝓤 : URA M) where
   section S = record {
     row = λ κs. ShrSlice (named 0) (κs .0) u64;
     mir = sliceTy (tyRef (named 0) imm (tyInt w64));
-    asked = λ ws. fact 𝓤 (Laid ws);
+    asked = λ ws. fact 𝓤 (ContentsValid ws);
     found = λ κs ws r. now r ≡ bodyOf ws S;
   }
 

@@ -1,6 +1,6 @@
 -- A section's accessor, at any place of the contents: a walk of its MIR, by hand. The struct is taken apart, and `section_words` is called on the words and the place. All that the walk knows of `section_words` is that it meets its contract.
 --     function s       the MIR of the accessor of the section at place s
---     hands            it meets any contract that asks `Laid` at least, and promises of the result that its words are the section's body, and no more
+--     hands            it meets any contract that asks `ContentsValid` at least, and promises of the result that its words are the section's body, and no more
 -- The struct is Copy: what it owns is had twice, one copy is kept whole for the exit, and of the other what the words own goes to the callee, beside the lifetime's token, which comes back.
 -- Assumes nothing.
 use mathlib.Core.Path.{_≡_, refl}
@@ -44,7 +44,7 @@ use denote.Triple.Walked.{says, needs, Stays, stay-none, walkOf, onExit, Ending,
 use denote.Exit.{yes}
 use denote.Triple.Clauses.{Ended, Clauses, AtExit, closing, ensured, lasts}
 use Rattle.backend.specs.Circuit.{sectionAt, bodyOf}
-use Rattle.backend.specs.Laid.{Laid}
+use Rattle.backend.specs.Laid.{ContentsValid}
 use Rattle.backend_sections.specs.declared.reader.Circuit.{Circuit}
 use Rattle.backend_sections.proofs.reader.Circuit as T
 use Rattle.backend_sections.proofs.reader.Circuit.Laws as T′
@@ -81,7 +81,7 @@ Found s d r = now r ≡ bodyOf (now (d .words)) (sectionAt s)
 module _ {M : Type 1} (𝓤 : URA M) (c : Clauses 𝓤 ended) where
   -- what c asks, and what it promises
   abbrev pub Asks : Type 1
-  Asks = (κs : Lfts 1) (d : Circuit) (g : c κs (d, tt) .ghost) → ent 𝓤 (c κs (d, tt) .requires g) (fact 𝓤 (Laid (now (d .words))))
+  Asks = (κs : Lfts 1) (d : Circuit) (g : c κs (d, tt) .ghost) → ent 𝓤 (c κs (d, tt) .requires g) (fact 𝓤 (ContentsValid (now (d .words))))
 
   abbrev pub Gives : ℕ → Type 1
   Gives s = (κs : Lfts 1) (d : Circuit) (g : c κs (d, tt) .ghost) (r : RefT (List ℕ)) (e : AtExit ended κs) → ent 𝓤 (fact 𝓤 (Found s d r)) (c κs (d, tt) .ensures g r e)
@@ -91,7 +91,7 @@ module _ {M : Type 1} (𝓤 : URA M) (H : Heap 𝓤) (A : Atoms 𝓤) (mem : Mem
   abbrev pub SectionWords : Contract 𝓤
   SectionWords = tripleOf 𝓤 H A sec.signature (sec.spec 𝓤 H A mem run)
 
-module _ {M : Type 1} (𝓤 : URA M) (H : Heap 𝓤) (A : Atoms 𝓤) (W : Given 𝓤 H A) (mem : Memory → SProp 𝓤) (run : Routine → Fun 𝓤) (s : ℕ) (low : s < 9) (c : Clauses 𝓤 ended) (gives : Gives 𝓤 c s) (κ : Lft) (q : Share) (d : Circuit) (g : c (κ, tt) (d, tt) .ghost) (laid : Laid (now (d .words))) where
+module _ {M : Type 1} (𝓤 : URA M) (H : Heap 𝓤) (A : Atoms 𝓤) (W : Given 𝓤 H A) (mem : Memory → SProp 𝓤) (run : Routine → Fun 𝓤) (s : ℕ) (low : s < 9) (c : Clauses 𝓤 ended) (gives : Gives 𝓤 c s) (κ : Lft) (q : Share) (d : Circuit) (g : c (κ, tt) (d, tt) .ghost) (laid : ContentsValid (now (d .words))) where
   abbrev mach : Val
   mach = T′.lowered d
 
@@ -181,7 +181,7 @@ module _ {M : Type 1} (𝓤 : URA M) (H : Heap 𝓤) (A : Atoms 𝓤) (W : Given
   walks : (C : Calls 𝓤 H) (Λ : Loops 𝓤 H) → FmC 𝓤 H (W .laws) C → Triple 𝓤 (C #backend-sections·reader·section-words) (SectionWords 𝓤 H A mem run)
       → Walks 𝓤 H A ended stayed (WpFn 𝓤 H C Λ (function s)) c
   walks C Λ fm known = walked 𝓤 H A ended stayed c (WpFn 𝓤 H C Λ (function s)) (λ κs. (LL.vals (T.the-type (namedLft 1 0 tt κs)) (T′.the-laws (namedLft 1 0 tt κs)), tt)) (λ κs. (LL.tells (T.the-type (namedLft 1 0 tt κs)) (T′.the-laws (namedLft 1 0 tt κs)), tt))
-      (λ κs qs bounds a g are. via 𝓤 (sep 𝓤 (Entry κs qs (a .0)) (fact 𝓤 (Laid (now (a .0 .words))))) (monoR 𝓤 (Entry κs qs (a .0)) (asks κs (a .0) g)) (needs 𝓤 _ _ (λ laid. walk 𝓤 H A W mem run s low c gives (κs .0) (qs .0) (a .0) g laid C Λ fm known (LL.lawful (T.the-type (namedLft 1 0 tt κs)) (T′.the-laws (namedLft 1 0 tt κs)) 𝓤 H A W .typed (a .0) _ (are .0) .0))))
+      (λ κs qs bounds a g are. via 𝓤 (sep 𝓤 (Entry κs qs (a .0)) (fact 𝓤 (ContentsValid (now (a .0 .words))))) (monoR 𝓤 (Entry κs qs (a .0)) (asks κs (a .0) g)) (needs 𝓤 _ _ (λ laid. walk 𝓤 H A W mem run s low c gives (κs .0) (qs .0) (a .0) g laid C Λ fm known (LL.lawful (T.the-type (namedLft 1 0 tt κs)) (T′.the-laws (namedLft 1 0 tt κs)) 𝓤 H A W .typed (a .0) _ (are .0) .0))))
 
   pub hands : (𝓣 : Tables 𝓤 H) → Triple 𝓤 (𝓣 .C #backend-sections·reader·section-words) (SectionWords 𝓤 H A mem run)
       → Meets 𝓤 H A (ended .signature) (WpFn 𝓤 H (𝓣 .C) (𝓣 .Λ) (function s)) (closing 𝓤 H A ended c)

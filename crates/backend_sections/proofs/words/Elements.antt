@@ -6,10 +6,10 @@ use Prim.Native.Nat.{ℕ, max}
 use native.Mathlib.Omega.{arith}
 use lib.Dec.{ltb}
 use Rattle.field.specs.Prime.{P}
-use Rattle.lists.specs.Lists.{allOf, largest}
+use Rattle.lists.specs.Lists.{allOf, maximum}
 use Rattle.field.specs.declared.goldilocks.Goldilocks.{Goldilocks}
 use Rattle.field.specs.declared.goldilocks.Parsed.{Parsed}
-use Rattle.field.specs.Parse.{Among, choose, parsed, numberAmong, numberOf}
+use Rattle.field.specs.Parse.{Among, choose, parsed, numberAmong, parsedNumber}
 
 -- ---- one word
 module _ (w : ℕ) where
@@ -22,11 +22,11 @@ module _ (w : ℕ) where
   large-above false e = refl
 
   pub answer-element : (x : Goldilocks) → parsed w ≡ Parsed.Element x
-      → (true ≡ ltb w P) × ((a : Among) → 0 ≡ numberOf a (parsed w))
-  answer-element x e = (element-below (ltb w P) x e, λ a. ap (numberOf a) (sym e))
+      → (true ≡ ltb w P) × ((a : Among) → 0 ≡ parsedNumber a (parsed w))
+  answer-element x e = (element-below (ltb w P) x e, λ a. ap (parsedNumber a) (sym e))
 
-  pub answer-large : parsed w ≡ Parsed.TooLarge → (false ≡ ltb w P) × ((a : Among) → numberAmong a ≡ numberOf a (parsed w))
-  answer-large e = (large-above (ltb w P) e, λ a. ap (numberOf a) (sym e))
+  pub answer-large : parsed w ≡ Parsed.TooLarge → (false ≡ ltb w P) × ((a : Among) → numberAmong a ≡ parsedNumber a (parsed w))
+  answer-large e = (large-above (ltb w P) e, λ a. ap (parsedNumber a) (sym e))
 
 -- ---- all words
 max-zero : (n : ℕ) → max 0 n ≡ n
@@ -37,18 +37,18 @@ max-same n true = omega arith
 max-same n false = omega arith
 
 module _ (a : Among) where
-  all-number : (ws : List ℕ) → cond (allOf (λ w. ltb w P) ws) 0 (numberAmong a) ≡ largest (map (λ w. numberOf a (parsed w)) ws)
-  unfolding allOf largest
+  all-number : (ws : List ℕ) → cond (allOf (λ w. ltb w P) ws) 0 (numberAmong a) ≡ maximum (map (λ w. parsedNumber a (parsed w)) ws)
+  unfolding allOf maximum
   all-number [] = refl
   all-number (w ∷ ws) = by (ltb w P) (all-number ws)
     where
       by : (t : Bool)
-          → cond (allOf (λ w. ltb w P) ws) 0 (numberAmong a) ≡ largest (map (λ w. numberOf a (parsed w)) ws)
+          → cond (allOf (λ w. ltb w P) ws) 0 (numberAmong a) ≡ maximum (map (λ w. parsedNumber a (parsed w)) ws)
           → cond (t && allOf (λ w. ltb w P) ws) 0 (numberAmong a)
-          ≡ max (numberOf a (choose t w)) (largest (map (λ w. numberOf a (parsed w)) ws))
-      by true e = e ∙ sym (max-zero (largest (map (λ w. numberOf a (parsed w)) ws)))
+          ≡ max (parsedNumber a (choose t w)) (maximum (map (λ w. parsedNumber a (parsed w)) ws))
+      by true e = e ∙ sym (max-zero (maximum (map (λ w. parsedNumber a (parsed w)) ws)))
       by false e = sym (ap (max (numberAmong a)) (sym e) ∙ max-same (numberAmong a) (allOf (λ w. ltb w P) ws))
 
 pub words-number : (ws : List ℕ) (r : Bool) → r ≡ allOf (λ w. ltb w P) ws
-    → (r ≡ allOf (λ w. ltb w P) ws) × ((a : Among) → cond r 0 (numberAmong a) ≡ largest (map (λ w. numberOf a (parsed w)) ws))
+    → (r ≡ allOf (λ w. ltb w P) ws) × ((a : Among) → cond r 0 (numberAmong a) ≡ maximum (map (λ w. parsedNumber a (parsed w)) ws))
 words-number ws r e = (e, λ a. ap (λ (t : Bool). cond t 0 (numberAmong a)) e ∙ all-number a ws)

@@ -10,7 +10,7 @@ use lib.ListN.{getD, replicate}
 use lib.Dec.{eqb, ltb}
 use borrow.Author.Tests.{eqb-true, eq-eqb, ltb-true}
 use Rattle.field.specs.Field.{𝔾, val}
-use Rattle.lists.specs.Lists.{allOf, below, column}
+use Rattle.lists.specs.Lists.{allOf, range, tabulate}
 use Rattle.expression.specs.Expr.{Expr}
 use Rattle.expression.specs.Value.{valueAt}
 use Rattle.backend.specs.Circuit.{Pair, rowsOf, numCopied, numLookups}
@@ -97,13 +97,13 @@ apart x y e z = false-true (sym (ap not (eq-eqb (val x) (val y) (ap val z))) ∙
 each : {A : Type 0} (d : A) (xs : List A) (t : A → Bool) (Q : A → Type 0) → ((x : A) → t x ≡ true → Q x) → allOf t xs ≡ true → Each d xs Q
 each d xs t Q f e i l = f (getD xs i d) (all-each t d xs e i l)
 
-each-below : (n : ℕ) (t : ℕ → Bool) (Q : ℕ → Type 0) → ((b : ℕ) → t b ≡ true → Q b) → allOf t (below n) ≡ true → (b : ℕ) → b < n → Q b
-each-below n t Q f e b l = f b (ap t (sym (below-get n b 0 l)) ∙ all-each t 0 (below n) e b (rw below-length l))
+each-below : (n : ℕ) (t : ℕ → Bool) (Q : ℕ → Type 0) → ((b : ℕ) → t b ≡ true → Q b) → allOf t (range n) ≡ true → (b : ℕ) → b < n → Q b
+each-below n t Q f e b l = f b (ap t (sym (below-get n b 0 l)) ∙ all-each t 0 (range n) e b (rw below-length l))
 
 -- ---- the premises, each a test that is computed
 
 abbrev rows : List ℕ
-rows = below (rowsOf (log .circuit))
+rows = range (rowsOf (log .circuit))
 
 -- the value of a user's expression at a row
 abbrev valued : Expr → ℕ → 𝔾 .F
@@ -135,7 +135,7 @@ tables = refl
 abbrev factor-at : ℕ → ℕ → 𝔾 .F
 factor-at i b = permutationFactorAt 𝔾 log i b
 
-factors : allOf (λ i. allOf (λ b. not (same (factor-at i b) (𝔾 .zero))) rows) (below (numCopied (log .circuit))) ≡ true
+factors : allOf (λ i. allOf (λ b. not (same (factor-at i b) (𝔾 .zero))) rows) (range (numCopied (log .circuit))) ≡ true
 unfolding everything
 factors = refl
 
@@ -261,7 +261,7 @@ pub listed-twice : Each noPair lookup (λ p. valued (p .table) 4 ≡ valued (p .
 listed-twice = each _ _ _ _ (λ p. agree (valued (p .table) 4) (valued (p .table) 5)) twice
 
 -- the words of m: 3 at the last of these two rows, and 0 at the other
-pub counts : column (mWord (log .circuit) (build .columns) 0) (rowsOf (log .circuit)) ≡ m-words
+pub counts : tabulate (mWord (log .circuit) (build .columns) 0) (rowsOf (log .circuit)) ≡ m-words
 unfolding everything
 counts = refl
 
@@ -281,7 +281,7 @@ unfolding everything
 h-moves = apart (lookupHAt 𝔾 log lookup 5) (𝔾 .zero) refl
 
 -- each z column is neither 0 nor 1 at row 2
-moves-at-2 : allOf (λ i. not (same (zAt 𝔾 log i 2) (𝔾 .zero)) && not (same (zAt 𝔾 log i 2) (𝔾 .one))) (below (numZ (log .circuit))) ≡ true
+moves-at-2 : allOf (λ i. not (same (zAt 𝔾 log i 2) (𝔾 .zero)) && not (same (zAt 𝔾 log i 2) (𝔾 .one))) (range (numZ (log .circuit))) ≡ true
 unfolding everything
 moves-at-2 = refl
 

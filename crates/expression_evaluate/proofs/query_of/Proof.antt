@@ -2,7 +2,7 @@ use mathlib.Core.Path.{ap₂, _∙_, subst⁻¹}
 use Prim.Native.Nat.{ℕ}
 use Rattle.field.specs.Field.{𝔾}
 use Rattle.expression.specs.Value.{polyOf}
-use Rattle.expression.specs.Reader.{polysOf, Small}
+use Rattle.expression.specs.Reader.{polysOf, LayoutSmall}
 use Rattle.expression.specs.Point.{polyValue}
 use Rattle.expression.specs.declared.poly.Layout.{Layout}
 use Rattle.expression_evaluate.specs.Lent.{lent}
@@ -18,7 +18,7 @@ rotated-row-requires c κs = search needs
 
 poly-of-requires : tie.Need-poly-of-requires
 poly-of-requires c κs = (
-  subst⁻¹ Small (c .layout-of .ensures) (c .before .before .pre .layout),
+  subst⁻¹ LayoutSmall (c .layout-of .ensures) (c .before .before .pre .layout),
   c .before .rotated-row .ensures .1,
 )
 

@@ -5,7 +5,7 @@ use mathlib.Core.List.{List}
 use Prim.Native.Nat.{ℕ}
 use Rattle.expression.specs.Expr.{evaluate}
 use Rattle.expression.specs.Nodes.{exprOf}
-use Rattle.expression.specs.Point.{Ready, opsOf}
+use Rattle.expression.specs.Point.{ContextReady, opsOf}
 use Rattle.expression.proofs.Context.{ready-context, at-context}
 use Rattle.expression_evaluate.proofs.value.Statement.{statement}
 use Rattle.expression_evaluate.proofs.value.Tie as tie
@@ -17,7 +17,7 @@ node-value-requires : tie.Need-node-value-requires
 node-value-requires c κs =
     let a = c .before .before .before .before .before .before .before .before in (
       a .pre .0,
-      subst⁻¹ Ready (c .before .before .context .ensures) (ready-context (a .args .layout) (a .args .point) (a .pre .1 .0) (a .pre .1 .1)),
+      subst⁻¹ ContextReady (c .before .before .context .ensures) (ready-context (a .args .layout) (a .args .point) (a .pre .1 .0) (a .pre .1 .1)),
     )
 
 from-u64-requires : tie.Need-from-u64-requires

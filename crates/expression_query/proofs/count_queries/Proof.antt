@@ -4,7 +4,7 @@ use mathlib.Core.Logic.{⊎-elim}
 use Prim.Native.Nat.{ℕ, _+_, _-_, _*_, _/_, _%_, _≤_}
 use native.Mathlib.Nat.{mod-lt}
 use native.Mathlib.Omega.{arith}
-use Rattle.lists.specs.Lists.{column, countOf}
+use Rattle.lists.specs.Lists.{tabulate, countOf}
 use Rattle.expression.specs.Expr.{usedQuery}
 use Rattle.expression.specs.Nodes.{exprOf}
 use Rattle.expression.specs.Queries.{queryOf, candidates, usedQueries}
@@ -15,7 +15,7 @@ use Rattle.expression_query.proofs.count_queries.Tie as tie
 
 abbrev Inv-loop : tie.InvT-loop
 Inv-loop ws n polys k wide low end count₀ i₀ count i =
-    (i ≤ end) × (count ≤ i) × (count ≡ countOf (usedQuery (exprOf ws n)) (column (λ j. queryOf (j / wide) (low + j % wide)) i))
+    (i ≤ end) × (count ≤ i) × (count ≡ countOf (usedQuery (exprOf ws n)) (tabulate (λ j. queryOf (j / wide) (low + j % wide)) i))
 
 abbrev μ-loop : tie.MeasureT-loop
 μ-loop ws n polys k wide low end count₀ i₀ count i = end - i
@@ -79,7 +79,7 @@ returns c =
     let a = c .before .before .before .args in
     let l = c .before .loop in
     l .inv .2
-    ∙ ap (λ (m : ℕ). countOf (usedQuery (exprOf (a .ws .now) (a .n))) (column (candidate (a .k)) m))
+    ∙ ap (λ (m : ℕ). countOf (usedQuery (exprOf (a .ws .now) (a .n))) (tabulate (candidate (a .k)) m))
     (let e : l .i ≡ a .polys * (a .k + a .k + 1) = omega arith in e)
 
 pub count-queries-spec : {M : Type 1} → statement M

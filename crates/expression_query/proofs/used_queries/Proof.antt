@@ -5,7 +5,7 @@ use Prim.Native.Nat.{ℕ, _+_, _-_, _*_, _/_, _%_, _≤_, _<_}
 use native.Mathlib.Nat.{mod-lt}
 use native.Mathlib.Omega.{arith}
 use lib.ListN.{length, length-set}
-use Rattle.lists.specs.Lists.{column, those, over}
+use Rattle.lists.specs.Lists.{tabulate, filter, writeAt}
 use Rattle.expression.specs.Expr.{usedQuery}
 use Rattle.expression.specs.Nodes.{exprOf}
 use Rattle.expression.specs.Queries.{queryOf, candidates, usedQueries, queryWords}
@@ -134,7 +134,7 @@ returns-2 c =
     let h : length (usedQueries e (a .polys) (a .k)) ≤ length (a .out .now) / 2 = omega (arith, q .ensures, c .before .before .if1 .left) in (
       q .ensures,
       into-all (usedQueries e (a .polys) (a .k)) (a .out .now) (l .out) h
-          (l .inv .2 .0 ∙ ap (λ (m : ℕ). over (a .out .now) 0 (queryWords (those (usedQuery e) (column (candidate (a .k)) m)))) z),
+          (l .inv .2 .0 ∙ ap (λ (m : ℕ). writeAt (a .out .now) 0 (queryWords (filter (usedQuery e) (tabulate (candidate (a .k)) m)))) z),
     )
 
 pub used-queries-spec : {M : Type 1} → statement M

@@ -7,7 +7,7 @@ use native.Mathlib.Nat.{mul-assoc, add-mul, mul-le-mul, mul-le-mul-right}
 use lib.ListN.{length, getD, take}
 use Rattle.field.specs.Prime.{P}
 use Rattle.field.specs.Field.{𝔾, el, val, val-el}
-use Rattle.lists.specs.Lists.{below, column, concat, over, split, total}
+use Rattle.lists.specs.Lists.{range, tabulate, concat, writeAt, split, total}
 use Rattle.lists.proofs.Columns.{column-cong, map-column}
 use Rattle.expression.specs.declared.poly.Layout.{Layout}
 use Rattle.backend.specs.Circuit.{
@@ -21,7 +21,7 @@ use Rattle.backend.specs.Circuit.{
   rowsOf,
   numInstance,
   numWitness,
-  numUser,
+  numChallenges,
   numLookups,
   copied,
   numCopied,
@@ -34,7 +34,7 @@ use Rattle.prover.specs.Running.{zOf}
 use Rattle.prover.specs.Words.{wordsOf}
 use Rattle.prover.specs.Lent.{Given, Behind, environmentFromWords, compressedPolysIn, ratioInWords}
 use Rattle.prover.proofs.Lent.{lookups-are}
-use Rattle.hyperplonk_prepare.specs.Prepared.{Accepted, layoutOf, permutationOffset, compressedOffset, zOffset}
+use Rattle.hyperplonk_prepare.specs.Prepared.{Accepted, layoutFromWords, permutationOffset, compressedOffset, zOffset}
 use Rattle.hyperplonk_prepare.proofs.Accepted as accepted
 
 pub layout-is : (ws : List ℕ) (rows witness instances preprocess start : ℕ) → rows ≡ 2 ^ wordK ws → witness ≡ numWitness (circuitOf ws)
@@ -50,8 +50,8 @@ pub layout-is : (ws : List ℕ) (rows witness instances preprocess start : ℕ) 
       skipped = 0;
       rest = 0;
     })
-    (layoutOf ws)
-unfolding layoutOf
+    (layoutFromWords ws)
+unfolding layoutFromWords
 layout-is ws rows witness instances preprocess start a b c d e = rw (a, b, c, d, e)
 
 module _ (ws : List ℕ) (a : Accepted ws) where
@@ -72,24 +72,24 @@ module _ (ws : List ℕ) (a : Accepted ws) where
       )
 
   pub instance-written : (k : ℕ) (lengths instance d new : List ℕ) → k ≡ wordK ws → lengths ≡ bodyOf ws Section.instances
-      → new ≡ over d 0 (wordsOf (2 ^ k) (map (λ vs b. instanceAt 𝔾 k (map el vs) b) (split lengths instance)))
+      → new ≡ writeAt d 0 (wordsOf (2 ^ k) (map (λ vs b. instanceAt 𝔾 k (map el vs) b) (split lengths instance)))
       → new
-      ≡ over d 0
+      ≡ writeAt d 0
       (wordsOf (rowsOf (circuitOf ws))
       (map (λ vs b. instanceAt 𝔾 (circuitOf ws .k) (map el vs) b) (split (circuitOf ws .instances) instance)))
   unfolding circuitOf
   instance-written k lengths instance d new ek e h =
       h
-      ∙ ap₂ (λ (k : ℕ) (ls : List ℕ). over d 0 (wordsOf (2 ^ k) (map (λ vs b. instanceAt 𝔾 k (map el vs) b) (split ls instance)))) ek e
+      ∙ ap₂ (λ (k : ℕ) (ls : List ℕ). writeAt d 0 (wordsOf (2 ^ k) (map (λ vs b. instanceAt 𝔾 k (map el vs) b) (split ls instance)))) ek e
 
   -- ---- where columns begin
-  module _ (l : Layout) (is : l ≡ layoutOf ws) where
+  module _ (l : Layout) (is : l ≡ layoutFromWords ws) where
     pub rows-of : l .rows ≡ rowsOf (circuitOf ws)
-    unfolding layoutOf circuitOf
+    unfolding layoutFromWords circuitOf
     rows-of = ap (λ (l : Layout). l .rows) is
 
     pub instances-of : l .instances ≡ numInstance (circuitOf ws)
-    unfolding layoutOf
+    unfolding layoutFromWords
     instances-of = ap (λ (l : Layout). l .instances) is ∙ accepted.instances-entries ws a
 
     pub given-of : Given (circuitOf ws .k) l
@@ -149,20 +149,20 @@ module _ (ws : List ℕ) (a : Accepted ws) where
       omega arith
 
   pub label-words : permutationColumns (copied (circuitOf ws)) (rowsOf (circuitOf ws)) (circuitOf ws .cycles)
-      ≡ wordsOf (rowsOf (circuitOf ws)) (map (λ i b. el (label (circuitOf ws) i b)) (below (numCopied (circuitOf ws))))
+      ≡ wordsOf (rowsOf (circuitOf ws)) (map (λ i b. el (label (circuitOf ws) i b)) (range (numCopied (circuitOf ws))))
   unfolding wordsOf
   label-words =
       let c : Circuit = circuitOf ws in
       let R : ℕ = rowsOf c in
       let n : ℕ = numCopied c in
-      let words : (ℕ → 𝔾 .F) → List ℕ = λ p. column (λ b. val (p b)) R in
+      let words : (ℕ → 𝔾 .F) → List ℕ = λ p. tabulate (λ b. val (p b)) R in
       label-columns c
       ∙ ap concat
-      (column-cong (λ i. column (label c i) R) (λ i. column (λ b. val (el (label c i b))) R) n
+      (column-cong (λ i. tabulate (label c i) R) (λ i. tabulate (λ b. val (el (label c i b))) R) n
       (λ i l. column-cong (label c i) (λ b. val (el (label c i b))) R (λ b m. sym (val-el (label c i b) (label-small i b l m))))
       ∙ sym (ap (map words) (map-column (λ i b. el (label c i b)) (λ i. i) n) ∙ map-column words (λ i b. el (label c i b)) n))
 
-  pub permutation-asks : (l : Layout) (names lengths cells columns : List ℕ) → l ≡ layoutOf ws → names ≡ copied (circuitOf ws)
+  pub permutation-asks : (l : Layout) (names lengths cells columns : List ℕ) → l ≡ layoutFromWords ws → names ≡ copied (circuitOf ws)
       → lengths ≡ bodyOf ws Section.lengths → cells ≡ bodyOf ws Section.cells → compressedOffset (circuitOf ws) ≤ length columns
       → Walkable names (l .rows) (split lengths (cellsOf cells))
       × ((total lengths ≡ length cells / 2) × (l .instances * l .rows + length names * l .rows ≤ length columns))
@@ -175,22 +175,22 @@ module _ (ws : List ℕ) (a : Accepted ws) where
         ),
       )
 
-  pub permutation-written : (l : Layout) (names lengths cells d new : List ℕ) → l ≡ layoutOf ws → names ≡ copied (circuitOf ws)
+  pub permutation-written : (l : Layout) (names lengths cells d new : List ℕ) → l ≡ layoutFromWords ws → names ≡ copied (circuitOf ws)
       → lengths ≡ bodyOf ws Section.lengths → cells ≡ bodyOf ws Section.cells
-      → new ≡ over d (l .instances * l .rows) (permutationColumns names (l .rows) (split lengths (cellsOf cells)))
+      → new ≡ writeAt d (l .instances * l .rows) (permutationColumns names (l .rows) (split lengths (cellsOf cells)))
       → new
-      ≡ over d (permutationOffset (circuitOf ws))
-      (wordsOf (rowsOf (circuitOf ws)) (map (λ i b. el (label (circuitOf ws) i b)) (below (numCopied (circuitOf ws)))))
+      ≡ writeAt d (permutationOffset (circuitOf ws))
+      (wordsOf (rowsOf (circuitOf ws)) (map (λ i b. el (label (circuitOf ws) i b)) (range (numCopied (circuitOf ws)))))
   permutation-written l names lengths cells d new is en el' ec h =
       h
-      ∙ ap₂ (over d) (permutations-at l is)
+      ∙ ap₂ (writeAt d) (permutations-at l is)
       (ap₂ (λ (rows : ℕ) (names : List ℕ). permutationColumns names rows (split lengths (cellsOf cells))) (rows-of l is) en
       ∙ ap₂ (λ (ls cs : List ℕ). permutationColumns (copied (circuitOf ws)) (rowsOf (circuitOf ws)) (split ls (cellsOf cs))) el' ec
       ∙ ap (permutationColumns (copied (circuitOf ws)) (rowsOf (circuitOf ws))) (accepted.cycles-are ws a)
       ∙ label-words)
 
   -- ---- compressed columns
-  pub compressed-asks : (l : Layout) (k to : ℕ) (nodes widths pairs columns : List ℕ) → l ≡ layoutOf ws → k ≡ circuitOf ws .k
+  pub compressed-asks : (l : Layout) (k to : ℕ) (nodes widths pairs columns : List ℕ) → l ≡ layoutFromWords ws → k ≡ circuitOf ws .k
       → nodes ≡ bodyOf ws Section.nodes → widths ≡ bodyOf ws Section.widths → pairs ≡ bodyOf ws Section.pairs
       → numInstance (circuitOf ws) * 2 ^ k ≤ to → to + numLookups (circuitOf ws) * (2 ^ k + 2 ^ k) ≤ length columns
       → Behind k l nodes columns to (length widths * (2 ^ k + 2 ^ k)) × (total widths * 2 ≤ length pairs)
@@ -213,18 +213,18 @@ module _ (ws : List ℕ) (a : Accepted ws) where
   pub compressed-written : (l : Layout) (k to : ℕ) (β : 𝔾 .F) (nodes widths pairs witness user d new : List ℕ)
       → nodes ≡ bodyOf ws Section.nodes → widths ≡ bodyOf ws Section.widths → pairs ≡ bodyOf ws Section.pairs
       → new
-      ≡ over d to
+      ≡ writeAt d to
       (wordsOf (2 ^ k)
       (compressedPolysIn 𝔾 (environmentFromWords ws witness d user l k) β (split widths (pairsOf nodes pairs))))
       → new
-      ≡ over d to
+      ≡ writeAt d to
       (wordsOf (2 ^ k) (compressedPolysIn 𝔾 (environmentFromWords ws witness d user l k) β (circuitOf ws .lookups)))
   compressed-written l k to β nodes widths pairs witness user d new en ew ep h =
       h
-      ∙ ap (λ ls. over d to (wordsOf (2 ^ k) (compressedPolysIn 𝔾 (environmentFromWords ws witness d user l k) β ls)))
+      ∙ ap (λ ls. writeAt d to (wordsOf (2 ^ k) (compressedPolysIn 𝔾 (environmentFromWords ws witness d user l k) β ls)))
       (ap₂ split ew (ap₂ pairsOf en ep) ∙ lookups-are ws (accepted.pairs-length ws a))
 
-  pub compressed-room : (l : Layout) (k n : ℕ) (columns : List ℕ) → l ≡ layoutOf ws → k ≡ wordK ws → n ≡ numCopied (circuitOf ws)
+  pub compressed-room : (l : Layout) (k n : ℕ) (columns : List ℕ) → l ≡ layoutFromWords ws → k ≡ wordK ws → n ≡ numCopied (circuitOf ws)
       → compressedOffset (circuitOf ws) + numLookups (circuitOf ws) * 2 * rowsOf (circuitOf ws) ≤ length columns
       → (k ≡ circuitOf ws .k) × (numInstance (circuitOf ws) * 2 ^ k ≤ (l .instances + n) * l .rows)
       × ((l .instances + n) * l .rows + numLookups (circuitOf ws) * (2 ^ k + 2 ^ k) ≤ length columns)
@@ -239,32 +239,32 @@ module _ (ws : List ℕ) (a : Accepted ws) where
             omega arith),
       )
 
-  pub compressed-all : (l : Layout) (k n user : ℕ) (β : 𝔾 .F) (witness challenges d new : List ℕ) → l ≡ layoutOf ws → k ≡ wordK ws
-      → n ≡ numCopied (circuitOf ws) → user ≡ numUser (circuitOf ws) → β ≡ el (getD challenges user 0)
+  pub compressed-all : (l : Layout) (k n user : ℕ) (β : 𝔾 .F) (witness challenges d new : List ℕ) → l ≡ layoutFromWords ws → k ≡ wordK ws
+      → n ≡ numCopied (circuitOf ws) → user ≡ numChallenges (circuitOf ws) → β ≡ el (getD challenges user 0)
       → new
-      ≡ over d ((l .instances + n) * l .rows)
+      ≡ writeAt d ((l .instances + n) * l .rows)
       (wordsOf (2 ^ k) (compressedPolysIn 𝔾 (environmentFromWords ws witness d (take (user - 0) challenges) l k) β (circuitOf ws .lookups)))
       → new
-      ≡ over d (compressedOffset (circuitOf ws))
+      ≡ writeAt d (compressedOffset (circuitOf ws))
       (wordsOf (rowsOf (circuitOf ws))
       (compressedPolysIn 𝔾
-      (environmentFromWords ws witness d (take (numUser (circuitOf ws)) challenges) (layoutOf ws) (circuitOf ws .k))
-      (el (getD challenges (numUser (circuitOf ws)) 0))
+      (environmentFromWords ws witness d (take (numChallenges (circuitOf ws)) challenges) (layoutFromWords ws) (circuitOf ws .k))
+      (el (getD challenges (numChallenges (circuitOf ws)) 0))
       (circuitOf ws .lookups)))
   compressed-all l k n user β witness challenges d new is ek en eu eb h =
       let c : Circuit = circuitOf ws in
       let to : ℕ = compressedOffset c in
       let write : ℕ → Layout → ℕ → 𝔾 .F → List ℕ = λ k l user β.
-      over d to (wordsOf (2 ^ k) (compressedPolysIn 𝔾 (environmentFromWords ws witness d (take user challenges) l k) β (c .lookups))) in
+      writeAt d to (wordsOf (2 ^ k) (compressedPolysIn 𝔾 (environmentFromWords ws witness d (take user challenges) l k) β (c .lookups))) in
       h
-      ∙ ap₂ (λ (to m : ℕ). over d to (wordsOf (2 ^ k) (compressedPolysIn 𝔾 (environmentFromWords ws witness d (take m challenges) l k) β (c .lookups))))
+      ∙ ap₂ (λ (to m : ℕ). writeAt d to (wordsOf (2 ^ k) (compressedPolysIn 𝔾 (environmentFromWords ws witness d (take m challenges) l k) β (c .lookups))))
       (compressed-at l is n en)
       (let q : user - 0 ≡ user = omega arith in q)
       ∙ ap₂ (λ (k : ℕ) (l : Layout). write k l user β) (ek ∙ sym (accepted.k-is ws a)) is
-      ∙ ap₂ (λ (user : ℕ) (β : 𝔾 .F). write (c .k) (layoutOf ws) user β) eu (eb ∙ ap (λ (user : ℕ). el (getD challenges user 0)) eu)
+      ∙ ap₂ (λ (user : ℕ) (β : 𝔾 .F). write (c .k) (layoutFromWords ws) user β) eu (eb ∙ ap (λ (user : ℕ). el (getD challenges user 0)) eu)
 
   -- ---- z columns
-  pub z-asks : (l : Layout) (k parts lookups : ℕ) (names columns : List ℕ) → l ≡ layoutOf ws → k ≡ wordK ws → lookups ≡ getD ws 13 0
+  pub z-asks : (l : Layout) (k parts lookups : ℕ) (names columns : List ℕ) → l ≡ layoutFromWords ws → k ≡ wordK ws → lookups ≡ getD ws 13 0
       → names ≡ copied (circuitOf ws) → parts ≡ numZ (circuitOf ws)
       → zOffset (circuitOf ws) + numZ (circuitOf ws) * rowsOf (circuitOf ws) ≤ length columns
       → ((0 < k) × (k < 21)) × Given k l × (parts ≤ length names) × (length names ≤ 1048576)
@@ -282,19 +282,19 @@ module _ (ws : List ℕ) (a : Accepted ws) where
         rw (zs-at l is (length names) lookups n em, same, ez) room,
       )
 
-  pub z-written : (l : Layout) (k parts lookups user : ℕ) (beta gamma : 𝔾 .F) (names witness challenges d new : List ℕ) → l ≡ layoutOf ws
-      → k ≡ wordK ws → lookups ≡ getD ws 13 0 → names ≡ copied (circuitOf ws) → parts ≡ numZ (circuitOf ws) → user ≡ numUser (circuitOf ws)
+  pub z-written : (l : Layout) (k parts lookups user : ℕ) (beta gamma : 𝔾 .F) (names witness challenges d new : List ℕ) → l ≡ layoutFromWords ws
+      → k ≡ wordK ws → lookups ≡ getD ws 13 0 → names ≡ copied (circuitOf ws) → parts ≡ numZ (circuitOf ws) → user ≡ numChallenges (circuitOf ws)
       → beta ≡ el (getD challenges user 0) → gamma ≡ el (getD challenges (user + 1) 0)
       → new
-      ≡ over d ((l .instances + length names + lookups * 4) * l .rows)
-      (wordsOf (2 ^ k) (column (zOf 𝔾 (ratioInWords l ws witness d names beta gamma) k (length names) parts) parts))
+      ≡ writeAt d ((l .instances + length names + lookups * 4) * l .rows)
+      (wordsOf (2 ^ k) (tabulate (zOf 𝔾 (ratioInWords l ws witness d names beta gamma) k (length names) parts) parts))
       → new
-      ≡ over d (zOffset (circuitOf ws))
+      ≡ writeAt d (zOffset (circuitOf ws))
       (wordsOf (rowsOf (circuitOf ws))
-      (column
+      (tabulate
       (zOf 𝔾
-      (ratioInWords (layoutOf ws) ws witness d (copied (circuitOf ws)) (el (getD challenges (numUser (circuitOf ws)) 0))
-      (el (getD challenges (numUser (circuitOf ws) + 1) 0)))
+      (ratioInWords (layoutFromWords ws) ws witness d (copied (circuitOf ws)) (el (getD challenges (numChallenges (circuitOf ws)) 0))
+      (el (getD challenges (numChallenges (circuitOf ws) + 1) 0)))
       (circuitOf ws .k)
       (numCopied (circuitOf ws))
       (numZ (circuitOf ws)))
@@ -302,12 +302,12 @@ module _ (ws : List ℕ) (a : Accepted ws) where
   z-written l k parts lookups user beta gamma names witness challenges d new is ek em en ez eu eb eg h =
       let c : Circuit = circuitOf ws in
       let write : ℕ → Layout → ℕ → List ℕ → ℕ → 𝔾 .F → 𝔾 .F → List ℕ = λ to l k names parts beta gamma.
-      over d to (wordsOf (2 ^ k) (column (zOf 𝔾 (ratioInWords l ws witness d names beta gamma) k (length names) parts) parts)) in
+      writeAt d to (wordsOf (2 ^ k) (tabulate (zOf 𝔾 (ratioInWords l ws witness d names beta gamma) k (length names) parts) parts)) in
       h
       ∙ ap₂ (λ (to k : ℕ). write to l k names parts beta gamma) (zs-at l is (length names) lookups (ap length en) em)
       (ek ∙ sym (accepted.k-is ws a))
       ∙ ap₂ (λ (l : Layout) (names : List ℕ). write (zOffset c) l (c .k) names parts beta gamma) is en
-      ∙ ap (λ (parts : ℕ). write (zOffset c) (layoutOf ws) (c .k) (copied c) parts beta gamma) ez
-      ∙ ap₂ (λ (beta gamma : 𝔾 .F). write (zOffset c) (layoutOf ws) (c .k) (copied c) (numZ c) beta gamma)
+      ∙ ap (λ (parts : ℕ). write (zOffset c) (layoutFromWords ws) (c .k) (copied c) parts beta gamma) ez
+      ∙ ap₂ (λ (beta gamma : 𝔾 .F). write (zOffset c) (layoutFromWords ws) (c .k) (copied c) (numZ c) beta gamma)
       (eb ∙ ap (λ (user : ℕ). el (getD challenges user 0)) eu)
       (eg ∙ ap (λ (user : ℕ). el (getD challenges (user + 1) 0)) eu)

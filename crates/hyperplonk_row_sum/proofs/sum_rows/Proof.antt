@@ -11,7 +11,7 @@ use Rattle.expression.specs.Nodes.{exprOf}
 use Rattle.expression.specs.Value.{valueAt}
 use Rattle.backend.specs.Circuit.{circuitOf}
 use Rattle.preprocessor.specs.Compose.{composedNodes}
-use Rattle.hyperplonk_spec.specs.RowSum.{environmentFromWords}
+use Rattle.hyperplonk_spec.specs.RowSum.{rowSumEnvironment}
 use Rattle.hyperplonk_row_sum.proofs.Rows.{Added, added-none, added-more}
 use Rattle.hyperplonk_row_sum.proofs.Summed.{k-low, k-high, values-there, root-there, root-node, layout-small, placed, value-is, sum-is}
 use Rattle.hyperplonk_row_sum.proofs.sum_rows.Statement.{statement}
@@ -19,7 +19,7 @@ use Rattle.hyperplonk_row_sum.proofs.sum_rows.Tie as tie
 
 abbrev Inv-loop : tie.InvT-loop
 Inv-loop circuit witness columns nodes challenges y layout k rows root sum₀ row₀ place₀ sum row place =
-    (row ≡ rowAt k place) × (place ≤ 2 ^ k) × Added k (valueAt 𝔾 (environmentFromWords circuit witness columns challenges y) (exprOf nodes (composedNodes (circuitOf circuit) - 1))) (elem sum) place
+    (row ≡ rowAt k place) × (place ≤ 2 ^ k) × Added k (valueAt 𝔾 (rowSumEnvironment circuit witness columns challenges y) (exprOf nodes (composedNodes (circuitOf circuit) - 1))) (elem sum) place
 
 abbrev μ-loop : tie.MeasureT-loop
 μ-loop circuit witness columns nodes challenges y layout k rows root sum₀ row₀ place₀ sum row place = rows - place

@@ -4,7 +4,7 @@ use mathlib.Core.List.{[], _∷_, _++_}
 use native.Mathlib.Omega.{arith}
 use borrow.Author.Needs.{needs}
 use Rattle.field.specs.Field.{𝔾, val}
-use Rattle.lists.specs.Lists.{allOf, over, column as columnOf}
+use Rattle.lists.specs.Lists.{allOf, writeAt, tabulate as columnOf}
 use Rattle.backend.specs.Questions.{goodK, small}
 use Rattle.backend.proofs.Answers.{says-no, says-yes}
 use Rattle.prover.specs.Lookup.{hAt}
@@ -118,7 +118,7 @@ returns-5 c =
     let n = two at .before .rows-of .ensures in
     column-done _ _ _ _ _ n
     (column .ensures
-    ∙ ap (λ (γ : 𝔾 .F). over (a .h .now) 0 (columnOf (λ b. val (hAt 𝔾 γ (elements (a .input .now)) (elements (a .table .now)) (elements (a .m .now)) b)) (two at .before .rows-of .result)))
+    ∙ ap (λ (γ : 𝔾 .F). writeAt (a .h .now) 0 (columnOf (λ b. val (hAt 𝔾 γ (elements (a .input .now)) (elements (a .table .now)) (elements (a .m .now)) b)) (two at .before .rows-of .result)))
     (c .before .before .before .before .from-u64 .ensures))
     ∙ all-yes _ _ _ _ _ (good (one (two at))) (exact (two at)) (all-small at) (omega (arith, n, room .if4 .left))
 

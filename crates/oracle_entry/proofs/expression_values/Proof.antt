@@ -10,7 +10,7 @@ use borrow.Author.Tests.{leb-true}
 use Rattle.lists.specs.Lists.{allOf}
 use Rattle.lists.proofs.Tests.{and-left, and-right}
 use Rattle.backend.proofs.Answers.{says-no, says-yes}
-use Rattle.expression.specs.Reader.{Small}
+use Rattle.expression.specs.Reader.{LayoutSmall}
 use Rattle.oracle_entry.proofs.Answers.{layout-small, bad-k, bad-layout, no-room, has-room, all-there}
 use Rattle.oracle_entry.proofs.expression_values.Statement.{statement}
 use Rattle.oracle_entry.proofs.expression_values.Tie as tie
@@ -65,7 +65,7 @@ values-requires c κs =
     has-room (a .k) (a .nodes .now) (a .circuit .now) (a .witness .now) (a .columns .now) (a .challenges .now) (a .layout .now) (a .eq .now) (a .n) (a .out .now) _ (at .before .rows-of .ensures)
     (says-yes _ _ refl (at .if3 .left)) in (
       fits .0,
-      subst⁻¹ Small (c .before .layout-from .ensures) (layout-small (a .k) (a .layout .now) (k-small (one (two at))) (good-layout (two at))),
+      subst⁻¹ LayoutSmall (c .before .layout-from .ensures) (layout-small (a .k) (a .layout .now) (k-small (one (two at))) (good-layout (two at))),
       k-positive (one (two at)),
       (let h = k-small (one (two at)) in omega (arith, h)),
       fits .1,

@@ -7,7 +7,7 @@ use native.Mathlib.Omega.{arith}
 use lib.ListN.{length}
 use Rattle.expression.specs.Expr.{Expr, evaluate}
 use Rattle.expression.specs.Nodes.{exprOf, under, noExpr}
-use Rattle.expression.specs.Point.{Ready, opsOf}
+use Rattle.expression.specs.Point.{ContextReady, opsOf}
 use Rattle.expression.proofs.Context.{ready-context, at-context}
 use Rattle.expression.proofs.Step.{under-yes}
 use Rattle.oracle_entry.proofs.value_of.Statement.{statement}
@@ -23,7 +23,7 @@ lower-requires : tie.Need-lower-requires
 lower-requires c κs =
     let a = c .before .before .before .before .before .before .before .before .before in (
       omega arith,
-      subst⁻¹ Ready (c .before .before .before .context .ensures) (ready-context (a .args .layout) (a .args .point) (a .pre .1 .0) (a .pre .1 .1)),
+      subst⁻¹ ContextReady (c .before .before .before .context .ensures) (ready-context (a .args .layout) (a .args .point) (a .pre .1 .0) (a .pre .1 .1)),
     )
 
 from-u64-requires : tie.Need-from-u64-requires

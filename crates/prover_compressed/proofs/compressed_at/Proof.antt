@@ -5,7 +5,7 @@ use mathlib.Core.List.{List}
 use Prim.Native.Nat.{ℕ}
 use Rattle.field.specs.Field.{𝔾}
 use Rattle.field.specs.Element.{elem}
-use Rattle.expression.specs.Point.{Ready, environmentOf, pointOf, layoutOf}
+use Rattle.expression.specs.Point.{ContextReady, environmentOf, pointOf, layoutIn}
 use Rattle.expression.proofs.Context.{ready-context}
 use Rattle.prover.specs.Lent.{compressedIn, rootsOf}
 use Rattle.prover_compressed.proofs.compressed_at.Statement.{statement}
@@ -20,7 +20,7 @@ compressed-over-requires c κs =
     let pre = c .before .before .before .before .before .before .before .before .before .pre in (
       refl,
       pre .0,
-      subst⁻¹ Ready (c .before .before .context .ensures) (ready-context (a .poly .layout) (a .point) (pre .1 .0) (pre .1 .1)),
+      subst⁻¹ ContextReady (c .before .before .context .ensures) (ready-context (a .poly .layout) (a .point) (pre .1 .0) (pre .1 .1)),
       pre .2,
       pre .3,
     )
@@ -31,7 +31,7 @@ returns c =
     c .compressed-over .ensures
     ∙ ap
     (λ (l : List ℕ).
-    compressedIn 𝔾 (environmentOf (a .circuit .now) (a .witness .now) (a .columns .now) (a .challenges .now) (layoutOf l) (pointOf l)) (elem (a .poly .beta)) (rootsOf (a .nodes .now) (a .pairs .now) (a .poly .roots)) (pointOf l .row))
+    compressedIn 𝔾 (environmentOf (a .circuit .now) (a .witness .now) (a .columns .now) (a .challenges .now) (layoutIn l) (pointOf l)) (elem (a .poly .beta)) (rootsOf (a .nodes .now) (a .pairs .now) (a .poly .roots)) (pointOf l .row))
     (c .before .before .before .context .ensures)
 
 pub compressed-at-spec : {M : Type 1} → statement M

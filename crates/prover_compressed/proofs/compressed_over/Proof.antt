@@ -3,7 +3,7 @@ use borrow.Author.Needs.{needs}
 use Prim.Native.Nat.{_-_, _≤_}
 use native.Mathlib.Omega.{arith}
 use Rattle.field.specs.Element.{elem}
-use Rattle.expression.specs.Point.{environmentOf, pointOf, layoutOf}
+use Rattle.expression.specs.Point.{environmentOf, pointOf, layoutIn}
 use Rattle.expression_evaluate.specs.Lent.{lent}
 use Rattle.prover.proofs.PowerSums.{Summed, rootValue, sum-start, sum-more, sum-end}
 use Rattle.prover_compressed.proofs.compressed_over.Statement.{statement}
@@ -13,7 +13,7 @@ abbrev Inv-loop : tie.InvT-loop
 Inv-loop s c count pairs roots beta sum₀ power₀ i₀ sum power i =
     (i ≤ roots .width)
     × Summed (elem beta)
-    (rootValue (environmentOf (lent s 1) (lent s 2) (lent s 3) (lent s 4) (layoutOf c) (pointOf c)) (elem beta) (lent s 0) pairs roots (pointOf c .row))
+    (rootValue (environmentOf (lent s 1) (lent s 2) (lent s 3) (lent s 4) (layoutIn c) (pointOf c)) (elem beta) (lent s 0) pairs roots (pointOf c .row))
     (elem sum)
     (elem power)
     i

@@ -4,7 +4,7 @@ use Prim.Native.Nat.{ℕ, _+_, _^_}
 use native.Mathlib.Omega.{arith}
 use Rattle.field.specs.Field.{𝔾, val}
 use Rattle.field.specs.Element.{elem}
-use Rattle.lists.specs.Lists.{column, over}
+use Rattle.lists.specs.Lists.{tabulate, writeAt}
 use Rattle.prover.specs.Lent.{environmentFromWords, compressedIn, rootsOf}
 use Rattle.prover.proofs.PowerSums.{pair-end}
 use Rattle.prover_compressed.proofs.compressed_pair.Statement.{statement}
@@ -55,7 +55,7 @@ returns c =
     let pre = c .before .before .before .before .before .before .before .before .before .before .before .before .before .before .before .before .before .before .pre in
     pair-end (a .poly .k) (pre .0 .small) _ (pre .0 .given) _ _ _ _ _ _ _ _ _ _ _ _ _ (pre .1) (pre .0 .before) (pre .0 .room)
     (ap (λ (x : ℕ). a .poly .to + x) (c .before .before .before .before .before .rows-of .ensures)) (c .before .before .before .before .before .before .before .before .before .before .lookup-compressed-poly .ensures
-    ∙ ap (λ (side : ℕ). over (a .columns .now) (a .poly .to) (column (λ b. val (compressedIn 𝔾 (environmentFromWords (a .circuit .now) (a .witness .now) (a .columns .now) (a .challenges .now) (a .poly .layout) (a .poly .k)) (elem (a .poly .beta)) (rootsOf (a .nodes .now) (a .pairs .now) (record { start = a .poly .roots .start; width = a .poly .roots .width; side = side })) b)) (2 ^ a .poly .k))) (pre .2)) (c .before .before .lookup-compressed-poly2 .ensures)
+    ∙ ap (λ (side : ℕ). writeAt (a .columns .now) (a .poly .to) (tabulate (λ b. val (compressedIn 𝔾 (environmentFromWords (a .circuit .now) (a .witness .now) (a .columns .now) (a .challenges .now) (a .poly .layout) (a .poly .k)) (elem (a .poly .beta)) (rootsOf (a .nodes .now) (a .pairs .now) (record { start = a .poly .roots .start; width = a .poly .roots .width; side = side })) b)) (2 ^ a .poly .k))) (pre .2)) (c .before .before .lookup-compressed-poly2 .ensures)
 
 pub compressed-pair-spec : {M : Type 1} → statement M
 compressed-pair-spec =

@@ -9,7 +9,7 @@ use lib.ListN.{length, take}
 use lib.Seq.{take-all}
 use Rattle.field.specs.Field.{𝔾}
 use Rattle.field.specs.Element.{elem}
-use Rattle.lists.specs.Lists.{over, split, total}
+use Rattle.lists.specs.Lists.{writeAt, split, total}
 use Rattle.lists.proofs.Parts.{total-more, part-there}
 use Rattle.backend.specs.Circuit.{pairsOf}
 use Rattle.prover.specs.Words.{wordsOf}
@@ -24,7 +24,7 @@ Inv-loop nodes circuit witness columns₀ challenges widths pairs polys rows sta
     × (start ≡ total (take i widths))
     × (at ≡ polys .to + i * (2 ^ polys .k + 2 ^ polys .k))
     × (length columns ≡ length columns₀)
-    × (columns ≡ over columns₀ (polys .to) (wordsOf (2 ^ polys .k) (compressedPolysIn 𝔾 (environmentFromWords circuit witness columns₀ challenges (polys .layout) (polys .k)) (elem (polys .beta)) (split (take i widths) (pairsOf nodes pairs)))))
+    × (columns ≡ writeAt columns₀ (polys .to) (wordsOf (2 ^ polys .k) (compressedPolysIn 𝔾 (environmentFromWords circuit witness columns₀ challenges (polys .layout) (polys .k)) (elem (polys .beta)) (split (take i widths) (pairsOf nodes pairs)))))
 
 abbrev μ-loop : tie.MeasureT-loop
 μ-loop nodes circuit witness columns₀ challenges widths pairs polys rows start₀ at₀ i₀ columns start at i = length widths - i
@@ -115,7 +115,7 @@ returns c =
     let l = c .before .loop in
     let a = c .before .before .before .before .before .before .before .before .before .before .args in
     l .inv .4
-    ∙ ap (λ (ws : List ℕ). over (a .columns .now) (a .polys .to) (wordsOf (2 ^ a .polys .k) (compressedPolysIn 𝔾 (environmentFromWords (a .circuit .now) (a .witness .now) (a .columns .now) (a .challenges .now) (a .polys .layout) (a .polys .k)) (elem (a .polys .beta)) (split ws (pairsOf (a .nodes .now) (a .pairs .now))))))
+    ∙ ap (λ (ws : List ℕ). writeAt (a .columns .now) (a .polys .to) (wordsOf (2 ^ a .polys .k) (compressedPolysIn 𝔾 (environmentFromWords (a .circuit .now) (a .witness .now) (a .columns .now) (a .challenges .now) (a .polys .layout) (a .polys .k)) (elem (a .polys .beta)) (split ws (pairsOf (a .nodes .now) (a .pairs .now))))))
     (take-all (l .i) (a .widths .now) (c .loop-test .left))
 
 pub lookup-compressed-polys-spec : {M : Type 1} → statement M

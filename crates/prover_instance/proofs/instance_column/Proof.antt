@@ -14,7 +14,7 @@ use Rattle.field.proofs.Elements.{val-el-mod}
 use Rattle.bh.specs.Rows.{rowAt, nextRow}
 use Rattle.bh.proofs.Order.{row-suc, row-next}
 use Rattle.bh.proofs.Iter.{iter-zero}
-use Rattle.lists.specs.Lists.{column, over}
+use Rattle.lists.specs.Lists.{tabulate, writeAt}
 use Rattle.prover.proofs.Instance.{placed, place-start, place-more, place-end, part-length, part-get}
 use Rattle.prover_instance.proofs.instance_column.Statement.{statement}
 use Rattle.prover_instance.proofs.instance_column.Tie as tie
@@ -22,8 +22,8 @@ use Rattle.prover_instance.proofs.instance_column.Tie as tie
 abbrev Inv-loop : tie.InvT-loop
 Inv-loop k instance from count columns₀ at row₀ t₀ columns row t =
     (t ≤ count) × (length columns ≡ length columns₀) × (row ≡ rowAt k (suc t)) × (row < 2 ^ k)
-    × ((d : List ℕ) → at + 2 ^ k ≤ length d → columns₀ ≡ over d at (replicate (2 ^ k) 0)
-    → columns ≡ over d at (column (placed k (take count (drop from instance)) t) (2 ^ k)))
+    × ((d : List ℕ) → at + 2 ^ k ≤ length d → columns₀ ≡ writeAt d at (replicate (2 ^ k) 0)
+    → columns ≡ writeAt d at (tabulate (placed k (take count (drop from instance)) t) (2 ^ k)))
 
 abbrev μ-loop : tie.MeasureT-loop
 μ-loop k instance from count columns₀ at row₀ t₀ columns row t = count - t
@@ -101,7 +101,7 @@ returns c =
     let l = c .before .loop in
     let len = part-length (a .instance .now) (a .from) (a .count) (s .pre .3) in
     l .inv .4 (a .columns .now) (s .pre .4)
-    (c .before .before .before .before .clear .ensures ∙ ap (λ (n : ℕ). over (a .columns .now) (a .at) (replicate n 0)) (c .before .before .before .before .before .rows-of .ensures))
+    (c .before .before .before .before .clear .ensures ∙ ap (λ (n : ℕ). writeAt (a .columns .now) (a .at) (replicate n 0)) (c .before .before .before .before .before .rows-of .ensures))
     ∙ place-end (a .k) (take (a .count) (drop (a .from) (a .instance .now))) (l .t) (omega (arith, len, c .loop-test .left)) (a .columns .now) (a .at)
 
 pub instance-column-spec : {M : Type 1} → statement M

@@ -8,7 +8,7 @@ use native.Mathlib.Numerals.{add-one}
 use native.Mathlib.Omega.{arith}
 use lib.ListN.{length, getD, take}
 use lib.Seq.{take-all}
-use Rattle.lists.specs.Lists.{over, total}
+use Rattle.lists.specs.Lists.{writeAt, total}
 use Rattle.prover.specs.Words.{wordsOf}
 use Rattle.prover.proofs.Instance.{polys, instance-start, instance-more, words-there}
 use Rattle.lists.proofs.Parts.{total-more, part-there}
@@ -22,7 +22,7 @@ use Rattle.bh.proofs.rows_of.Reads as rows-of-reads
 abbrev Inv-loop : tie.InvT-loop
 Inv-loop k lengths instance columns₀ rows from₀ at₀ i₀ columns from at i =
     (i ≤ length lengths) × (from ≡ total (take i lengths)) × (at ≡ i * 2 ^ k) × (length columns ≡ length columns₀)
-    × (columns ≡ over columns₀ 0 (wordsOf (2 ^ k) (polys k (take i lengths) instance)))
+    × (columns ≡ writeAt columns₀ 0 (wordsOf (2 ^ k) (polys k (take i lengths) instance)))
 
 abbrev μ-loop : tie.MeasureT-loop
 μ-loop k lengths instance columns₀ rows from₀ at₀ i₀ columns from at i = length lengths - i
@@ -102,7 +102,7 @@ returns c =
     let a = c .before .before .before .before .before .before .args in
     let l = c .before .loop in
     l .inv .4
-    ∙ ap (λ (ns : List ℕ). over (a .columns .now) 0 (wordsOf (2 ^ a .k) (polys (a .k) ns (a .instance .now))))
+    ∙ ap (λ (ns : List ℕ). writeAt (a .columns .now) 0 (wordsOf (2 ^ a .k) (polys (a .k) ns (a .instance .now))))
     (take-all (l .i) (a .lengths .now) (c .loop-test .left))
 
 pub instance-polys-spec : {M : Type 1} → statement M

@@ -1,7 +1,7 @@
 -- Its numbers in range, and none of those before it. Assumes nothing.
 use Prim.Native.Nat.{_+_}
 use Rattle.backend.specs.Circuit.{cellAt}
-use Rattle.backend.specs.Cycles.{run}
+use Rattle.backend.specs.Cycles.{cellsFrom}
 use Rattle.backend_questions.proofs.cycles.Turns.{good-in, good-out}
 use borrow.Author.Needs.{needs}
 use Rattle.backend_questions.proofs.cycles.good_cell.Statement.{statement}
@@ -37,12 +37,12 @@ fresh-requires c κs = search needs
 returns : tie.Need-returns
 returns c =
     let a = c .before .before .before .before .before .args in
-    good-in (a .polys) (a .rows) (cellAt (a .cells .now) (a .start + a .n)) (run (a .cells .now) (a .start) (a .n)) (c .fresh .result) (c .before .if1 .taken) (c .fresh .ensures)
+    good-in (a .polys) (a .rows) (cellAt (a .cells .now) (a .start + a .n)) (cellsFrom (a .cells .now) (a .start) (a .n)) (c .fresh .result) (c .before .if1 .taken) (c .fresh .ensures)
 
 returns-2 : tie.Need-returns-2
 returns-2 c =
     let a = c .before .before .before .before .args in
-    good-out (a .polys) (a .rows) (cellAt (a .cells .now) (a .start + a .n)) (run (a .cells .now) (a .start) (a .n)) (c .if1 .left)
+    good-out (a .polys) (a .rows) (cellAt (a .cells .now) (a .start + a .n)) (cellsFrom (a .cells .now) (a .start) (a .n)) (c .if1 .left)
 
 pub good-cell-spec : {M : Type 1} → statement M
 good-cell-spec =

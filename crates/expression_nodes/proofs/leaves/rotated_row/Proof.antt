@@ -3,14 +3,14 @@ use Prim.Native.Nat.{ℕ, _^_, _<_}
 use native.Mathlib.Nat.{lt-of-lt-of-le, le-pred-of-lt}
 use lib.Pow.{pow-mono}
 use Rattle.bh.specs.Rows.{rotated, iter}
-use Rattle.expression.specs.Nodes.{signed}
+use Rattle.expression.specs.Nodes.{decodeSigned}
 use Rattle.expression.specs.Point.{pointOf}
 use borrow.Author.Needs.{needs}
 use Rattle.expression_nodes.proofs.leaves.rotated_row.Statement.{statement}
 use Rattle.expression_nodes.proofs.leaves.rotated_row.Tie as tie
 
 -- the word of rotation 0 leads nowhere else
-stays : (k b : ℕ) → b ≡ rotated k b (signed 2147483648)
+stays : (k b : ℕ) → b ≡ rotated k b (decodeSigned 2147483648)
 unfolding rotated iter
 stays k b = refl
 
@@ -27,7 +27,7 @@ returns : tie.Need-returns
 returns c =
     let a = c .before .before .before in
     let p = pointOf (a .args .c .now) in (
-      stays (p .k) (p .row) ∙ ap (λ (w : ℕ). rotated (p .k) (p .row) (signed w)) (sym (c .if1 .taken)),
+      stays (p .k) (p .row) ∙ ap (λ (w : ℕ). rotated (p .k) (p .row) (decodeSigned w)) (sym (c .if1 .taken)),
       small (p .k) (p .row) (a .pre .point .small) (a .pre .point .inside),
     )
 

@@ -6,7 +6,7 @@ use Rattle.preprocessor.proofs.ComposeWords as trees
 use Rattle.preprocessor.specs.Count.{nodesIn, most}
 use Rattle.preprocessor.specs.Compose.{lookupTreeOf}
 use Rattle.preprocessor.specs.ComposeWords.{lookupsOf}
-use Rattle.lists.specs.Lists.{column, total}
+use Rattle.lists.specs.Lists.{tabulate, total}
 use borrow.Author.Needs.{needs}
 use lib.ListN.{length, take}
 use mathlib.Core.Path.{_≡_, sym}
@@ -15,7 +15,7 @@ use Rattle.preprocessor_compose.proofs.count.lookups_nodes.Statement.{s
 use Rattle.preprocessor_compose.proofs.count.lookups_nodes.Tie as tie
 
 abbrev Inv-loop : tie.InvT-loop
-Inv-loop user roots widths pairs v sum₀ s₀ j₀ sum s j = (j ≤ v .«num_lookups») × ((s ≡ total (take j widths)) × (sum ≡ min most (nodesIn (column (lookupTreeOf v (lookupsOf user widths pairs)) j))))
+Inv-loop user roots widths pairs v sum₀ s₀ j₀ sum s j = (j ≤ v .«num_lookups») × ((s ≡ total (take j widths)) × (sum ≡ min most (nodesIn (tabulate (lookupTreeOf v (lookupsOf user widths pairs)) j))))
 
 abbrev μ-loop : tie.MeasureT-loop
 μ-loop user roots widths pairs v sum₀ s₀ j₀ sum s j = v .«num_lookups» - j

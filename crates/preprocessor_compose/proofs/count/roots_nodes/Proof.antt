@@ -5,7 +5,7 @@ use Rattle.expression.specs.Nodes.{exprOf}
 use Rattle.preprocessor.proofs.Counts as counts
 use Rattle.preprocessor.proofs.ComposeWords as trees
 use Rattle.preprocessor.specs.Count.{nodesIn, most}
-use Rattle.lists.specs.Lists.{column}
+use Rattle.lists.specs.Lists.{tabulate}
 use borrow.Author.Needs.{needs}
 use lib.ListN.{length, getD}
 use mathlib.Core.Path.{_≡_, ap, _∙_}
@@ -14,7 +14,7 @@ use Rattle.preprocessor_compose.proofs.count.roots_nodes.Statement.{sta
 use Rattle.preprocessor_compose.proofs.count.roots_nodes.Tie as tie
 
 abbrev Inv-loop : tie.InvT-loop
-Inv-loop user roots s step w sum₀ i₀ sum i = (i ≤ w) × (sum ≡ min most (nodesIn (column (λ j. exprOf user (getD roots (s + j * step) 0)) i)))
+Inv-loop user roots s step w sum₀ i₀ sum i = (i ≤ w) × (sum ≡ min most (nodesIn (tabulate (λ j. exprOf user (getD roots (s + j * step) 0)) i)))
 
 abbrev μ-loop : tie.MeasureT-loop
 μ-loop user roots s step w sum₀ i₀ sum i = w - i

@@ -8,7 +8,7 @@ use mathlib.Core.Option.{Option, some}
 use Prim.Native.Nat.{ℕ, _+_, _-_, _≤_, _<_}
 use native.Mathlib.Omega.{arith}
 use lib.ListN.{length, getD, replicate, length-set}
-use Rattle.lists.specs.Lists.{over}
+use Rattle.lists.specs.Lists.{writeAt}
 use Rattle.field.specs.Field.{𝔾}
 use Rattle.prover.specs.declared.Found.{Found}
 use Rattle.prover.specs.Words.{elementsFrom}
@@ -43,7 +43,7 @@ abbrev μ-search : tie.MeasureT-search
 abbrev Inv-loop : tie.InvT-loop
 Inv-loop columns₀ input table m rows i₀ columns i =
     (length columns ≡ length columns₀) × (i ≤ rows)
-    × ((d : List ℕ) → m + rows ≤ length d → columns₀ ≡ over d m (replicate rows 0)
+    × ((d : List ℕ) → m + rows ≤ length d → columns₀ ≡ writeAt d m (replicate rows 0)
     → Counted rows (rowFor rows (elementsFrom d input) (elementsFrom d table)) d m columns i)
 
 abbrev μ-loop : tie.MeasureT-loop

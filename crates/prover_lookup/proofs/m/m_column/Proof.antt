@@ -9,7 +9,7 @@ use Prim.Native.Nat.{ℕ, _+_, _-_, _≤_, _<_}
 use native.Mathlib.Nat.{zero-add}
 use native.Mathlib.Omega.{arith}
 use lib.ListN.{length, getD, replicate, length-set}
-use Rattle.lists.specs.Lists.{over}
+use Rattle.lists.specs.Lists.{writeAt}
 use Rattle.field.specs.Field.{𝔾}
 use Rattle.prover.specs.declared.Found.{Found}
 use Rattle.prover.specs.Words.{elements}
@@ -42,7 +42,7 @@ abbrev μ-search : tie.MeasureT-search
 abbrev Inv-loop : tie.InvT-loop
 Inv-loop rows input table m₀ i₀ m i =
     (length m ≡ length m₀) × (i ≤ rows)
-    × ((d : List ℕ) → 0 + rows ≤ length d → m₀ ≡ over d 0 (replicate rows 0)
+    × ((d : List ℕ) → 0 + rows ≤ length d → m₀ ≡ writeAt d 0 (replicate rows 0)
     → Counted rows (rowFor rows (elements input) (elements table)) d 0 m i)
 
 abbrev μ-loop : tie.MeasureT-loop
