@@ -1,4 +1,4 @@
--- The first no, question by question. Assumes nothing.
+-- The first no, question by question.
 use mathlib.Core.Path.{_≡_, refl, sym, ap, ap₂, _∙_}
 use mathlib.Core.Bool.{Bool, true, false, not}
 use mathlib.Core.List.{List, _++_, map}

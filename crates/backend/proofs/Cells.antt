@@ -1,4 +1,4 @@
--- Cells compared. Assumes nothing.
+-- Cells compared.
 use mathlib.Core.Path.{_≡_, refl, ap₂}
 use mathlib.Core.Bool.{Bool, true, _&&_}
 use Prim.Native.Nat.{ℕ}

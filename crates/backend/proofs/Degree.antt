@@ -1,4 +1,4 @@
--- The degrees of lookup constraints, question 10 and D, by the degrees of the expressions in the sections. Assumes nothing.
+-- The degrees of lookup constraints, question 10 and D, by the degrees of the expressions in the sections.
 use mathlib.Core.Path.{_≡_, refl, sym, ap, ap₂, _∙_}
 use mathlib.Core.Bool.{Bool, true, false, _&&_, _||_, and-false, Bool·beq}
 use mathlib.Core.List.{List, [], _∷_, _++_, map, map-append, map-map}
@@ -12,10 +12,10 @@ use lib.ListN.{length, getD, take, drop, drop-of-length-le}
 use borrow.Author.Tests.{leb-true, le-leb, lt-leb, ltb-true}
 use Rattle.lists.specs.Lists.{tabulate, allOf, maximum, split, total}
 use Rattle.lists.proofs.Tests.{all-append, all-each, and-left, and-right, and-both}
-use Rattle.lists.proofs.Columns.{map-column, column-suc, column-cong, column-of}
-use Rattle.lists.proofs.Totals.{largest-append}
+use Rattle.lists.proofs.Columns.{map-tabulate, tabulate-suc, tabulate-cong, tabulate-of}
+use Rattle.lists.proofs.Totals.{maximum-append}
 use Rattle.lists.proofs.Walks.{all-map}
-use Rattle.lists.proofs.Searches.{column-part, total-drop, split-drop}
+use Rattle.lists.proofs.Searches.{tabulate-part, total-drop, split-drop}
 use Rattle.lists.proofs.Once.{same-tests}
 use Rattle.expression.specs.Expr.{Expr, Exprs, degree, evaluate, powersFirst, values, running, degreeOps, exprsOf, distributePowers}
 use Rattle.expression.specs.Nodes.{exprOf}
@@ -63,11 +63,11 @@ module _ (c : Circuit) where
   lookup-degrees : map degree (lookupConstraints c) ≡ map lookupDegree (c .lookups)
   unfolding lookupConstraints
   lookup-degrees =
-      map-column degree (lookupConstraint c) (length (c .lookups))
-      ∙ column-cong (λ j. degree (lookupConstraint c j)) (λ j. lookupDegree (getD (c .lookups) j [])) (length (c .lookups))
+      map-tabulate degree (lookupConstraint c) (length (c .lookups))
+      ∙ tabulate-cong (λ j. degree (lookupConstraint c j)) (λ j. lookupDegree (getD (c .lookups) j [])) (length (c .lookups))
       (λ j l. constraint-degree j)
-      ∙ sym (map-column lookupDegree (λ j. getD (c .lookups) j []) (length (c .lookups)))
-      ∙ ap (map lookupDegree) (column-of (c .lookups) [])
+      ∙ sym (map-tabulate lookupDegree (λ j. getD (c .lookups) j []) (length (c .lookups)))
+      ∙ ap (map lookupDegree) (tabulate-of (c .lookups) [])
 
   pub ten-is : q10 c ≡ degreesFit (c .stated) (c .constraints) (c .lookups)
   unfolding q10 degreesFit
@@ -165,7 +165,7 @@ module _ (g : ℕ → ℕ) (n : ℕ) where
   largest-next : (i : ℕ) → maximum (tabulate g (i + 1)) ≡ max (maximum (tabulate g i)) (g i)
   unfolding maximum
   largest-next i =
-      ap (λ (m : ℕ). maximum (tabulate g m)) (add-one i) ∙ ap maximum (column-suc g i) ∙ largest-append (tabulate g i) (g i ∷ [])
+      ap (λ (m : ℕ). maximum (tabulate g m)) (add-one i) ∙ ap maximum (tabulate-suc g i) ∙ maximum-append (tabulate g i) (g i ∷ [])
       ∙ ap (max (maximum (tabulate g i))) (max-zero (g i))
 
   pub most-more : (d i e m : ℕ) → Most g n d i → i < n → e ≡ min 1025 (g i) → m ≡ max d e → Most g n m (i + 1)
@@ -202,23 +202,23 @@ module _ (nodes : List ℕ) where
   pub roots-degree : (roots : List ℕ) → maximum (tabulate (λ i. degree (exprOf nodes (getD roots i 0))) (length roots)) ≡ degreeOf (map (exprOf nodes) roots)
   roots-degree roots =
       ap maximum
-      (sym (map-column (λ r. degree (exprOf nodes r)) (λ i. getD roots i 0) (length roots)) ∙ ap (map (λ r. degree (exprOf nodes r))) (column-of roots 0)
+      (sym (map-tabulate (λ r. degree (exprOf nodes r)) (λ i. getD roots i 0) (length roots)) ∙ ap (map (λ r. degree (exprOf nodes r))) (tabulate-of roots 0)
       ∙ sym (map-map degree (exprOf nodes) roots))
 
   -- ---- lookups
   module _ (body : List ℕ) where
     inputs-degree : (start n : ℕ) → degreeOf (inputsOf (lookupFrom nodes body start n)) ≡ sideDegree nodes body start 0 n
     inputs-degree start n =
-        ap (λ (es : List Expr). maximum (map degree es)) (map-column (λ (p : Pair). p .input) (λ i. pairAt nodes body (start + i)) n)
+        ap (λ (es : List Expr). maximum (map degree es)) (map-tabulate (λ (p : Pair). p .input) (λ i. pairAt nodes body (start + i)) n)
         ∙ ap maximum
-        (map-column degree (λ i. exprOf nodes (word body ((start + i) * 2))) n
-        ∙ column-cong (λ i. degree (exprOf nodes (word body ((start + i) * 2)))) (λ i. degree (exprOf nodes (word body ((start + i) * 2 + 0)))) n
+        (map-tabulate degree (λ i. exprOf nodes (word body ((start + i) * 2))) n
+        ∙ tabulate-cong (λ i. degree (exprOf nodes (word body ((start + i) * 2)))) (λ i. degree (exprOf nodes (word body ((start + i) * 2 + 0)))) n
         (λ i l. ap (λ (j : ℕ). degree (exprOf nodes (word body j))) (sym (add-zero ((start + i) * 2)))))
 
     tables-degree : (start n : ℕ) → degreeOf (tablesOf (lookupFrom nodes body start n)) ≡ sideDegree nodes body start 1 n
     tables-degree start n =
-        ap (λ (es : List Expr). maximum (map degree es)) (map-column (λ (p : Pair). p .table) (λ i. pairAt nodes body (start + i)) n)
-        ∙ ap maximum (map-column degree (λ i. exprOf nodes (word body ((start + i) * 2 + 1))) n)
+        ap (λ (es : List Expr). maximum (map degree es)) (map-tabulate (λ (p : Pair). p .table) (λ i. pairAt nodes body (start + i)) n)
+        ∙ ap maximum (map-tabulate degree (λ i. exprOf nodes (word body ((start + i) * 2 + 1))) n)
 
     module _ (start n i t : ℕ) (p : i ≡ min 1025 (sideDegree nodes body start 0 n)) (q : t ≡ min 1025 (sideDegree nodes body start 1 n)) where
       both-sides : min 1025 (1 + i + t) ≡ min 1025 (lookupDegree (lookupFrom nodes body start n))
@@ -264,7 +264,7 @@ module _ (nodes : List ℕ) where
                   max d
                   (min 1025
                   (max (lookupDegree ps) (lookupsDegree (split (drop (i + 1) widths) (drop (start + getD widths i 0) (pairsOf nodes body)))))))
-                  (column-part (pairAt nodes body) (length body / 2) start (getD widths i 0) looked-room)
+                  (tabulate-part (pairAt nodes body) (length body / 2) start (getD widths i 0) looked-room)
                   ∙ cap-more d (lookupDegree (lookupFrom nodes body start (getD widths i 0)))
                   (lookupsDegree (split (drop (i + 1) widths) (drop (start + getD widths i 0) (pairsOf nodes body))))
                   ∙ ap
@@ -309,7 +309,7 @@ module _ (stated : ℕ) (constraints : List Expr) (lookups : List (List Pair)) (
   unfolding largestDegree maximum
   d-of least u k m r p q s t w =
       w ∙ ap₂ max p (t ∙ ap₂ max (q ∙ exact (degreeOf constraints) fit-users) (s ∙ exact (lookupsDegree lookups) fit-looks))
-      ∙ ap (max (leastD (statedOf stated))) (sym (largest-append (map degree constraints) (map lookupDegree lookups)))
+      ∙ ap (max (leastD (statedOf stated))) (sym (maximum-append (map degree constraints) (map lookupDegree lookups)))
     where
       exact : (n : ℕ) → n ≤ 1024 → min 1025 n ≡ n
       exact n l = omega arith

@@ -1,4 +1,4 @@
--- Laws of the bodies: sums of the rounds, the widths and the cycle lengths; 3 and 4 at the bodies; 5, 6 and 9. Assumes nothing.
+-- Laws of the bodies: sums of the rounds, the widths and the cycle lengths; 3 and 4 at the bodies; 5, 6 and 9.
 use mathlib.Core.Path.{_≡_, refl, sym, ap, ap₂, _∙_}
 use mathlib.Core.Bool.{Bool, true, false, not, _&&_, _||_}
 use mathlib.Core.List.{List, [], _∷_, map}
@@ -15,8 +15,8 @@ use Rattle.lists.specs.Lists.{tabulate, allOf, total, split}
 use Rattle.lists.proofs.Tests.{false-true, and-left, and-right, all-true}
 use Rattle.lists.proofs.All.{all-weaken}
 use Rattle.lists.proofs.Lists.{split-length}
-use Rattle.lists.proofs.Columns.{column-length, column-cong, column-of, map-column}
-use Rattle.lists.proofs.Runs.{take-column}
+use Rattle.lists.proofs.Columns.{tabulate-length, tabulate-cong, tabulate-of, map-tabulate}
+use Rattle.lists.proofs.Runs.{take-tabulate}
 use Rattle.lists.proofs.Walks.{all-map, all-same, all-parts}
 use Rattle.expression.specs.Nodes.{wordOf, exprOf}
 use Rattle.backend.specs.Circuit.{Section, entry, entries, wordK, bodyOf, word, wordEach, Round, roundAt, Pair, pairAt, circuitOf, numWitness, numChallenges, numPoly}
@@ -29,12 +29,12 @@ use Rattle.backend.proofs.Sections.{body-length}
 
 -- the first word of each entry
 each-first : (body : List ℕ) (size n : ℕ) → wordEach body size 0 n ≡ tabulate (λ i. word body (i * size)) n
-each-first body size n = column-cong _ _ n (λ i _. ap (word body) (add-zero (i * size)))
+each-first body size n = tabulate-cong _ _ n (λ i _. ap (word body) (add-zero (i * size)))
 
 -- entries of one word
 pub each-one : (body : List ℕ) → wordEach body 1 0 (length body) ≡ body
 each-one body =
-    column-cong _ (λ i. getD body i 0) (length body) (λ i _. ap (word body) (add-zero (i * 1) ∙ mul-one i)) ∙ column-of body 0
+    tabulate-cong _ (λ i. getD body i 0) (length body) (λ i _. ap (word body) (add-zero (i * 1) ∙ mul-one i)) ∙ tabulate-of body 0
 
 -- ---- sums
 
@@ -64,7 +64,7 @@ module _ (ws : List ℕ) (l : ContentsValid ws) (words : List ℕ) (is : words �
       e
       ∙ ap (λ (ns : List ℕ). min (total ns) limit)
       (of-rounds (λ body n. wordEach body 2 0 n) ∙ each-first (bodyOf ws Section.rounds) 2 (entries ws Section.rounds)
-      ∙ sym (map-column (λ (r : Round). r .witness) (roundAt (bodyOf ws Section.rounds)) (entries ws Section.rounds)))
+      ∙ sym (map-tabulate (λ (r : Round). r .witness) (roundAt (bodyOf ws Section.rounds)) (entries ws Section.rounds)))
 
   pub user-sum : (limit r : ℕ) → r ≡ min (total (wordEach words 2 1 (length words / 2))) limit → r ≡ min (numChallenges (circuitOf ws)) limit
   unfolding numChallenges circuitOf
@@ -72,7 +72,7 @@ module _ (ws : List ℕ) (l : ContentsValid ws) (words : List ℕ) (is : words �
       e
       ∙ ap (λ (ns : List ℕ). min (total ns) limit)
       (of-rounds (λ body n. wordEach body 2 1 n)
-      ∙ sym (map-column (λ (r : Round). r .challenges) (roundAt (bodyOf ws Section.rounds)) (entries ws Section.rounds)))
+      ∙ sym (map-tabulate (λ (r : Round). r .challenges) (roundAt (bodyOf ws Section.rounds)) (entries ws Section.rounds)))
 
 -- as many words as entries
 single-length : (ws : List ℕ) → ContentsValid ws → (s : Section) → entry (wordK ws) s ≡ 1 → length (bodyOf ws s) ≡ entries ws s
@@ -152,14 +152,14 @@ rounds-tested ws l words is w u a b =
     ap₂ _&&_
     (a
     ∙ ap (allOf (ltb 0))
-    (of-rounds ws l words is (λ body n. wordEach body 2 0 n) ∙ each-first body 2 n ∙ sym (map-column (λ (r : Round). r .witness) (roundAt body) n))
+    (of-rounds ws l words is (λ body n. wordEach body 2 0 n) ∙ each-first body 2 n ∙ sym (map-tabulate (λ (r : Round). r .witness) (roundAt body) n))
     ∙ all-map (ltb 0) (λ (r : Round). r .witness) (tabulate (roundAt body) n))
     (b
     ∙ ap (allOf (ltb 0))
-    (of-rounds ws l words is (λ body n. wordEach body 2 1 (n - 1)) ∙ sym (map-column (λ (r : Round). r .challenges) (roundAt body) (n - 1)))
+    (of-rounds ws l words is (λ body n. wordEach body 2 1 (n - 1)) ∙ sym (map-tabulate (λ (r : Round). r .challenges) (roundAt body) (n - 1)))
     ∙ all-map (ltb 0) (λ (r : Round). r .challenges) (tabulate (roundAt body) (n - 1))
     ∙ ap (allOf (λ (r : Round). ltb 0 (r .challenges)))
-    (sym (ap (λ (m : ℕ). take (m - 1) (tabulate (roundAt body) n)) (column-length (roundAt body) n) ∙ take-column (roundAt body) (n - 1) n (omega arith))))
+    (sym (ap (λ (m : ℕ). take (m - 1) (tabulate (roundAt body) n)) (tabulate-length (roundAt body) n) ∙ take-tabulate (roundAt body) (n - 1) n (omega arith))))
 
 below-rows : (n rows : ℕ) → 0 < rows → ltb n rows ≡ leb n (rows - 1)
 below-rows n rows h = let e : rows ≡ suc (rows - 1) = omega arith in ap (ltb n) e ∙ leb·suc-suc n (rows - 1)
@@ -225,7 +225,7 @@ nine ws l k words is wide a =
     let widths : List ℕ = bodyOf ws Section.widths in
     let pairs : List Pair = tabulate (pairAt (bodyOf ws Section.nodes) (bodyOf ws Section.pairs)) (entries ws Section.pairs) in
     let enough : total widths ≤ length pairs =
-    (let e = column-length (pairAt (bodyOf ws Section.nodes) (bodyOf ws Section.pairs)) (entries ws Section.pairs) in
+    (let e = tabulate-length (pairAt (bodyOf ws Section.nodes) (bodyOf ws Section.pairs)) (entries ws Section.pairs) in
     let w = k .pairs-are in
     omega arith)
     in
@@ -246,5 +246,5 @@ pub polys : (ws : List ℕ) (w : ℕ) → ContentsValid ws → w ≡ numWitness 
 unfolding numPoly circuitOf
 polys ws w l e =
     ap₂ _+_
-    (ap₂ _+_ (sym (single-length ws l Section.instances refl)) (sym (column-length _ (entries ws Section.preprocess))))
+    (ap₂ _+_ (sym (single-length ws l Section.instances refl)) (sym (tabulate-length _ (entries ws Section.preprocess))))
     e

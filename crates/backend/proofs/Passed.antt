@@ -1,4 +1,4 @@
--- What yes to questions 1 to 11 says, question by question; and that each has a number of its own, not 0. Assumes nothing.
+-- What yes to questions 1 to 11 says, question by question; and that each has a number of its own, not 0.
 use mathlib.Core.Path.{_≡_, refl}
 use mathlib.Core.Bool.{true}
 use mathlib.Core.List.{List}

@@ -1,4 +1,4 @@
--- Laws of the table of contents. Assumes nothing.
+-- Laws of the table of contents.
 use mathlib.Core.Path.{_≡_, refl, sym, ap, ap₂, _∙_, subst}
 use mathlib.Core.Bool.{Bool, true, false, cond, _&&_, and-assoc, and-true, and-false}
 use mathlib.Core.List.{List, [], _∷_}

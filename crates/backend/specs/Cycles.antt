@@ -1,4 +1,4 @@
--- Question 11, put to one cell after another. Assumes nothing.
+-- Question 11, put to one cell after another.
 use mathlib.Core.Bool.{Bool, true, false, not, _&&_}
 use mathlib.Core.List.{List}
 use Prim.Native.Nat.{ℕ, _+_, _-_}

@@ -1,4 +1,4 @@
--- Question 10 and D by the degrees of the expressions in the sections. Assumes nothing.
+-- Question 10 and D by the degrees of the expressions in the sections.
 use mathlib.Core.Bool.{Bool, _&&_}
 use mathlib.Core.List.{List, _∷_, _++_, map}
 use mathlib.Core.Option.{Option}

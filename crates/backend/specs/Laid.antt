@@ -1,4 +1,4 @@
--- What yes to questions 1 to 4 tells: where the sections lie, and their limits. Assumes nothing.
+-- What yes to questions 1 to 4 tells: where the sections lie, and their limits.
 use mathlib.Core.Path.{_≡_}
 use mathlib.Core.List.{List}
 use Prim.Native.Nat.{ℕ, _+_, _≤_}

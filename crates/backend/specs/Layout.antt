@@ -1,4 +1,4 @@
--- Questions 7 and 8 over node words and roots. Assumes nothing.
+-- Questions 7 and 8 over node words and roots.
 use mathlib.Core.Bool.{Bool, true, false, cond, not, _&&_, _||_, Bool·beq}
 use mathlib.Core.List.{List, [], _∷_, _++_, map}
 use Prim.Native.Nat.{ℕ, zero, suc, _+_, _/_, _^_}

@@ -1,4 +1,4 @@
--- How often each node is named, counted in one of 1024 places. Assumes nothing.
+-- How often each node is named, counted in one of 1024 places.
 use mathlib.Core.Path.{_≡_}
 use mathlib.Core.List.{List}
 use Prim.Native.Nat.{ℕ, _+_, _^_, _<_}

@@ -1,4 +1,4 @@
--- Cells in 1024 chains, by the remainder of their rows: each cell is linked to the last before it of its chain. Assumes nothing.
+-- Cells in 1024 chains, by the remainder of their rows: each cell is linked to the last before it of its chain.
 use mathlib.Core.Path.{_≡_}
 use mathlib.Core.Bool.{Bool, cond}
 use mathlib.Core.List.{List}

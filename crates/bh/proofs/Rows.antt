@@ -1,4 +1,4 @@
--- The rows in order, one after another. Assumes nothing.
+-- The rows in order, one after another.
 use mathlib.Core.Path.{_≡_, sym, ap, _∙_}
 use Prim.Native.Nat.{ℕ, suc, _+_, _-_, _^_, _≤_, _<_}
 use native.Mathlib.Omega.{arith}

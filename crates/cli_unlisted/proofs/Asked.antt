@@ -1,4 +1,4 @@
--- What the searches ask for, of accepted circuit words. Assumes nothing.
+-- What the searches ask for, of accepted circuit words.
 use mathlib.Core.Path.{_≡_, sym, ap, _∙_, subst}
 use mathlib.Core.Logic.{_≢_, ⊎-elim}
 use mathlib.Core.List.{List}

@@ -1,4 +1,4 @@
--- A reading that stands in no row of its table. Assumes nothing.
+-- A reading that stands in no row of its table.
 use mathlib.Core.Logic.{_≢_}
 use mathlib.Core.List.{List}
 use Prim.Native.Nat.{ℕ, _+_, _<_}

@@ -1,4 +1,4 @@
--- What the building call's questions say, and that the row sum's are then yes. Assumes nothing.
+-- What the building call's questions say, and that the row sum's are then yes.
 use mathlib.Core.Path.{_≡_, refl, sym, ap₂, _∙_}
 use mathlib.Core.Bool.{Bool, true, _&&_}
 use mathlib.Core.List.{List, [], _∷_, _++_, map}

@@ -1,4 +1,4 @@
--- What the one call returns and leaves, from what its two parts do. Assumes nothing.
+-- What the one call returns and leaves, from what its two parts do.
 use mathlib.Core.Path.{_≡_, refl, sym, ap, ap₂, _∙_, subst}
 use mathlib.Core.Logic.{_≢_}
 use mathlib.Core.Bool.{Bool, true, false, cond}

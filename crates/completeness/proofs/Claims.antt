@@ -1,4 +1,4 @@
--- All claims, proved. Assumes nothing.
+-- All claims, proved.
 use Rattle.hyperplonk_spec.proofs.ReadsBack as ReadsBack
 use Rattle.hyperplonk_spec.proofs.ConstraintZero as ConstraintZero
 use Rattle.hyperplonk_spec.proofs.Powers as Powers

@@ -1,4 +1,4 @@
--- User and lookup constraints are zero, and the composed expression sums to zero where all constraints are. Assumes nothing.
+-- User and lookup constraints are zero, and the composed expression sums to zero where all constraints are.
 use mathlib.Core.Path.{_≡_, ap, _∙_}
 use mathlib.Core.Logic.{_≢_}
 use mathlib.Core.Bool.{true}
@@ -7,7 +7,7 @@ use Prim.Native.Nat.{ℕ, zero, _<_}
 use lib.ListN.{length, getD}
 use Rattle.field.specs.Algebra.{Field, zero-mul}
 use Rattle.lists.specs.Lists.{tabulate, All}
-use Rattle.lists.proofs.All.{all-get, all-from, all-column}
+use Rattle.lists.proofs.All.{all-get, all-from, all-tabulate}
 use Rattle.identities.proofs.Totals.{upTo-cong}
 use Rattle.identities.specs.Lookup as Lookup
 use Rattle.identities.proofs.Lookup.{h-fits}
@@ -61,7 +61,7 @@ module _ (𝓕 : Field) where
     pub lookup-zeros : Premises 𝓕 g → All Zero (lookupConstraints (g .circuit))
     unfolding lookupConstraints
     lookup-zeros p =
-        all-column Zero (lookupConstraint (g .circuit)) (numLookups (g .circuit))
+        all-tabulate Zero (lookupConstraint (g .circuit)) (numLookups (g .circuit))
         (λ j l b m.
         lookup-zero 𝓕 (composedEnvironment 𝓕 g α y) (g .circuit) j b .1
         (lookup-holds j l b m (p .input-denominators j l b m) (p .table-denominators j l b m)))

@@ -1,5 +1,5 @@
 -- With equal cells σ keeps the values and the two products are equal; the whole running product is the one over the other. Keeps,
--- Balances, WholeProduct, ClosesWhen, Closes and the factors of Copies. Assumes nothing.
+-- Balances, WholeProduct, ClosesWhen, Closes and the factors of Copies.
 use mathlib.Core.Path.{_≡_, refl, sym, ap, ap₂, _∙_}
 use mathlib.Core.Logic.{_≢_, _↔_}
 use mathlib.Core.List.{List, [], map}

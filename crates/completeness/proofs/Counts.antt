@@ -1,5 +1,5 @@
 -- The counts of the definitions are those of the crate identities: so 15 is given exactly when no column of whole counts turns the
--- table into the inputs, each m sums to 2^k and each h to 0. Assumes nothing.
+-- table into the inputs, each m sums to 2^k and each h to 0.
 use mathlib.Core.Path.{_≡_, refl, sym, ap, ap₂, _∙_}
 use mathlib.Core.Logic.{_≢_, _↔_, ite}
 use mathlib.Core.Bool.{Bool, true, false, cond, decide, _&&_}

@@ -1,4 +1,4 @@
--- What question 11 and equal cells say of the cells' numbers: the premises of the crate identities on cycles. Assumes nothing.
+-- What question 11 and equal cells say of the cells' numbers: the premises of the crate identities on cycles.
 use mathlib.Core.Path.{_≡_, sym, ap, ap₂, _∙_}
 use mathlib.Core.Logic.{_≢_}
 use mathlib.Core.Bool.{true}

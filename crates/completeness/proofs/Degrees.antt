@@ -1,5 +1,5 @@
 -- The degrees of the composed constraints are at most D, and that of the composed expression at most D + 1: PartDegree, ComposedDegree
--- and ComposeDegree of Composed. Assumes nothing.
+-- and ComposeDegree of Composed.
 use mathlib.Core.Path.{_≡_, refl, sym, ap, ap₂, _∙_}
 use mathlib.Core.Bool.{Bool, true, false, cond}
 use mathlib.Core.List.{List, [], _∷_, _++_, map}
@@ -10,7 +10,7 @@ use lib.ListN.{length, getD, take, drop, length-take}
 use lib.Dec.{eqb, ltb}
 use lib.IntN.{pos}
 use Rattle.lists.specs.Lists.{tabulate, range, maximum, All}
-use Rattle.lists.proofs.All.{all-get, all-join, all-left, all-right, all-column}
+use Rattle.lists.proofs.All.{all-get, all-join, all-left, all-right, all-tabulate}
 use Rattle.lists.proofs.Totals.{get-cut}
 use Rattle.expression.specs.Expr.{Expr, evaluate, degreeOps, degree, distributePowers, productFrom, productOf}
 use Rattle.backend.specs.Circuit.{Circuit, numChallenges, numLookups, numCopied, hNumber, zNumber}
@@ -104,7 +104,7 @@ module _ (c : Circuit) where
       go true = tt
       go false = (
         let q = start-is in let s = degree-two c in omega arith,
-        all-column (λ e. degree e ≤ maxDegree c) (partConstraint c) (numZ c) (λ i l. part-degree i .most),
+        all-tabulate (λ e. degree e ≤ maxDegree c) (partConstraint c) (numZ c) (λ i l. part-degree i .most),
       )
 
   all-degrees : All (λ e. degree e ≤ maxDegree c) (composedConstraints c)
@@ -142,5 +142,5 @@ unfolding composeTree outerTrees paramsOf
 compose-degree c =
     powers-below (tabulate (λ j. Expr.poly (hNumber c j) (pos 0)) (numLookups c) ++ (zeroCheck c ∷ [])) (numChallenges c + 2) (maxDegree c + 1)
     (all-join (λ e. degree e ≤ maxDegree c + 1) (tabulate (λ j. Expr.poly (hNumber c j) (pos 0)) (numLookups c)) (zeroCheck c ∷ [])
-    (all-column (λ e. degree e ≤ maxDegree c + 1) (λ j. Expr.poly (hNumber c j) (pos 0)) (numLookups c) (λ j l. h-degree c j))
+    (all-tabulate (λ e. degree e ≤ maxDegree c + 1) (λ j. Expr.poly (hNumber c j) (pos 0)) (numLookups c) (λ j l. h-degree c j))
     (check-degree c, tt))

@@ -1,4 +1,4 @@
--- Demand 3: DemandThree of Demand. Assumes nothing.
+-- Demand 3: DemandThree of Demand.
 use mathlib.Core.Path.{_≡_, refl, sym, ap, ap₂, _∙_, subst}
 use mathlib.Core.Logic.{_≢_, _↔_}
 use mathlib.Core.Bool.{Bool, true, false}

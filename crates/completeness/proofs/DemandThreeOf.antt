@@ -1,4 +1,4 @@
--- Demand 3 over any field: DemandThreeOf of Meaning, proved. Assumes nothing.
+-- Demand 3 over any field: DemandThreeOf of Meaning, proved.
 use mathlib.Core.Path.{_≡_, refl, sym, ap, _∙_, subst}
 use mathlib.Core.Bool.{Bool, true, false, cond}
 use mathlib.Core.List.{[], _∷_}
@@ -9,7 +9,7 @@ use borrow.Author.Tests.{eq-eqb}
 use Rattle.field.specs.Algebra.{Field}
 use Rattle.lists.specs.Lists.{tabulate, All}
 use Rattle.lists.proofs.Tests.{false-true}
-use Rattle.lists.proofs.All.{all-get, all-join, all-column}
+use Rattle.lists.proofs.All.{all-get, all-join, all-tabulate}
 use Rattle.expression.specs.Expr.{Expr}
 use Rattle.expression.specs.Value.{valueAt}
 use Rattle.backend.specs.Circuit.{Circuit, numCopied}
@@ -53,7 +53,7 @@ module _ (𝓕 : Field) (g : Log 𝓕) (ad : Admitted 𝓕 g) where
         go true e = tt
         go false e = (
           start-zeros 𝓕 g pos k-positive k-below-21 eleven-yes ad p α y,
-          all-column Zero (partConstraint (g .circuit)) (numZ (g .circuit)) (part-zeros 𝓕 g pos k-positive k-below-21 eleven-yes ad p α y),
+          all-tabulate Zero (partConstraint (g .circuit)) (numZ (g .circuit)) (part-zeros 𝓕 g pos k-positive k-below-21 eleven-yes ad p α y),
         )
           where
             pos : 0 < numCopied (g .circuit)

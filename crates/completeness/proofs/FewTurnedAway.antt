@@ -1,4 +1,4 @@
--- Few γ turn a good log away, and how few: FewTurnedAway and OddsLimit of Insurer. Assumes nothing.
+-- Few γ turn a good log away, and how few: FewTurnedAway and OddsLimit of Insurer.
 use mathlib.Core.Path.{_≡_, sym, ap, _∙_, subst}
 use mathlib.Core.Logic.{_≢_}
 use mathlib.Core.List.{List, [], _∷_, _++_, map}
@@ -13,7 +13,7 @@ use Rattle.field.specs.Field.{𝔾, el, val, val-el}
 use Rattle.lists.specs.Lists.{tabulate, range, All}
 use Rattle.lists.proofs.All.{all-right}
 use Rattle.lists.proofs.Lists.{get-past, split-length}
-use Rattle.lists.proofs.Columns.{column-length}
+use Rattle.lists.proofs.Columns.{tabulate-length}
 use Rattle.lists.proofs.Searches.{count-le}
 use Rattle.backend.specs.Circuit.{Section, wordK, entries, bodyOf, pairAt, Circuit, circuitOf, rowsOf, numChallenges, numPoly, numLookups, numCopied, copied, copiedIn}
 use Rattle.backend.specs.Questions.{largestK}
@@ -98,13 +98,13 @@ module _ (ws : List ℕ) (y : Yes ws) where
 
   few-copied : numCopied c ≤ numPoly c
   unfolding copied copiedIn
-  few-copied = subst (λ (n : ℕ). numCopied c ≤ n) (column-length (λ (i : ℕ). i) (numPoly c)) (count-le _ (range (numPoly c)))
+  few-copied = subst (λ (n : ℕ). numCopied c ≤ n) (tabulate-length (λ (i : ℕ). i) (numPoly c)) (count-le _ (range (numPoly c)))
 
   few-polys : numPoly c ≤ 8 + 32 + 32
   unfolding numPoly circuitOf
   few-polys =
       let a = body-length ws (y .laid) Section.instances in
-      let b = column-length (λ i. take (2 ^ wordK ws) (drop (i * 2 ^ wordK ws) (bodyOf ws Section.preprocess))) (entries ws Section.preprocess) in
+      let b = tabulate-length (λ i. take (2 ^ wordK ws) (drop (i * 2 ^ wordK ws) (bodyOf ws Section.preprocess))) (entries ws Section.preprocess) in
       let d = y .laid .few-instances in
       let e = y .laid .few-preprocess in
       let f = y .counted .few-witness in

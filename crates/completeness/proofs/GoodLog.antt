@@ -1,4 +1,4 @@
--- A good log is not turned away: ReadingsCovered, GoodLog and ZeroWhen of Insurer. Assumes nothing.
+-- A good log is not turned away: ReadingsCovered, GoodLog and ZeroWhen of Insurer.
 use mathlib.Core.Path.{_≡_, refl, sym, ap, ap₂, _∙_}
 use mathlib.Core.Logic.{_≢_, _↔_}
 use mathlib.Core.Bool.{Bool, true, false}

@@ -1,6 +1,6 @@
 -- Haböck's paper: the counts turn the table into the inputs, h is the paper's and sums to zero, and the counts have the totals of
 -- the paper's normalised multiplicities, so the paper's identity holds of both: CountsTurn, IsHabockH, OnlyHabockH, HabockIdentity,
--- HabockSum, SameTotals, TotalsDecide and SharedIdentity of Papers. Assumes nothing.
+-- HabockSum, SameTotals, TotalsDecide and SharedIdentity of Papers.
 use mathlib.Core.Path.{_≡_, refl, sym, ap, _∙_, subst, fun-ext}
 use mathlib.Core.Logic.{_≢_}
 use mathlib.Core.Bool.{Bool, true, false, cond, decide}

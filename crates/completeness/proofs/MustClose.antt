@@ -1,4 +1,4 @@
--- Whatever z columns meet the start and the part constraints, the two products are equal: MustClose of Copies. Assumes nothing.
+-- Whatever z columns meet the start and the part constraints, the two products are equal: MustClose of Copies.
 use mathlib.Core.Path.{_≡_, refl, sym, ap, ap₂, _∙_, subst}
 use mathlib.Core.Logic.{ite}
 use mathlib.Core.Bool.{Bool, cond}

@@ -1,4 +1,4 @@
--- Few γ make a denominator zero: Odds of Insurer. Assumes nothing.
+-- Few γ make a denominator zero: Odds of Insurer.
 use mathlib.Core.Path.{_≡_, refl, sym, ap, _∙_, subst}
 use mathlib.Core.Logic.{_≢_, _↔_}
 use mathlib.Core.List.{List, [], _++_}
@@ -8,7 +8,7 @@ use native.Mathlib.Omega.{arith}
 use lib.ListN.{length, getD, length-append}
 use Rattle.field.specs.Algebra.{Field, add-comm, add-neg, neg-unique}
 use Rattle.lists.specs.Lists.{tabulate, concat, All}
-use Rattle.lists.proofs.All.{all-get, all-join, all-left, all-right, all-column, all-concat}
+use Rattle.lists.proofs.All.{all-get, all-join, all-left, all-right, all-tabulate, all-concat}
 use Rattle.lists.proofs.Columns.{columns-length, get-columns}
 use Rattle.lists.proofs.Walks.{entry-inside}
 use Rattle.backend.specs.Circuit.{rowsOf, numCopied, numLookups}
@@ -24,7 +24,7 @@ module _ {A : Type 0} (Q : A → Type 0) (rows : ℕ) (f : ℕ → ℕ → A) (n
   all-grid : ((j b : ℕ) → j < n → b < rows → Q (f j b)) → All Q grid
   all-grid h =
       all-concat Q (tabulate (λ j. tabulate (f j) rows) n)
-      (all-column (All Q) (λ j. tabulate (f j) rows) n (λ j l. all-column Q (f j) rows (λ b m. h j b l m)))
+      (all-tabulate (All Q) (λ j. tabulate (f j) rows) n (λ j l. all-tabulate Q (f j) rows (λ b m. h j b l m)))
 
   grid-all : All Q grid → (j b : ℕ) → j < n → b < rows → Q (f j b)
   grid-all a j b l m =

@@ -1,4 +1,4 @@
--- z is PLONK's product over the cells before: IsPaperZ of Copies. Assumes nothing.
+-- z is PLONK's product over the cells before: IsPaperZ of Copies.
 use mathlib.Core.Path.{_≡_, refl, sym, ap, ap₂, _∙_}
 use mathlib.Core.List.{List, map, map-map, map-append}
 use Prim.Native.Nat.{ℕ, zero, suc, _*_, _<_}
@@ -10,7 +10,7 @@ use Rattle.bh.specs.Rows.{rowAt, placeOf}
 use Rattle.bh.proofs.Place.{place-row}
 use Rattle.lists.specs.Lists.{range, tabulate, concat, ceilDiv, cut, All}
 use Rattle.lists.proofs.Lists.{concat-end}
-use Rattle.lists.proofs.All.{all-take, all-drop, all-column, all-concat, map-same}
+use Rattle.lists.proofs.All.{all-take, all-drop, all-tabulate, all-concat, map-same}
 use Rattle.identities.proofs.Totals.{upTo-cong}
 use Rattle.backend.specs.Circuit.{Cell, rowsOf, numCopied}
 use Rattle.preprocessor.specs.Compose.{numZ, zCut}
@@ -24,12 +24,12 @@ use Rattle.completeness.proofs.Copies.{are-factors}
 
 -- the numbers of a cut are those below n
 pub below-in : (n : ℕ) → All (λ j. j < n) (range n)
-below-in n = all-column (λ j. j < n) (λ i. i) n (λ i l. l)
+below-in n = all-tabulate (λ j. j < n) (λ i. i) n (λ i l. l)
 
 pub cut-in : (s n : ℕ) → All (All (λ j. j < n)) (cut s (range n))
 unfolding cut
 cut-in s n =
-    all-column (All (λ j. j < n)) (λ i. take s (drop (i * s) (range n))) (ceilDiv (length (range n)) s)
+    all-tabulate (All (λ j. j < n)) (λ i. take s (drop (i * s) (range n))) (ceilDiv (length (range n)) s)
     (λ i l. all-take (λ j. j < n) s (drop (i * s) (range n)) (all-drop (λ j. j < n) (i * s) (range n) (below-in n)))
 
 module _ (𝓕 : Field) where

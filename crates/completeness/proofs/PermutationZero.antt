@@ -1,4 +1,4 @@
--- The z columns of the definitions are those of the crate identities; so the start and part constraints are zero. Assumes nothing.
+-- The z columns of the definitions are those of the crate identities; so the start and part constraints are zero.
 use mathlib.Core.Path.{_≡_, refl, sym, ap, ap₂, _∙_}
 use mathlib.Core.Logic.{ite, if-neg}
 use mathlib.Core.Bool.{Bool, true, cond}
@@ -21,7 +21,7 @@ use Rattle.identities.specs.Cycles.{labels}
 use Rattle.identities.specs.Copies.{partWith, ids, perms}
 use Rattle.identities.proofs.Copies.{copies-meet}
 use Rattle.identities.specs.Running.{ratio, zCol, scan, Met}
-use Rattle.identities.proofs.Running.{z-scan, z-nought}
+use Rattle.identities.proofs.Running.{z-scan, z-zero}
 use Rattle.identities.specs.Running as Running
 use Rattle.identities.proofs.Products.{product-part}
 use Rattle.expression.specs.Expr.{Expr}
@@ -130,7 +130,7 @@ module _ (𝓕 : Field) (g : Log 𝓕) where
     -- z is the crate identities' z
     pub z-agree : (i b : ℕ) → i < numZ (g .circuit) → zAt 𝓕 g i b ≡ zCol 𝓕 (g .circuit .k) (numZ (g .circuit)) A B i b
     unfolding zAt zAtPlace placeOf
-    z-agree i zero l = sym (z-nought 𝓕 (g .circuit .k) (numZ (g .circuit)) A B i)
+    z-agree i zero l = sym (z-zero 𝓕 (g .circuit .k) (numZ (g .circuit)) A B i)
     z-agree i (suc r) l =
         running-agree (seek (g .circuit .k) (2 ^ g .circuit .k - 1) 1 (suc r) * numZ (g .circuit) + i)
         ∙ sym

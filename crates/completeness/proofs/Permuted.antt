@@ -1,4 +1,4 @@
--- σ permutes the copied cells, and their first labels differ: Permutes and the labels of Copies. Assumes nothing.
+-- σ permutes the copied cells, and their first labels differ: Permutes and the labels of Copies.
 use mathlib.Core.Path.{_≡_, refl, sym, ap, _∙_, subst}
 use mathlib.Core.Logic.{_≢_}
 use mathlib.Core.Bool.{Bool, true, cond}

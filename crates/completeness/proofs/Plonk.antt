@@ -1,4 +1,4 @@
--- PLONK: the labels' source keeps cells apart, and z is the grand product in closed form: IsPlonkZ of Papers. Assumes nothing.
+-- PLONK: the labels' source keeps cells apart, and z is the grand product in closed form: IsPlonkZ of Papers.
 use mathlib.Core.Path.{_≡_, refl, sym, ap, ap₂, _∙_, subst}
 use mathlib.Core.Bool.{Bool, true, cond}
 use mathlib.Core.List.{List, [], _∷_, map}

@@ -1,4 +1,4 @@
--- Each part of a composed constraint is the stage's: Reads of Composed. Assumes nothing.
+-- Each part of a composed constraint is the stage's: Reads of Composed.
 use mathlib.Core.Path.{_≡_, sym, ap, ap₂, _∙_, subst, refl}
 use mathlib.Core.List.{List, [], _∷_, _++_}
 use Prim.Native.Nat.{ℕ, zero, _+_, _*_, _<_}
@@ -9,7 +9,7 @@ use Rattle.bh.specs.Rows.{rotated, iter}
 use Rattle.lists.specs.Lists.{range, All}
 use Rattle.lists.proofs.Lists.{get-left, get-past, get-map}
 use Rattle.lists.proofs.Columns.{below-length, below-get}
-use Rattle.lists.proofs.All.{all-get, all-column, all-those, all-mapped, map-same}
+use Rattle.lists.proofs.All.{all-get, all-tabulate, all-filter, all-mapped, map-same}
 use Rattle.expression.specs.Expr.{Expr, evaluate, distributePowers}
 use Rattle.expression.specs.Value.{polyOf, valueOps, valueAt}
 use Rattle.expression.proofs.Agree.{agree-value}
@@ -44,7 +44,7 @@ use Rattle.completeness.proofs.Passed.{constraints-scoped, lookups-scop
 -- ---- circuits
 pub copied-below : (c : Circuit) → All (λ q. q < numPoly c) (copied c)
 unfolding copiedIn copied
-copied-below c = all-those (λ q. q < numPoly c) _ (range (numPoly c)) (all-column (λ q. q < numPoly c) (λ i. i) (numPoly c) (λ i l. l))
+copied-below c = all-filter (λ q. q < numPoly c) _ (range (numPoly c)) (all-tabulate (λ q. q < numPoly c) (λ i. i) (numPoly c) (λ i l. l))
 
 module _ (𝓕 : Field) where
   open Field 𝓕 using (F, zero as nil, one, add, mul, neg)

@@ -1,4 +1,4 @@
--- A table row listed twice spoils no count: RowListedTwice of Insurer. Assumes nothing.
+-- A table row listed twice spoils no count: RowListedTwice of Insurer.
 use mathlib.Core.Path.{_≡_, sym, ap, _∙_, subst}
 use mathlib.Core.Logic.{_≢_}
 use mathlib.Core.Bool.{true, cond}
@@ -12,7 +12,7 @@ use Rattle.field.specs.Field.{𝔾, el, val, el-val, val-el}
 use Rattle.field.proofs.Elements.{val-zero}
 use Rattle.lists.specs.Lists.{range, writePrefix}
 use Rattle.lists.proofs.Lists.{get-left, get-past, get-map}
-use Rattle.lists.proofs.Columns.{column-length}
+use Rattle.lists.proofs.Columns.{tabulate-length}
 use Rattle.lists.proofs.Searches.{count-le}
 use Rattle.lists.proofs.Walks.{entry-inside}
 use Rattle.identities.proofs.Totals.{upTo-cong}
@@ -78,7 +78,7 @@ module _ (g : Log 𝔾) where
   -- a count is at most 2^k
   count-small : (p : List Pair) (b : ℕ) → countAt 𝔾 g p b ≤ rows
   unfolding countAt multiplicity
-  count-small p b = subst (λ (n : ℕ). countAt 𝔾 g p b ≤ n) (column-length (λ (i : ℕ). i) rows) (count-le _ (range rows))
+  count-small p b = subst (λ (n : ℕ). countAt 𝔾 g p b ≤ n) (tabulate-length (λ (i : ℕ). i) rows) (count-le _ (range rows))
 
 module _ (ws instances witness challenges columns nodes : List ℕ) (z : buildOf (lentBuild ws instances witness challenges columns nodes) .answer .number ≡ 0) where
   abbrev log : Log 𝔾

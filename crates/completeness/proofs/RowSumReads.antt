@@ -1,4 +1,4 @@
--- The row sum reads from the words what building wrote: its environment agrees on every row with that of the log. Assumes nothing.
+-- The row sum reads from the words what building wrote: its environment agrees on every row with that of the log.
 use mathlib.Core.Path.{_≡_, refl, sym, ap, ap₂, _∙_, subst}
 use mathlib.Core.List.{List, [], _∷_, _++_, map, append-assoc, map-append}
 use Prim.Native.Nat.{ℕ, zero, suc, _+_, _*_, _^_, _<_}

@@ -1,4 +1,4 @@
--- Demand 3 holds of what the one call returns and leaves. Assumes nothing.
+-- Demand 3 holds of what the one call returns and leaves.
 use mathlib.Core.Path.{_≡_, refl, sym, ap, _∙_, subst}
 use mathlib.Core.Logic.{_≢_}
 use mathlib.Core.Bool.{Bool, true, false}

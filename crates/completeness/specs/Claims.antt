@@ -1,4 +1,4 @@
--- All that is claimed of the definitions, in one place. Each is proved in proofs/, under the name it has here. Assumes nothing.
+-- All that is claimed of the definitions, in one place. Each is proved in proofs/, under the name it has here.
 use mathlib.Core.Path.{_≡_}
 use mathlib.Core.Logic.{_↔_}
 use mathlib.Core.Bool.{Bool, true, false}

@@ -1,4 +1,4 @@
--- Demand 3, of what the one call returned and left. Assumes nothing.
+-- Demand 3, of what the one call returned and left.
 use mathlib.Core.Path.{_≡_}
 use mathlib.Core.Logic.{_≢_, _↔_}
 use mathlib.Core.List.{List}

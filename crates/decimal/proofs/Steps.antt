@@ -1,4 +1,4 @@
--- One step of a reading: the words ahead, before and after a byte. Assumes nothing.
+-- One step of a reading: the words ahead, before and after a byte.
 use mathlib.Core.Path.{_≡_, refl, sym, ap, _∙_}
 use mathlib.Core.Bool.{Bool, true, false, cond, not, _&&_}
 use mathlib.Core.List.{List, [], _∷_, _++_, map, append-nil}

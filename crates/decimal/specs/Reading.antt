@@ -1,4 +1,4 @@
--- A reading of a text that comes part by part: what it has heard, and what it will have heard when more text follows. Assumes nothing.
+-- A reading of a text that comes part by part: what it has heard, and what it will have heard when more text follows.
 use mathlib.Core.Path.{_≡_}
 use mathlib.Core.Bool.{Bool, true, false, cond}
 use mathlib.Core.List.{List, [], _∷_, _++_}

@@ -1,5 +1,5 @@
 -- What a text of decimal words says. Lines are parted by newline; what stands before '#' in a line has tokens, parted by white
--- space; a token is a decimal number below 2 ^ 64. Bytes are numbers. Assumes nothing.
+-- space; a token is a decimal number below 2 ^ 64. Bytes are numbers.
 use mathlib.Core.Bool.{Bool, true, false, cond, not, _||_}
 use mathlib.Core.List.{List, [], _∷_, _++_, map}
 use Prim.Native.Nat.{ℕ, _+_, _-_, _*_, _%_, _^_}

@@ -1,4 +1,4 @@
--- The bench examples of document 01 (●), one table of theorems over the definitions. Assumes nothing.
+-- The bench examples of document 01 (●), one table of theorems over the definitions.
 use mathlib.Core.Path.{_≡_, refl}
 use mathlib.Core.Bool.{true, false}
 use mathlib.Core.List.{List, [], _∷_}

@@ -1,4 +1,4 @@
--- For worked examples: to unfold `everything` is to unfold each definition named here. Assumes nothing.
+-- For worked examples: to unfold `everything` is to unfold each definition named here.
 use mathlib.Core.Bool.{decide}
 use Prim.Native.Nat.{ℕ}
 use native.Mathlib.Decide.{ℕ-discrete}

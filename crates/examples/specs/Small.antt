@@ -1,5 +1,5 @@
 -- Small whole circuits through the building call and the row sum, with the oracle's answers: made from the oracle's data by
--- `oracle/theorems`. The columns are the given Rust's, the numbers and nodes document 01's. Assumes nothing.
+-- `oracle/theorems`. The columns are the given Rust's, the numbers and nodes document 01's.
 use mathlib.Core.Path.{_≡_, refl}
 use mathlib.Core.List.{List, [], _∷_}
 use Prim.Native.Nat.{ℕ}

@@ -1,4 +1,4 @@
--- Environments that agree on what an expression reads at a row give it one value there. Assumes nothing.
+-- Environments that agree on what an expression reads at a row give it one value there.
 use mathlib.Core.Path.{_≡_, ap, ap₂}
 use Prim.Native.Nat.{ℕ}
 use lib.IntN.{ℤ}

@@ -1,4 +1,4 @@
--- The context that the walk hands down. Assumes nothing.
+-- The context that the walk hands down.
 use mathlib.Core.Path.{_≡_, refl}
 use mathlib.Core.List.{List}
 use Prim.Native.Nat.{ℕ}

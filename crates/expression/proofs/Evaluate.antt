@@ -1,6 +1,5 @@
 -- The one induction over `evaluate`: a relation that the functions of two records keep holds between what they evaluate an
 -- expression to. A property that the functions of one record keep, and a map that respects them, are instances.
--- Assumes nothing.
 use mathlib.Core.Path.{_≡_, ap, ap₂, _∙_}
 use mathlib.Core.List.{List, [], _∷_}
 use Prim.Native.Nat.{ℕ}

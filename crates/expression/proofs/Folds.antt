@@ -1,4 +1,4 @@
--- The folds that the walks compute are the degree, capped, and whether a query is used. Assumes nothing.
+-- The folds that the walks compute are the degree, capped, and whether a query is used.
 use mathlib.Core.Path.{_≡_, refl, sym}
 use mathlib.Core.Bool.{or-false}
 use Prim.Native.Nat.{min}

@@ -1,4 +1,4 @@
--- The leaves of an expression, as the code reads them. Assumes nothing.
+-- The leaves of an expression, as the code reads them.
 use mathlib.Core.Path.{_≡_, refl, sym, ap, _∙_}
 use mathlib.Core.Bool.{Bool, cond}
 use mathlib.Core.List.{List, [], _∷_, map}

@@ -1,4 +1,4 @@
--- The used queries, one candidate after another. Assumes nothing.
+-- The used queries, one candidate after another.
 use mathlib.Core.Path.{_≡_, refl, sym, ap, ap₂, _∙_, subst⁻¹}
 use mathlib.Core.Bool.{Bool, true, false, cond}
 use mathlib.Core.List.{List, [], _∷_, _++_, map, map-append, append-assoc, append-nil}
@@ -11,9 +11,9 @@ use lib.ListN.{length, set, length-append, length-set}
 use borrow.Author.Tests.{le-leb, lt-leb}
 use Rattle.lists.specs.Lists.{tabulate, filter, countOf, concat, writePrefix, writeAt}
 use Rattle.lists.proofs.Lists.{concat-append, pairs-length}
-use Rattle.lists.proofs.Columns.{column-suc, column-append}
-use Rattle.lists.proofs.Tests.{those-append, count-append}
-use Rattle.lists.proofs.Over.{over-none, over-snoc, over-written, length-over}
+use Rattle.lists.proofs.Columns.{tabulate-suc, tabulate-append}
+use Rattle.lists.proofs.Tests.{filter-append, count-append}
+use Rattle.lists.proofs.Over.{writeAt-none, writeAt-snoc, writeAt-writePrefix, length-writeAt}
 use Rattle.expression.specs.Expr.{Query}
 use Rattle.expression.specs.Nodes.{encodeSigned}
 use Rattle.expression.specs.Queries.{queryOf, queryWords, queriesInto}
@@ -39,8 +39,8 @@ module _ (p : Query → Bool) (f : ℕ → Query) where
 
   step : (i : ℕ) (t : Bool) → p (f i) ≡ t → filter p (tabulate f (i + 1)) ≡ filter p (tabulate f i) ++ cond t (f i ∷ []) []
   step i t e =
-      ap (λ (n : ℕ). filter p (tabulate f n)) (add-one i) ∙ ap (filter p) (column-suc f i)
-      ∙ those-append p (tabulate f i) (f i ∷ [])
+      ap (λ (n : ℕ). filter p (tabulate f n)) (add-one i) ∙ ap (filter p) (tabulate-suc f i)
+      ∙ filter-append p (tabulate f i) (f i ∷ [])
       ∙ ap (λ (l : List Query). filter p (tabulate f i) ++ l) (one (f i) t e)
 
   pub count-start : 0 ≡ countOf p (tabulate f 0)
@@ -59,7 +59,7 @@ module _ (p : Query → Bool) (f : ℕ → Query) where
   count-below i m h =
       subst⁻¹ (λ (n : ℕ). countOf p (tabulate f i) ≤ n)
       (ap (λ (n : ℕ). countOf p (tabulate f n)) (let e : m ≡ i + (m - i) = omega arith in e)
-      ∙ ap (countOf p) (column-append f i (m - i))
+      ∙ ap (countOf p) (tabulate-append f i (m - i))
       ∙ count-append p (tabulate f i) (tabulate (λ j. f (i + j)) (m - i)))
       (let e : countOf p (tabulate f i) ≤ countOf p (tabulate f i) + countOf p (tabulate (λ j. f (i + j)) (m - i)) = omega arith in e)
 
@@ -79,7 +79,7 @@ module _ (p : Query → Bool) (f : ℕ → Query) where
 
   pub into-start : (d : List ℕ) → Into d 0 d 0
   unfolding tabulate filter queryWords concat
-  into-start d = (sym (over-none d 0), refl)
+  into-start d = (sym (writeAt-none d 0), refl)
 
   pub into-no : (d out : List ℕ) (i at : ℕ) → p (f i) ≡ false → Into d i out at → Into d (i + 1) out at
   into-no d out i at t h =
@@ -95,16 +95,16 @@ module _ (p : Query → Bool) (f : ℕ → Query) where
         let w = words-length (filter p (tabulate f i)) in
         let a = h .1 in
         let o = ap length (h .0) in
-        let n = length-over d 0 (queryWords (filter p (tabulate f i))) (omega arith) in
+        let n = length-writeAt d 0 (queryWords (filter p (tabulate f i))) (omega arith) in
         omega arith
 
     pub into-yes : (q w : ℕ) → f i ≡ queryOf q w → Into d (i + 1) (set (set out at q) (at + 1) w) (at + 2)
     into-yes q w e = (
       ap₂ (λ (o : List ℕ) (a : ℕ). set (set o a q) (a + 1) w) (h .0) (h .1 ∙ sym (zero-add (length S)))
-          ∙ ap (λ (o : List ℕ). set o (0 + length S + 1) w) (over-snoc d 0 S q (omega (arith, fits)))
+          ∙ ap (λ (o : List ℕ). set o (0 + length S + 1) w) (writeAt-snoc d 0 S q (omega (arith, fits)))
           ∙ ap (λ (a : ℕ). set (writeAt d 0 (S ++ (q ∷ []))) a w)
           (let z : 0 + length S + 1 ≡ 0 + length (S ++ (q ∷ [])) = omega (arith, longer) in z)
-          ∙ over-snoc d 0 (S ++ (q ∷ [])) w (omega (arith, fits, longer))
+          ∙ writeAt-snoc d 0 (S ++ (q ∷ [])) w (omega (arith, fits, longer))
           ∙ ap (writeAt d 0) (append-assoc S (q ∷ []) (w ∷ []) ∙ sym next),
       (let z = ap length next in
           let y = length-append S (q ∷ w ∷ []) in
@@ -139,7 +139,7 @@ module _ (p : Query → Bool) (f : ℕ → Query) where
 pub into-all : (qs : List Query) (d out : List ℕ) → length qs ≤ length d / 2 → out ≡ writeAt d 0 (queryWords qs) → out ≡ queriesInto qs d
 unfolding queriesInto
 into-all qs d out h e =
-    e ∙ sym (over-written (queryWords qs) d)
+    e ∙ sym (writeAt-writePrefix (queryWords qs) d)
     ∙ sym
     (ap (λ (t : Bool). cond t (writePrefix (queryWords qs) d) d)
     (le-leb (length (queryWords qs)) (length d)

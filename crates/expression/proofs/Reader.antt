@@ -1,4 +1,4 @@
--- A polynomial of a layout, by the place that its number falls in. Assumes nothing.
+-- A polynomial of a layout, by the place that its number falls in.
 use mathlib.Core.Path.{_≡_, refl, sym, ap, _∙_}
 use mathlib.Core.List.{List, _++_}
 use Prim.Native.Nat.{ℕ, _+_, _-_, _*_, _≤_, _<_}
@@ -8,7 +8,7 @@ use lib.ListN.{length, getD}
 use Rattle.field.specs.Field.{𝔾, el, el-zero}
 use Rattle.lists.specs.Lists.{tabulate}
 use Rattle.lists.proofs.Lists.{get-left, get-past, get-none}
-use Rattle.lists.proofs.Columns.{column-length, get-column}
+use Rattle.lists.proofs.Columns.{tabulate-length, get-tabulate}
 use Rattle.expression.specs.Value.{polyOf}
 use Rattle.expression.specs.Reader.{polysOf}
 use Rattle.expression.specs.declared.poly.Layout.{Layout}
@@ -18,20 +18,20 @@ module _ (f : ℕ → ℕ → 𝔾 .F) (n : ℕ) (ps : List (ℕ → 𝔾 .F)) (
   among : (q : ℕ) → q < n → polyOf 𝔾 (tabulate f n ++ ps) q b ≡ f q b
   among q h =
       ap (λ (p : ℕ → 𝔾 .F). p b)
-      (get-left (tabulate f n) ps q (λ r. 𝔾 .zero) (let e = column-length f n in omega arith) ∙ get-column f n q (λ r. 𝔾 .zero) h)
+      (get-left (tabulate f n) ps q (λ r. 𝔾 .zero) (let e = tabulate-length f n in omega arith) ∙ get-tabulate f n q (λ r. 𝔾 .zero) h)
 
   after : (q : ℕ) → n ≤ q → polyOf 𝔾 (tabulate f n ++ ps) q b ≡ polyOf 𝔾 ps (q - n) b
   after q h =
       ap (λ (p : ℕ → 𝔾 .F). p b)
-      (get-past (tabulate f n) ps q (q - n) (λ r. 𝔾 .zero) (let e = column-length f n in omega arith))
+      (get-past (tabulate f n) ps q (q - n) (λ r. 𝔾 .zero) (let e = tabulate-length f n in omega arith))
 
 module _ (f : ℕ → ℕ → 𝔾 .F) (n b : ℕ) where
   among-last : (q : ℕ) → q < n → polyOf 𝔾 (tabulate f n) q b ≡ f q b
-  among-last q h = ap (λ (p : ℕ → 𝔾 .F). p b) (get-column f n q (λ r. 𝔾 .zero) h)
+  among-last q h = ap (λ (p : ℕ → 𝔾 .F). p b) (get-tabulate f n q (λ r. 𝔾 .zero) h)
 
   after-last : (q : ℕ) → n ≤ q → polyOf 𝔾 (tabulate f n) q b ≡ 𝔾 .zero
   after-last q h =
-      ap (λ (p : ℕ → 𝔾 .F). p b) (get-none (tabulate f n) q (λ r. 𝔾 .zero) (let e = column-length f n in omega arith))
+      ap (λ (p : ℕ → 𝔾 .F). p b) (get-none (tabulate f n) q (λ r. 𝔾 .zero) (let e = tabulate-length f n in omega arith))
 
 -- the reader's ways: q passes the kinds before its own, and r is the word read
 module _ (l : Layout) (circuit witness columns : List ℕ) (b q r : ℕ) where

@@ -1,4 +1,4 @@
--- Environments whose columns agree on the rows give an expression one value on each row. Assumes nothing.
+-- Environments whose columns agree on the rows give an expression one value on each row.
 use mathlib.Core.Path.{_≡_, refl, sym, ap, ap₂, _∙_}
 use mathlib.Core.List.{List, _++_}
 use Prim.Native.Nat.{ℕ, zero, _+_, _-_, _^_, _<_}
@@ -10,7 +10,7 @@ use Rattle.bh.specs.Rows.{rotated}
 use Rattle.bh.proofs.Turn.{rotated-lt}
 use Rattle.lists.specs.Lists.{tabulate}
 use Rattle.lists.proofs.Lists.{get-left, get-past, get-none}
-use Rattle.lists.proofs.Columns.{get-column, column-length}
+use Rattle.lists.proofs.Columns.{get-tabulate, tabulate-length}
 use Rattle.expression.specs.Expr.{Expr}
 use Rattle.expression.proofs.Within.{anything, within-anything}
 use Rattle.expression.proofs.Agree.{agree-value}
@@ -51,10 +51,10 @@ module _ (𝓕 : Field) where
         → ((i : ℕ) → i < n → (b : ℕ) → b < rows → f i b ≡ polyOf 𝓕 qs i b) → Same rows (tabulate f n) qs
     same-column f n qs e h =
         record {
-          many = column-length f n ∙ e;
+          many = tabulate-length f n ∙ e;
           each = λ i l b m.
-              let w = column-length f n in
-              ap (λ (p : ℕ → F). p b) (get-column f n i (λ r. nil) (omega arith)) ∙ h i (omega arith) b m;
+              let w = tabulate-length f n in
+              ap (λ (p : ℕ → F). p b) (get-tabulate f n i (λ r. nil) (omega arith)) ∙ h i (omega arith) b m;
         }
 
     pub same-at : (ps qs : List (ℕ → F)) → Same rows ps qs → (i b : ℕ) → b < rows → polyOf 𝓕 ps i b ≡ polyOf 𝓕 qs i b

@@ -1,4 +1,4 @@
--- The signed numbers kept in words: as rotations of 32 bits, round the order, and as places. Assumes nothing.
+-- The signed numbers kept in words: as rotations of 32 bits, round the order, and as places.
 use mathlib.Core.Path.{_≡_, refl, sym, ap, ap₂, _∙_, subst, subst⁻¹}
 use mathlib.Core.Bool.{Bool, true, false, cond}
 use Prim.Native.Nat.{ℕ, zero, suc, _+_, _-_, _*_, _/_, _%_, _^_, _≤_, _<_}
@@ -17,7 +17,7 @@ use mathlib.Core.Logic.{_≢_}
 use Rattle.lists.proofs.Tests.{by-test}
 use Rattle.bh.specs.Rows.{iter, nextRow, prevRow, rowAt, placeOf, rotated, modZ, lagrangeRow}
 use Rattle.bh.proofs.Iter.{iter-add, iter-zero, iter-comm}
-use Rattle.bh.proofs.Order.{walk-undo, back-walk-lt, row-nought, row-suc, next-nought, next-returns}
+use Rattle.bh.proofs.Order.{walk-undo, back-walk-lt, row-zero, row-suc, next-zero, next-returns}
 use Rattle.bh.proofs.Words.{shifted}
 use Rattle.bh.proofs.Place.{row-place, place-row}
 use Rattle.expression.specs.Expr.{sameℤ}
@@ -166,7 +166,7 @@ module _ (k : ℕ) (h : 0 < k) (l : k < 21) where
 
   nought : (n : ℕ) → iter (nextRow k) n 0 ≡ 0
   nought zero = iter-zero (nextRow k) 0
-  nought (suc n) = Rattle.bh.proofs.Iter.iter-suc (nextRow k) n 0 ∙ ap (nextRow k) (nought n) ∙ next-nought k l32
+  nought (suc n) = Rattle.bh.proofs.Iter.iter-suc (nextRow k) n 0 ∙ ap (nextRow k) (nought n) ∙ next-zero k l32
 
   -- once round leads back to each row
   once : (b : ℕ) → b < 2 ^ k → iter (nextRow k) (2 ^ k - 1) b ≡ b
@@ -174,7 +174,7 @@ module _ (k : ℕ) (h : 0 < k) (l : k < 21) where
     where
       go : (t : ℕ) → rowAt k t ≡ b → iter (nextRow k) (2 ^ k - 1) b ≡ b
       go zero e =
-          let z : b ≡ 0 = sym e ∙ row-nought k in
+          let z : b ≡ 0 = sym e ∙ row-zero k in
           ap (iter (nextRow k) (2 ^ k - 1)) z ∙ nought (2 ^ k - 1) ∙ sym z
       go (suc t) e =
           let z : b ≡ iter (nextRow k) t 1 = sym e ∙ row-suc k t in

@@ -1,5 +1,5 @@
 -- What each way through the code computes is the size, capped: d is the node as read, and the other hypotheses are what the calls
--- ensure. Assumes nothing.
+-- ensure.
 use mathlib.Core.Path.{_≡_, refl, sym, ap, ap₂, _∙_}
 use mathlib.Core.List.{List}
 use Prim.Native.Nat.{ℕ, suc, _+_, _*_, _≤_, _<_, min}

@@ -1,4 +1,4 @@
--- A node as it is read, one node at a time: d holds its words. Assumes nothing.
+-- A node as it is read, one node at a time: d holds its words.
 use mathlib.Core.Path.{_≡_, refl, sym, ap, _∙_}
 use mathlib.Core.Bool.{Bool, true, false}
 use mathlib.Core.List.{List}

@@ -1,5 +1,5 @@
 -- What each way through the code computes is the fold, for any operations: d is the node as read, and the other hypotheses are what
--- the calls ensure. The walks for the value, the degree and the queries cite these. Assumes nothing.
+-- the calls ensure. The walks for the value, the degree and the queries cite these.
 use mathlib.Core.Path.{_≡_, refl, sym, ap, ap₂, _∙_}
 use mathlib.Core.List.{List}
 use Prim.Native.Nat.{ℕ, _+_, _*_, _≤_, _<_}

@@ -1,4 +1,4 @@
--- Expressions that name only what they may: lists, products and those read from node words. Assumes nothing.
+-- Expressions that name only what they may: lists, products and those read from node words.
 use mathlib.Core.Bool.{Bool, true, false}
 use mathlib.Core.List.{List, [], _∷_}
 use Prim.Native.Nat.{ℕ, zero, suc, _<_}

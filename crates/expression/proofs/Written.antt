@@ -7,7 +7,7 @@ use native.Mathlib.Omega.{arith}
 use lib.IntN.{ℤ}
 use lib.ListN.{length, length-append}
 use Rattle.lists.specs.Lists.{writeWindow}
-use Rattle.lists.proofs.Window.{laid-then}
+use Rattle.lists.proofs.Window.{writeWindow-then}
 use Rattle.expression.specs.Expr.{Expr, Exprs, minus, at, exprsOf, distributePowers, productFrom}
 use Rattle.expression.specs.Nodes.{encodeSigned}
 use Rattle.expression.specs.Flat.{body, sizes, extra, size, root, words, flat, flats, chain}
@@ -19,7 +19,7 @@ then : (from : ℕ) (s t : List ℕ) (at m : ℕ) (d d1 d2 : List ℕ) → m * 4
     → d2 ≡ writeWindow from d1 (m * 4) t
     → d2 ≡ writeWindow from d (at * 4) (s ++ t)
 then from s t at m d d1 d2 e p q =
-    q ∙ ap (λ (x : List ℕ). writeWindow from x (m * 4) t) p ∙ laid-then from d (at * 4) s t (m * 4) e
+    q ∙ ap (λ (x : List ℕ). writeWindow from x (m * 4) t) p ∙ writeWindow-then from d (at * 4) s t (m * 4) e
 
 -- four words, one by one
 pub pushed : (from at k a b v : ℕ) (d d1 d2 d3 d4 : List ℕ) → d1 ≡ writeWindow from d (at * 4) (k ∷ [])
@@ -29,13 +29,13 @@ pub pushed : (from at k a b v : ℕ) (d d1 d2 d3 d4 : List ℕ) → d1 ≡ write
     → Pushed from at k a b v d d4 (at + 1)
 pushed from at k a b v d d1 d2 d3 d4 p q r s =
     let two : d2 ≡ writeWindow from d (at * 4) (k ∷ a ∷ []) =
-    q ∙ ap (λ (x : List ℕ). writeWindow from x (at * 4 + 1) (a ∷ [])) p ∙ laid-then from d (at * 4) (k ∷ []) (a ∷ []) (at * 4 + 1) (omega arith) in
+    q ∙ ap (λ (x : List ℕ). writeWindow from x (at * 4 + 1) (a ∷ [])) p ∙ writeWindow-then from d (at * 4) (k ∷ []) (a ∷ []) (at * 4 + 1) (omega arith) in
     let three : d3 ≡ writeWindow from d (at * 4) (k ∷ a ∷ b ∷ []) =
     r ∙ ap (λ (x : List ℕ). writeWindow from x (at * 4 + 2) (b ∷ [])) two
-    ∙ laid-then from d (at * 4) (k ∷ a ∷ []) (b ∷ []) (at * 4 + 2) (omega arith) in
+    ∙ writeWindow-then from d (at * 4) (k ∷ a ∷ []) (b ∷ []) (at * 4 + 2) (omega arith) in
     let four : d4 ≡ writeWindow from d (at * 4) (words k a b v) =
     s ∙ ap (λ (x : List ℕ). writeWindow from x (at * 4 + 3) (v ∷ [])) three
-    ∙ laid-then from d (at * 4) (k ∷ a ∷ b ∷ []) (v ∷ []) (at * 4 + 3) (omega arith) in
+    ∙ writeWindow-then from d (at * 4) (k ∷ a ∷ b ∷ []) (v ∷ []) (at * 4 + 3) (omega arith) in
     record { number = refl; buffer = four }
 
 -- the same tree

@@ -1,4 +1,4 @@
--- Where an expression is evaluated: a row of the order, over the words that are lent. Assumes nothing.
+-- Where an expression is evaluated: a row of the order, over the words that are lent.
 use mathlib.Core.Path.{_≡_}
 use mathlib.Core.List.{List, [], _∷_, map}
 use Prim.Native.Nat.{ℕ, _^_, _<_}

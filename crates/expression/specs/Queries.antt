@@ -1,4 +1,4 @@
--- The queries that an expression uses, in rising order. Assumes nothing.
+-- The queries that an expression uses, in rising order.
 use mathlib.Core.Bool.{cond}
 use mathlib.Core.List.{List, [], _∷_, _++_, map}
 use Prim.Native.Nat.{ℕ, _+_, _-_, _*_, _/_, _%_}

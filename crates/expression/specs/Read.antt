@@ -1,4 +1,4 @@
--- A node as it is read. Assumes nothing.
+-- A node as it is read.
 use mathlib.Core.List.{List}
 use Prim.Native.Nat.{ℕ}
 use Rattle.expression.specs.Nodes.{wordOf}

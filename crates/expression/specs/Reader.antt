@@ -1,4 +1,4 @@
--- The polynomials as they stand in the circuit words, the witness words and the column words. Assumes nothing.
+-- The polynomials as they stand in the circuit words, the witness words and the column words.
 use mathlib.Core.List.{List, _++_}
 use Prim.Native.Nat.{ℕ, _+_, _*_, _≤_}
 use lib.ListN.{getD}

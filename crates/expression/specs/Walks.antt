@@ -1,4 +1,4 @@
--- The folds that the walks over node words compute; their laws are in proofs/. Assumes nothing.
+-- The folds that the walks over node words compute; their laws are in proofs/.
 use mathlib.Core.Bool.{Bool, true, false, _||_}
 use mathlib.Core.List.{List, []}
 use Prim.Native.Nat.{ℕ, suc, _+_, min, max}

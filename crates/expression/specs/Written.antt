@@ -1,5 +1,5 @@
 -- What writing node words leaves: the next free node, and the buffer after. The buffer stands for the words from word `from` on, and what
--- falls outside it is left out. Assumes nothing.
+-- falls outside it is left out.
 use mathlib.Core.Path.{_≡_}
 use mathlib.Core.List.{List, _++_}
 use Prim.Native.Nat.{ℕ, _+_, _-_, _*_}

@@ -1,5 +1,5 @@
 -- Words and elements of 𝔾, in both directions, beside Field's laws of `el`: what an operation answers is below P, an element's
--- number is what the operation on numbers answers, and a number below P is known by its element. Assumes nothing.
+-- number is what the operation on numbers answers, and a number below P is known by its element.
 use mathlib.Core.Path.{_≡_, sym, ap, ap₂, _∙_}
 use Prim.Native.Nat.{ℕ, zero, suc, _+_, _-_, _*_, _%_, _^_, _<_}
 use native.Mathlib.Nat.{mod-lt, pow-zero, pow-suc}

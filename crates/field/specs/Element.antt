@@ -1,4 +1,4 @@
--- The element of 𝔾 that a field value is: that of its word, whatever the word. Assumes nothing.
+-- The element of 𝔾 that a field value is: that of its word, whatever the word.
 use mathlib.Core.Bool.{Bool, decide}
 use Rattle.field.specs.Field.{𝔾, el}
 use Rattle.field.specs.declared.goldilocks.Goldilocks.{Goldilocks}

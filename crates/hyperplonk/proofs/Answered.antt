@@ -1,4 +1,4 @@
--- What the entry points leave in the answer. Assumes nothing.
+-- What the entry points leave in the answer.
 use mathlib.Core.Path.{_≡_, sym, ap, _∙_}
 use mathlib.Core.Bool.{Bool, true, false, cond}
 use mathlib.Core.List.{List, [], _∷_}
@@ -8,7 +8,7 @@ use lib.Dec.{leb}
 use lib.ListN.{length, set}
 use borrow.Author.Tests.{le-leb, lt-leb}
 use Rattle.lists.specs.Lists.{writePrefix}
-use Rattle.lists.proofs.Over.{over-sets, over-written}
+use Rattle.lists.proofs.Over.{writeAt-sets, writeAt-writePrefix}
 use Rattle.hyperplonk_spec.specs.Build.{Output}
 use Rattle.hyperplonk_spec.specs.Entries.{BuildEntry, SumEntry, answered, buildEntry, sumEntry}
 use Rattle.hyperplonk_spec.specs.declared.Built.{Built}
@@ -24,11 +24,11 @@ unfolding answered
 room ws d h = sym (ap (λ (t : Bool). cond t (writePrefix ws d) d) (le-leb (length ws) (length d) h))
 
 pub one : (d : List ℕ) (a : ℕ) → 1 ≤ length d → set d 0 a ≡ answered (a ∷ []) d
-one d a h = over-sets (a ∷ []) d 0 (omega arith) ∙ sym (over-written (a ∷ []) d) ∙ room (a ∷ []) d h
+one d a h = writeAt-sets (a ∷ []) d 0 (omega arith) ∙ sym (writeAt-writePrefix (a ∷ []) d) ∙ room (a ∷ []) d h
 
 pub three : (d : List ℕ) (a b c : ℕ) → 3 ≤ length d → set (set (set d 0 a) 1 b) 2 c ≡ answered (a ∷ b ∷ c ∷ []) d
 three d a b c h =
-    over-sets (a ∷ b ∷ c ∷ []) d 0 (omega arith) ∙ sym (over-written (a ∷ b ∷ c ∷ []) d) ∙ room (a ∷ b ∷ c ∷ []) d h
+    writeAt-sets (a ∷ b ∷ c ∷ []) d 0 (omega arith) ∙ sym (writeAt-writePrefix (a ∷ b ∷ c ∷ []) d) ∙ room (a ∷ b ∷ c ∷ []) d h
 
 pub entry-built : (o : Output) (r : Built) (columns nodes answer after : List ℕ)
     → _≡_ {A = Output} (record { answer = r; columns = columns; nodes = nodes }) o

@@ -1,4 +1,4 @@
--- What the building call returns and leaves, from what its parts do. Assumes nothing.
+-- What the building call returns and leaves, from what its parts do.
 use mathlib.Core.Path.{_≡_, sym, ap, ap₂, _∙_, subst}
 use mathlib.Core.Bool.{Bool, true, false, cond}
 use mathlib.Core.List.{List}
@@ -10,7 +10,7 @@ use borrow.Author.Tests.{leb-true}
 use Rattle.field.specs.Field.{𝔾}
 use Rattle.lists.specs.Lists.{writePrefix}
 use Rattle.lists.proofs.Tests.{and-left, and-right}
-use Rattle.lists.proofs.Over.{over-written}
+use Rattle.lists.proofs.Over.{writeAt-writePrefix}
 use Rattle.backend.specs.Circuit.{circuitOf, rowsOf, copied, numCopied}
 use Rattle.preprocessor.specs.Compose.{numZ, composedWords, composedNodes}
 use Rattle.preprocessor.specs.ComposeWords.{Composed}
@@ -84,7 +84,7 @@ module _ (ws instances witness challenges columns nodes : List ℕ) where
   is-made d n t words count parts a f e w p room c =
       let yes : allCovered 𝔾 (logOf ws instances witness challenges) ≡ true = sym a ∙ f in
       let nodes-are : n ≡ writePrefix (composedWords (circuitOf ws)) nodes =
-      composed-over room c ∙ sym (over-written (composedWords (circuitOf ws)) nodes) in
+      composed-over room c ∙ sym (writeAt-writePrefix (composedWords (circuitOf ws)) nodes) in
       let buffers : _≡_ {A = Output}
       (record { answer = record { number = 0; «column_words» = words; nodes = count; «z_columns» = parts }; columns = d; nodes = n })
       (record {

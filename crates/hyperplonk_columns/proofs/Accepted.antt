@@ -1,4 +1,4 @@
--- The stages on accepted circuit words: what each asks for, and what all of them write. Assumes nothing.
+-- The stages on accepted circuit words: what each asks for, and what all of them write.
 use mathlib.Core.Path.{_≡_, refl, sym, ap, ap₂, _∙_, subst}
 use mathlib.Core.Bool.{Bool, true, false, cond, _&&_}
 use mathlib.Core.List.{List}

@@ -1,4 +1,4 @@
--- The columns of a log in the column buffer, stage by stage. Assumes nothing.
+-- The columns of a log in the column buffer, stage by stage.
 use mathlib.Core.Path.{_≡_, refl, sym, ap, ap₂, _∙_}
 use mathlib.Core.List.{List, [], _++_, append-assoc, append-nil}
 use Prim.Native.Nat.{ℕ, _+_, _*_, _≤_, _<_}
@@ -7,9 +7,9 @@ use native.Mathlib.Omega.{arith}
 use lib.ListN.{length, getD, take, length-append}
 use Rattle.field.specs.Field.{𝔾, el, el-val}
 use Rattle.lists.specs.Lists.{tabulate, writeAt, writePrefix}
-use Rattle.lists.proofs.Columns.{get-column, map-below}
+use Rattle.lists.proofs.Columns.{get-tabulate, map-below}
 use Rattle.lists.proofs.Turns.{grid-lt}
-use Rattle.lists.proofs.Over.{over-written}
+use Rattle.lists.proofs.Over.{writeAt-writePrefix}
 use Rattle.expression.specs.Value.{polyOf}
 use Rattle.backend.specs.Circuit.{Circuit, Section, circuitOf, entries, rowsOf, numInstance, numChallenges, copied, numCopied, numLookups}
 use Rattle.preprocessor.specs.Compose.{numZ}
@@ -25,7 +25,7 @@ use Rattle.prover.proofs.Z.{z-agree}
 use Rattle.hyperplonk_spec.specs.Build.{logOf, columnWords}
 use Rattle.hyperplonk_prepare.specs.Prepared.{layoutFromWords, permutationOffset, compressedOffset, mOffset, hOffset, zOffset}
 use Rattle.hyperplonk_columns.specs.Kinds.{polysBeforeM, polysThroughM, polysAfterM}
-use Rattle.hyperplonk_columns.proofs.Fronts.{over-take, take-over, front-get}
+use Rattle.hyperplonk_columns.proofs.Fronts.{over-take, take-writeAt, front-get}
 
 module _ (g : Log 𝔾) where
   abbrev c : Circuit
@@ -129,7 +129,7 @@ module _ (g : Log 𝔾) where
       (hs-at ∙ sym (zero-add (length (polysThroughM 𝔾 g) * R)))
       (room-of d (numInstance c + numCopied c + numLookups c * 3) (omega arith) r)
       ∙ ap (λ (ps : List (ℕ → 𝔾 .F)). writeAt d 0 (wordsOf R ps)) written-grouped
-      ∙ sym (over-written (wordsOf R (writtenPolys 𝔾 g)) d)
+      ∙ sym (writeAt-writePrefix (wordsOf R (writtenPolys 𝔾 g)) d)
 
   -- ---- what a buffer with columns at its front reads as
 
@@ -157,7 +157,7 @@ module _ (g : Log 𝔾) where
       ∙ words-get R (permutationPolys 𝔾 g) i b (let q = permutations-length 𝔾 g in omega arith) hb)
       ∙ el-val (polyOf 𝔾 (permutationPolys 𝔾 g) i b)
       ∙ ap (λ (ps : List (ℕ → 𝔾 .F)). polyOf 𝔾 ps i b) (map-below (permutationAt 𝔾 g) (numCopied c))
-      ∙ ap (λ (p : ℕ → 𝔾 .F). p b) (get-column (permutationAt 𝔾 g) (numCopied c) i (λ r. 𝔾 .zero) hi)
+      ∙ ap (λ (p : ℕ → 𝔾 .F). p b) (get-tabulate (permutationAt 𝔾 g) (numCopied c) i (λ r. 𝔾 .zero) hi)
 
   -- the compressed columns, before and after the counts
   compressed-read : (e d : List ℕ) (rs all : List (ℕ → 𝔾 .F)) → all ≡ polysBeforeM 𝔾 g ++ rs → d ≡ writeAt e 0 (wordsOf R all)
@@ -174,7 +174,7 @@ module _ (g : Log 𝔾) where
   -- a buffer that has the columns to the counts at its front
   module _ (d : List ℕ) (front : take (hOffset c) d ≡ wordsOf R (polysThroughM 𝔾 g)) where
     counted-front : d ≡ writeAt d 0 (wordsOf R (polysThroughM 𝔾 g))
-    counted-front = take-over R d (polysThroughM 𝔾 g) (hOffset c) hs-at front
+    counted-front = take-writeAt R d (polysThroughM 𝔾 g) (hOffset c) hs-at front
 
     pub compressed-counted : (j : ℕ) → j < numLookups c * 2 * R → getD d (compressedOffset c + j) 0 ≡ getD (wordsOf R (compressedPolys 𝔾 g)) j 0
     compressed-counted = compressed-read d d (mPolys 𝔾 g) (polysThroughM 𝔾 g) refl counted-front

@@ -1,4 +1,4 @@
--- The columns of a log that stand before the m, before the h, and behind the m. Assumes nothing.
+-- The columns of a log that stand before the m, before the h, and behind the m.
 use mathlib.Core.List.{List, _++_}
 use Prim.Native.Nat.{ℕ}
 use Rattle.field.specs.Algebra.{Field}

@@ -1,4 +1,4 @@
--- The words that the stages write, from the words that are lent. Assumes nothing.
+-- The words that the stages write, from the words that are lent.
 use mathlib.Core.List.{List, map}
 use Prim.Native.Nat.{ℕ, _+_}
 use lib.ListN.{getD, take}

@@ -1,4 +1,4 @@
--- A run of lent words, compared with the composed words in a window. Assumes nothing.
+-- A run of lent words, compared with the composed words in a window.
 use mathlib.Core.Path.{_≡_, sym, ap, _∙_}
 use mathlib.Core.Bool.{Bool, true}
 use mathlib.Core.List.{List}

@@ -1,4 +1,4 @@
--- The sections of accepted circuit words are what `compose` asks for. Assumes nothing.
+-- The sections of accepted circuit words are what `compose` asks for.
 use mathlib.Core.Path.{_≡_, ap}
 use mathlib.Core.List.{List}
 use Prim.Native.Nat.{ℕ, _*_, _≤_}

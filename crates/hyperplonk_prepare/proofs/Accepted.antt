@@ -1,4 +1,4 @@
--- What questions 1 to 11 tell, in the words that the functions ask for. Assumes nothing.
+-- What questions 1 to 11 tell, in the words that the functions ask for.
 use mathlib.Core.Path.{_≡_, refl, sym, ap, _∙_, subst}
 use mathlib.Core.Bool.{Bool, true}
 use mathlib.Core.List.{List, _++_, map}

@@ -1,4 +1,4 @@
--- The number that questions 1 to 14 give, by the answers. Assumes nothing.
+-- The number that questions 1 to 14 give, by the answers.
 use mathlib.Core.Path.{_≡_, refl, sym, _∙_}
 use mathlib.Core.Bool.{true, false}
 use mathlib.Core.List.{List, [], _∷_, _++_, map}

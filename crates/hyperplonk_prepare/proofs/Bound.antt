@@ -1,4 +1,4 @@
--- Where questions 1 to 11 are yes, the composed expression takes at most 4,190 nodes. Assumes nothing.
+-- Where questions 1 to 11 are yes, the composed expression takes at most 4,190 nodes.
 use mathlib.Core.Path.{_≡_}
 use mathlib.Core.List.{List, map}
 use Prim.Native.Nat.{ℕ, _+_, _≤_, min}

@@ -1,4 +1,4 @@
--- What the functions compute from accepted circuit words is what the definitions say. Assumes nothing.
+-- What the functions compute from accepted circuit words is what the definitions say.
 use mathlib.Core.Path.{_≡_, sym, ap, ap₂, _∙_}
 use mathlib.Core.Bool.{Bool, true, _&&_}
 use mathlib.Core.List.{List, [], _∷_, _++_}
@@ -12,7 +12,7 @@ use borrow.Author.Tests.{le-leb, leb-true}
 use Rattle.field.specs.Prime.{P}
 use Rattle.lists.specs.Lists.{allOf, total, concat, All}
 use Rattle.lists.proofs.All.{all-from}
-use Rattle.lists.proofs.Columns.{column-length}
+use Rattle.lists.proofs.Columns.{tabulate-length}
 use Rattle.lists.proofs.Once.{same-tests}
 use Rattle.lists.proofs.Parts.{concat-split}
 use Rattle.backend.specs.Circuit.{Section, wordK, bodyOf, wordEach, cellAt, cellsOf, statedOf, circuitOf, rowsOf, numWitness, numChallenges, numPoly, numLookups, copiedIn, copied, numCopied}
@@ -50,7 +50,7 @@ module _ (ws : List ℕ) (a : Accepted ws) where
       let body : List ℕ = bodyOf ws Section.cells in
       ap concat (sym (known.cycles-are ws a)) ∙ concat-split (bodyOf ws Section.lengths) (cellsOf body)
       ∙ take-all (total (bodyOf ws Section.lengths)) (cellsOf body)
-      (let e = column-length (cellAt body) (length body / 2) in
+      (let e = tabulate-length (cellAt body) (length body / 2) in
       let h = known.cells-half ws a in
       let t = known.cells-total ws a in
       omega arith)

@@ -1,4 +1,4 @@
--- Circuit words for which questions 1 to 11 are yes, what is computed from them, and where the columns begin. Assumes nothing.
+-- Circuit words for which questions 1 to 11 are yes, what is computed from them, and where the columns begin.
 use mathlib.Core.Path.{_≡_}
 use mathlib.Core.List.{List}
 use Prim.Native.Nat.{ℕ, _+_, _*_, _^_}

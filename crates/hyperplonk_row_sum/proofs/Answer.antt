@@ -1,4 +1,4 @@
--- What the row sum answers: a number, or the sum. Assumes nothing.
+-- What the row sum answers: a number, or the sum.
 use mathlib.Core.Path.{_≡_, refl, sym, ap, _∙_}
 use mathlib.Core.Bool.{Bool, true, false, not, cond}
 use mathlib.Core.List.{List, [], map}

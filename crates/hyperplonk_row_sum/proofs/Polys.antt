@@ -1,4 +1,4 @@
--- The polynomials of the row sum's layout are those that the row sum is defined over. Assumes nothing.
+-- The polynomials of the row sum's layout are those that the row sum is defined over.
 use mathlib.Core.Path.{_≡_, refl, sym, ap, _∙_, subst}
 use mathlib.Core.List.{List, []}
 use Prim.Native.Nat.{ℕ, _+_, _*_, _^_, _<_}
@@ -8,7 +8,7 @@ use Rattle.field.specs.Field.{𝔾, el}
 use Rattle.bh.specs.Rows.{rotated}
 use Rattle.bh.proofs.Turn.{rotated-lt}
 use Rattle.lists.specs.Lists.{tabulate}
-use Rattle.lists.proofs.Columns.{column-length}
+use Rattle.lists.proofs.Columns.{tabulate-length}
 use Rattle.lists.proofs.Lists.{get-map}
 use Rattle.expression.specs.Expr.{Expr}
 use Rattle.expression.specs.Value.{polyOf, valueAt}
@@ -38,7 +38,7 @@ module _ (ws witness columns : List ℕ) (accepted : Accepted ws) where
 
   preprocess-count : numPreprocess (circuitOf ws) ≡ entries ws Section.preprocess
   unfolding circuitOf
-  preprocess-count = column-length _ (entries ws Section.preprocess)
+  preprocess-count = tabulate-length _ (entries ws Section.preprocess)
 
   same : (ps qs : List (ℕ → 𝔾 .F)) → ps ≡ qs → Same 𝔾 rows ps qs
   same ps qs e = subst (λ (xs : List (ℕ → 𝔾 .F)). Same 𝔾 rows ps xs) e (same-refl 𝔾 rows ps)

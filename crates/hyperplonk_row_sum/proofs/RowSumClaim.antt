@@ -1,4 +1,4 @@
--- What demand 3 says of the row sum holds of what its definition gives. Assumes nothing.
+-- What demand 3 says of the row sum holds of what its definition gives.
 use mathlib.Core.Path.{_≡_, refl, sym, ap, _∙_}
 use mathlib.Core.Bool.{Bool, true, cond}
 use mathlib.Core.List.{List, map}

@@ -1,4 +1,4 @@
--- A sum of a value for each row, through the row order. Assumes nothing.
+-- A sum of a value for each row, through the row order.
 use mathlib.Core.Path.{_≡_, sym, ap, ap₂, _∙_}
 use Prim.Native.Nat.{ℕ, _+_, _^_, _<_}
 use native.Mathlib.Numerals.{add-one}

@@ -1,4 +1,4 @@
--- Question 16 in parts: the lengths, then the node words, then the values. Assumes nothing.
+-- Question 16 in parts: the lengths, then the node words, then the values.
 use mathlib.Core.Path.{_≡_, refl, sym, ap, ap₂, _∙_}
 use mathlib.Core.Bool.{Bool, true, false, not, _&&_}
 use mathlib.Core.List.{List}

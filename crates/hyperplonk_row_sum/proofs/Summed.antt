@@ -1,4 +1,4 @@
--- What the row sum's words tell, and the value of the last node at a row. Assumes nothing.
+-- What the row sum's words tell, and the value of the last node at a row.
 use mathlib.Core.Path.{_≡_, sym, ap, _∙_}
 use mathlib.Core.List.{List}
 use Prim.Native.Nat.{ℕ, _+_, _-_, _*_, _/_, _^_, _≤_, _<_}

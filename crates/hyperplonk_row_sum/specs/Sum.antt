@@ -1,4 +1,4 @@
--- Question 16 in parts, where the polynomials stand that the row sum reads, and what it requires of the words. Assumes nothing.
+-- Question 16 in parts, where the polynomials stand that the row sum reads, and what it requires of the words.
 use mathlib.Core.Path.{_≡_}
 use mathlib.Core.Bool.{Bool, _&&_}
 use mathlib.Core.List.{List}

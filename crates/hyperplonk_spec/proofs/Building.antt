@@ -1,5 +1,4 @@
 -- The building call: a refusal but 15 writes nothing; what 15 and success write; the words needed are those written.
--- Assumes nothing.
 use mathlib.Core.Path.{_≡_, ap, _∙_}
 use mathlib.Core.Bool.{true, false}
 use mathlib.Core.List.{List}

@@ -1,4 +1,4 @@
--- When the lookup, start and part constraints are zero: LookupZero, StartZero and PartZero of Composed. Assumes nothing.
+-- When the lookup, start and part constraints are zero: LookupZero, StartZero and PartZero of Composed.
 use mathlib.Core.Path.{_≡_, refl, sym, ap, _∙_}
 use mathlib.Core.Logic.{_≢_, _↔_}
 use mathlib.Core.Bool.{Bool, true, false, cond}

@@ -1,4 +1,4 @@
--- How words enter a field: as sums of ones. Assumes nothing.
+-- How words enter a field: as sums of ones.
 use mathlib.Core.Path.{_≡_, sym, ap, _∙_}
 use Prim.Native.Nat.{ℕ, suc, _+_}
 use native.Mathlib.Nat.{add-zero, add-suc}

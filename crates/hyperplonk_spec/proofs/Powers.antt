@@ -1,5 +1,5 @@
 -- The value of a list by powers of its base, and of the composed expression: PowersValue and ComposeValue of Composed; and when such
--- lists sum to zero. Assumes nothing.
+-- lists sum to zero.
 use mathlib.Core.Path.{_≡_, refl, sym, ap, ap₂, _∙_, fun-ext}
 use mathlib.Core.List.{List, [], _∷_, _++_, map, map-append}
 use Prim.Native.Nat.{ℕ, suc, _<_}
@@ -9,7 +9,7 @@ use Rattle.field.specs.Algebra.{Field, add-assoc, add-zero, mul-assoc, mul-add,
 use Rattle.bh.specs.Sums.{upTo}
 use Rattle.bh.specs.Rows.{rotated, iter}
 use Rattle.lists.specs.Lists.{tabulate, All}
-use Rattle.lists.proofs.Columns.{map-column, column-first}
+use Rattle.lists.proofs.Columns.{map-tabulate, tabulate-first}
 use Rattle.identities.proofs.Totals.{upTo-first, upTo-units, upTo-cong, upTo-op}
 use Rattle.identities.proofs.Fields.{adds, mul-sum}
 use Rattle.expression.specs.Expr.{Expr, running, evaluate, values, exprsOf, distributePowers, at}
@@ -56,7 +56,7 @@ module _ (𝓕 : Field) where
       none b l = (z b l, tt)
   sum-composed α H v (suc n) rows h z =
       upTo-cong add zero _ (λ b. add (H 0 b) (mul α (rest b))) rows
-      (λ b l. ap (λ (xs : List F). powerSum 𝓕 α (xs ++ (v b ∷ []))) (column-first (λ j. H j b) n) ∙ power-cons α (H 0 b) (tabulate (λ j. H (suc j) b) n ++ (v b ∷ [])))
+      (λ b l. ap (λ (xs : List F). powerSum 𝓕 α (xs ++ (v b ∷ []))) (tabulate-first (λ j. H j b) n) ∙ power-cons α (H 0 b) (tabulate (λ j. H (suc j) b) n ++ (v b ∷ [])))
       ∙ upTo-op add zero (adds 𝓕) (λ b. H 0 b) (λ b. mul α (rest b)) rows
       ∙ ap₂ add (h 0 (omega arith))
       (sym (mul-sum 𝓕 α rest rows) ∙ ap (mul α) (sum-composed α (λ j. H (suc j)) v n rows (λ j l. h (suc j) (omega arith)) z) ∙ mul-zero 𝓕 α)
@@ -118,5 +118,5 @@ module _ (𝓕 : Field) where
           powers-value h (tabulate hs (numLookups c) ++ (zeroCheck c ∷ [])) (alphaOf c) b
           ∙ ap (powerSum 𝓕 (valueAt 𝓕 s (alphaOf c) b))
           (map-append (λ e. valueAt 𝓕 s e b) (tabulate hs (numLookups c)) (zeroCheck c ∷ [])
-          ∙ ap (λ (l : List F). l ++ (valueAt 𝓕 s (zeroCheck c) b ∷ [])) (map-column (λ e. valueAt 𝓕 s e b) hs (numLookups c))
+          ∙ ap (λ (l : List F). l ++ (valueAt 𝓕 s (zeroCheck c) b ∷ [])) (map-tabulate (λ e. valueAt 𝓕 s e b) hs (numLookups c))
           ∙ ap (λ (v : F). tabulate (λ j. valueAt 𝓕 s (hs j) b) (numLookups c) ++ (v ∷ [])) (zero-check-value h b))

@@ -1,4 +1,4 @@
--- The node words that building writes are read as the composed tree: ReadsBack of Composed. Assumes nothing.
+-- The node words that building writes are read as the composed tree: ReadsBack of Composed.
 use mathlib.Core.Path.{_≡_, refl, _∙_}
 use mathlib.Core.Bool.{Bool, true, false, cond}
 use mathlib.Core.List.{List, [], _∷_, _++_, map}
@@ -7,7 +7,7 @@ use lib.Dec.{eqb, ltb}
 use lib.IntN.{pos}
 use lib.ListN.{getD}
 use Rattle.lists.specs.Lists.{tabulate, All}
-use Rattle.lists.proofs.All.{all-getD, all-join, all-column, all-split, all-mapped, all-map}
+use Rattle.lists.proofs.All.{all-getD, all-join, all-tabulate, all-split, all-mapped, all-map}
 use Rattle.expression.specs.Expr.{Expr, distributePowers, at}
 use Rattle.expression.specs.Nodes.{encodeSigned, exprOf}
 use Rattle.expression.proofs.Within.{powers-within, product-within}
@@ -46,7 +46,7 @@ circuit-kept ws =
       lookups =
           all-split PairKept (bodyOf ws Section.widths)
           (tabulate (pairAt (bodyOf ws Section.nodes) (bodyOf ws Section.pairs)) (entries ws Section.pairs))
-          (all-column PairKept (pairAt (bodyOf ws Section.nodes) (bodyOf ws Section.pairs)) (entries ws Section.pairs)
+          (all-tabulate PairKept (pairAt (bodyOf ws Section.nodes) (bodyOf ws Section.pairs)) (entries ws Section.pairs)
           (λ i l. (read-kept (bodyOf ws Section.nodes) _, read-kept (bodyOf ws Section.nodes) _)));
     }
 
@@ -96,14 +96,14 @@ module _ (c : Circuit) (k : CircuitKept c) where
     where
       go : (t : Bool) → All Kept (cond t [] (startConstraint c ∷ tabulate (partConstraint c) (numZ c)))
       go true = tt
-      go false = (start-kept, all-column Kept (partConstraint c) (numZ c) (λ i l. part-kept i))
+      go false = (start-kept, all-tabulate Kept (partConstraint c) (numZ c) (λ i l. part-kept i))
 
   composed-kept : All Kept (composedConstraints c)
   unfolding constraintTrees lookupTreeOf lookupConstraint paramsOf lookupConstraints
   composed-kept =
       all-join Kept (c .constraints) _ (k .constraints)
       (all-join Kept (lookupConstraints c) (permutationConstraints c)
-      (all-column Kept (lookupConstraint c) (numLookups c) (λ j l. lookup-kept j))
+      (all-tabulate Kept (lookupConstraint c) (numLookups c) (λ j l. lookup-kept j))
       permutations-kept)
 
   compose-kept : Kept (compose c)
@@ -111,7 +111,7 @@ module _ (c : Circuit) (k : CircuitKept c) where
   compose-kept =
       powers-within kept-signs _ (alphaOf c)
       (all-join Kept (tabulate (λ j. at (hNumber c j)) (numLookups c)) (zeroCheck c ∷ [])
-      (all-column Kept (λ j. at (hNumber c j)) (numLookups c) (λ j l. refl))
+      (all-tabulate Kept (λ j. at (hNumber c j)) (numLookups c) (λ j l. refl))
       ((powers-within kept-signs (composedConstraints c) (alphaOf c) composed-kept tt, tt), tt))
       tt
 

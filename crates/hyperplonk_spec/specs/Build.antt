@@ -1,4 +1,4 @@
--- The building call: questions 12 to 15, and what is returned and written. Assumes nothing.
+-- The building call: questions 12 to 15, and what is returned and written.
 use mathlib.Core.Bool.{Bool, true, false, cond, _&&_}
 use mathlib.Core.List.{List, [], _∷_, _++_, map}
 use Prim.Native.Nat.{ℕ, _+_, _*_}

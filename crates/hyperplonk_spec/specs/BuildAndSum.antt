@@ -1,4 +1,4 @@
--- The building call and the row sum of what it wrote, as one call. Assumes nothing.
+-- The building call and the row sum of what it wrote, as one call.
 use mathlib.Core.Bool.{cond}
 use mathlib.Core.List.{List}
 use Prim.Native.Nat.{ℕ, _-_, _*_}

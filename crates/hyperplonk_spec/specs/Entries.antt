@@ -1,5 +1,5 @@
 -- The building call and the row sum as C and Rust call them: the number comes back, and the other words returned stand in one more
--- buffer. Assumes nothing.
+-- buffer.
 use mathlib.Core.Bool.{cond}
 use mathlib.Core.List.{List, [], _∷_}
 use Prim.Native.Nat.{ℕ}

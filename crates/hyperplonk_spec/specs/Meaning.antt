@@ -1,4 +1,4 @@
--- "The words of demand 3", over any field: what is supposed of a log, and what then holds. Assumes nothing.
+-- "The words of demand 3", over any field: what is supposed of a log, and what then holds.
 use mathlib.Core.Path.{_≡_}
 use mathlib.Core.Logic.{_≢_, _↔_}
 use mathlib.Core.Bool.{Bool, true, false}

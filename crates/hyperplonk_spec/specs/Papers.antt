@@ -57,7 +57,7 @@ module _ (𝓕 : Field) where
   module _ (el : ℕ → F) (rows : ℕ) (input table : ℕ → F) where
     -- how often the paper's column takes a value
     unfoldable pub occurrences : (ℕ → F) → F → ℕ
-    occurrences column-of v = countOf (λ b. same 𝓕 (column-of b) v) (range rows)
+    occurrences tabulate-of v = countOf (λ b. same 𝓕 (tabulate-of b) v) (range rows)
 
     -- the paper's normalised multiplicity: the count of a value, shared out among the equal table rows
     unfoldable pub normalizedMultiplicity : ℕ → F

@@ -1,4 +1,4 @@
--- The row sum: question 16, and the sum of the composed expression over the rows. Assumes nothing.
+-- The row sum: question 16, and the sum of the composed expression over the rows.
 use mathlib.Core.Bool.{Bool, true, false, cond, _&&_}
 use mathlib.Core.List.{List, [], _∷_, _++_, map}
 use Prim.Native.Nat.{ℕ, _+_, _-_, _*_}

@@ -1,4 +1,4 @@
--- What demand 3 says of the row sum, of the answer itself. Assumes nothing.
+-- What demand 3 says of the row sum, of the answer itself.
 use mathlib.Core.Path.{_≡_}
 use mathlib.Core.Logic.{_≢_}
 use mathlib.Core.List.{List, [], _∷_, _++_}

@@ -1,4 +1,4 @@
--- The stages called alone: `lookup_m_poly`, `lookup_h_poly` and `eq_xy`, "with k and columns of 2^k". Assumes nothing.
+-- The stages called alone: `lookup_m_poly`, `lookup_h_poly` and `eq_xy`, "with k and columns of 2^k".
 use mathlib.Core.Bool.{Bool, true, false, cond, _&&_}
 use mathlib.Core.List.{List, [], _∷_, _++_}
 use Prim.Native.Nat.{ℕ, _^_}

@@ -1,4 +1,4 @@
--- What a stage called alone answers after each question. Assumes nothing.
+-- What a stage called alone answers after each question.
 use mathlib.Core.Path.{_≡_, refl, sym, ap, ap₂, _∙_}
 use mathlib.Core.Bool.{Bool, true, false, cond, _&&_}
 use mathlib.Core.List.{List, [], _∷_, _++_}
@@ -11,7 +11,7 @@ use borrow.Author.Tests.{leb-true, eqb-true, ltb-true, le-leb, lt-leb, ne-eqb}
 use Rattle.field.specs.Field.{𝔾}
 use Rattle.lists.specs.Lists.{tabulate, allOf, writePrefix, writeAt}
 use Rattle.lists.proofs.First.{first-none, first-next, first-number}
-use Rattle.lists.proofs.Over.{over-written}
+use Rattle.lists.proofs.Over.{writeAt-writePrefix}
 use Rattle.lists.proofs.Tests.{and-left, and-right, all-append, all-each}
 use Rattle.backend.specs.Questions.{goodK, small}
 use Rattle.prover.specs.Lookup.{multiplicity, covered}
@@ -155,8 +155,8 @@ module _ (input table out : List ℕ) where
         by : (t : Bool)
             → _≡_ {A = Answer} (record { number = cond t 0 15; out = writeAt out 0 (cond t words zeros) })
             (cond t (record { number = 0; out = writePrefix words out }) (record { number = 15; out = writePrefix zeros out }))
-        by true = ap (λ (o : List ℕ). record { number = 0; out = o }) (sym (over-written words out))
-        by false = ap (λ (o : List ℕ). record { number = 15; out = o }) (sym (over-written zeros out))
+        by true = ap (λ (o : List ℕ). record { number = 0; out = o }) (sym (writeAt-writePrefix words out))
+        by false = ap (λ (o : List ℕ). record { number = 15; out = o }) (sym (writeAt-writePrefix zeros out))
 
     pub counted : covered 𝔾 rows (elements input) (elements table) ≡ true → record { number = 0; out = m } ≡ counts (2 ^ k)
     counted = answered true
@@ -169,4 +169,4 @@ pub column-done : (f : ℕ → ℕ) (k rows : ℕ) (out d : List ℕ) → rows �
     → _≡_ {A = Answer} (record { number = 0; out = d }) (record { number = 0; out = writePrefix (tabulate f (2 ^ k)) out })
 column-done f k rows out d n e =
     ap (λ (o : List ℕ). record { number = 0; out = o })
-    (e ∙ sym (over-written (tabulate f rows) out) ∙ ap (λ (r : ℕ). writePrefix (tabulate f r) out) n)
+    (e ∙ sym (writeAt-writePrefix (tabulate f rows) out) ∙ ap (λ (r : ℕ). writePrefix (tabulate f r) out) n)

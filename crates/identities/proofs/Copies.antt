@@ -1,4 +1,4 @@
--- With true copies and no zero denominator, the copied columns' z meets every permutation constraint. Assumes nothing.
+-- With true copies and no zero denominator, the copied columns' z meets every permutation constraint.
 use mathlib.Core.Path.{_≡_, sym, ap, ap₂, _∙_}
 use mathlib.Core.Logic.{_≢_}
 use mathlib.Core.List.{List}

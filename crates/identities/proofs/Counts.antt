@@ -1,4 +1,4 @@
--- The counts turn the table into the inputs, and exist exactly if each input stands in the table. Assumes nothing.
+-- The counts turn the table into the inputs, and exist exactly if each input stands in the table.
 use mathlib.Core.Path.{_≡_, refl, sym, ap, _∙_}
 use mathlib.Core.Logic.{_≢_, _↔_, ite, if-pos, if-neg}
 use mathlib.Core.Bool.{Bool, true, false}

@@ -1,5 +1,5 @@
 -- The labels are a permutation of the cells between equal values, and leave row 0: so a product of factors of value and label is the
--- same over the cells' own labels and over the moved ones. Assumes nothing.
+-- same over the cells' own labels and over the moved ones.
 use mathlib.Core.Path.{_≡_, refl, sym, ap, _∙_, subst, subst⁻¹}
 use mathlib.Core.Logic.{_≢_, ite, if-pos, if-neg}
 use mathlib.Core.List.{List, [], _∷_, _++_}

@@ -1,4 +1,4 @@
--- A group's h sums to zero, and meets its constraint alone. Assumes nothing.
+-- A group's h sums to zero, and meets its constraint alone.
 use mathlib.Core.Path.{_≡_, refl, sym, ap, ap₂, _∙_}
 use mathlib.Core.Logic.{_≢_}
 use mathlib.Core.List.{[], _∷_}

@@ -1,4 +1,4 @@
--- A field inside a field: m, h and z of embedded columns are the embedded m, h and z. Assumes nothing.
+-- A field inside a field: m, h and z of embedded columns are the embedded m, h and z.
 use mathlib.Core.Path.{_≡_, sym, ap, ap₂, _∙_}
 use mathlib.Core.Logic.{_≢_, ite, apply-ite}
 use Prim.Native.Nat.{ℕ, zero, suc, _-_}

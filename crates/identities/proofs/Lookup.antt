@@ -1,4 +1,4 @@
--- h: Haböck's identity, and the lookup constraint, in any field. Assumes nothing.
+-- h: Haböck's identity, and the lookup constraint, in any field.
 use mathlib.Core.Path.{_≡_, refl, sym, ap, ap₂, _∙_}
 use mathlib.Core.Logic.{_≢_}
 use mathlib.Core.List.{[], _∷_}

@@ -1,4 +1,4 @@
--- z meets every permutation constraint on every row, and nothing else does; its running product closes at one. Assumes nothing.
+-- z meets every permutation constraint on every row, and nothing else does; its running product closes at one.
 use mathlib.Core.Path.{_≡_, refl, sym, ap, ap₂, _∙_, subst, subst⁻¹}
 use mathlib.Core.Logic.{_≢_, if-pos, if-neg}
 use Prim.Native.Nat.{ℕ, zero, suc, _+_, _-_, _*_, _/_, _%_, _^_, _≤_, _<_}
@@ -10,7 +10,7 @@ use Rattle.field.specs.Algebra.{Field, zero-mul, one-mul}
 use Rattle.bh.specs.Sums.{upTo}
 use Rattle.bh.specs.Rows.{nextRow, rowAt, placeOf}
 use Rattle.bh.proofs.Iter.{iter-zero}
-use Rattle.bh.proofs.Order.{row-suc, row-nought, row-next, row-last, row-lt, row-once, row-sum-but-0, next-nought}
+use Rattle.bh.proofs.Order.{row-suc, row-zero, row-next, row-last, row-lt, row-once, row-sum-but-0, next-zero}
 use Rattle.bh.proofs.Place.{row-place, place-row, place-lt}
 use Rattle.lists.proofs.Parts.{div-row, mod-row}
 use Rattle.identities.specs.Running as R
@@ -75,9 +75,9 @@ module _ (𝓕 : Field) (k N : ℕ) (A B : ℕ → ℕ → 𝓕 .F) where
   pub zero-at : zAt 0 0 ≡ one
   zero-at = at-first 0 ∙ upTo-zero mul one (λ s. rowRatio (rowAt k (suc s)))
 
-  pub z-nought : (j : ℕ) → zCol j 0 ≡ nil
+  pub z-zero : (j : ℕ) → zCol j 0 ≡ nil
   unfolding R.zCol
-  z-nought j = if-pos (ℕ-discrete 0 0) refl nil (zAt j (placeOf k 0 - 1))
+  z-zero j = if-pos (ℕ-discrete 0 0) refl nil (zAt j (placeOf k 0 - 1))
 
   pub row-one : rowAt k 1 ≡ 1
   row-one = row-suc k 0 ∙ iter-zero (nextRow k) 1
@@ -105,7 +105,7 @@ module _ (𝓕 : Field) (k N : ℕ) (A B : ℕ → ℕ → 𝓕 .F) where
     one-lt = pow-lt {i = 0} {j = k} h
 
     row-pos : (t : ℕ) → t < 2 ^ k - 1 → rowAt k (suc t) ≢ 0
-    row-pos t m e = suc-ne-zero t (row-once k h l (suc t) 0 (omega arith) (pow-pos k) (e ∙ sym (row-nought k)))
+    row-pos t m e = suc-ne-zero t (row-once k h l (suc t) 0 (omega arith) (pow-pos k) (e ∙ sym (row-zero k)))
 
     -- z at a place
     pub z-place : (j t : ℕ) → t < 2 ^ k - 1 → zCol j (rowAt k (suc t)) ≡ zAt j t
@@ -122,7 +122,7 @@ module _ (𝓕 : Field) (k N : ℕ) (A B : ℕ → ℕ → 𝓕 .F) where
     place-of b n m = go (placeOf k b) (row-place k h l b m) (place-lt k h l b m)
       where
         go : (p : ℕ) → rowAt k p ≡ b → p < 2 ^ k → (t : ℕ) × (t < 2 ^ k - 1) × (rowAt k (suc t) ≡ b)
-        go zero e q = absurd (n (sym e ∙ row-nought k))
+        go zero e q = absurd (n (sym e ∙ row-zero k))
         go (suc t) e q = (t, omega arith, e)
 
     -- the row after a place
@@ -195,11 +195,11 @@ module _ (𝓕 : Field) (k N : ℕ) (A B : ℕ → ℕ → 𝓕 .F) where
           b = rowAt k (suc t)
 
       part-nought : (j : ℕ) → mul (zCol j 0) (A j 0) ≡ mul (nextZ zCol j 0) (B j 0)
-      part-nought j = ap (λ (x : F). mul x (A j 0)) (z-nought j) ∙ zero-mul 𝓕 (A j 0) ∙ sym (ap (λ (x : F). mul x (B j 0)) (go (ℕ-discrete (suc j) N)) ∙ zero-mul 𝓕 (B j 0))
+      part-nought j = ap (λ (x : F). mul x (A j 0)) (z-zero j) ∙ zero-mul 𝓕 (A j 0) ∙ sym (ap (λ (x : F). mul x (B j 0)) (go (ℕ-discrete (suc j) N)) ∙ zero-mul 𝓕 (B j 0))
         where
           go : Dec (suc j ≡ N) → nextZ zCol j 0 ≡ nil
-          go (yes e) = if-pos (ℕ-discrete (suc j) N) e (zCol 0 (nextRow k 0)) (zCol (suc j) 0) ∙ ap (zCol 0) (next-nought k (omega arith)) ∙ z-nought 0
-          go (no n) = if-neg (ℕ-discrete (suc j) N) n (zCol 0 (nextRow k 0)) (zCol (suc j) 0) ∙ z-nought (suc j)
+          go (yes e) = if-pos (ℕ-discrete (suc j) N) e (zCol 0 (nextRow k 0)) (zCol (suc j) 0) ∙ ap (zCol 0) (next-zero k (omega arith)) ∙ z-zero 0
+          go (no n) = if-neg (ℕ-discrete (suc j) N) n (zCol 0 (nextRow k 0)) (zCol (suc j) 0) ∙ z-zero (suc j)
 
       -- every permutation constraint is zero on every row
       pub z-meets : Balanced → Met zCol

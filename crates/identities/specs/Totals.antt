@@ -1,4 +1,4 @@
--- Totals in a commutative monoid over the numbers below n: `upTo` of the crate bh. Assumes nothing.
+-- Totals in a commutative monoid over the numbers below n: `upTo` of the crate bh.
 use mathlib.Core.Path.{_≡_}
 use Prim.Native.Nat.{ℕ}
 use Rattle.bh.specs.Sums.{upTo}

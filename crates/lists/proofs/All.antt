@@ -1,4 +1,4 @@
--- What all of a list have. Assumes nothing.
+-- What all of a list have.
 use mathlib.Core.Path.{_≡_, refl, ap₂}
 use mathlib.Core.Bool.{Bool, true, false, cond}
 use mathlib.Core.List.{List, [], _∷_, _++_, map}
@@ -37,11 +37,11 @@ module _ {A : Type 0} (Q : A → Type 0) where
   all-right [] ys p = p
   all-right (x ∷ xs) ys p = all-right xs ys (p .1)
 
-  pub all-column : (f : ℕ → A) (n : ℕ) → ((i : ℕ) → i < n → Q (f i)) → All Q (tabulate f n)
+  pub all-tabulate : (f : ℕ → A) (n : ℕ) → ((i : ℕ) → i < n → Q (f i)) → All Q (tabulate f n)
   unfolding tabulate
-  all-column f zero h = tt
-  all-column f (suc n) h =
-      all-join (tabulate f n) (f n ∷ []) (all-column f n (λ i l. h i (omega arith))) (h n (omega arith), tt)
+  all-tabulate f zero h = tt
+  all-tabulate f (suc n) h =
+      all-join (tabulate f n) (f n ∷ []) (all-tabulate f n (λ i l. h i (omega arith))) (h n (omega arith), tt)
 
   pub all-take : (n : ℕ) (xs : List A) → All Q xs → All Q (take n xs)
   all-take zero xs a = tt
@@ -63,10 +63,10 @@ module _ {A : Type 0} (Q : A → Type 0) where
   all-concat [] a = tt
   all-concat (xs ∷ xss) a = all-join xs (concat xss) (a .0) (all-concat xss (a .1))
 
-  pub all-those : (p : A → Bool) (xs : List A) → All Q xs → All Q (filter p xs)
+  pub all-filter : (p : A → Bool) (xs : List A) → All Q xs → All Q (filter p xs)
   unfolding filter
-  all-those p [] a = tt
-  all-those p (x ∷ xs) a = go (p x) (all-those p xs (a .1))
+  all-filter p [] a = tt
+  all-filter p (x ∷ xs) a = go (p x) (all-filter p xs (a .1))
     where
       go : (t : Bool) → All Q (filter p xs) → All Q (cond t (x ∷ filter p xs) (filter p xs))
       go true r = (a .0, r)

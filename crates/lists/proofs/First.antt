@@ -1,4 +1,4 @@
--- Questions in order: what `firstNo` says. Assumes nothing.
+-- Questions in order: what `firstNo` says.
 use mathlib.Core.Path.{_≡_, refl, sym, ap, _∙_}
 use mathlib.Core.Bool.{Bool, true, false, cond}
 use mathlib.Core.List.{List, [], _∷_, _++_, map}

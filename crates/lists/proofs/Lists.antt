@@ -1,4 +1,4 @@
--- Entries of lists, and of lists of lists. (Further facts: lib.ListN, lib.Seq.) Assumes nothing.
+-- Entries of lists, and of lists of lists. (Further facts: lib.ListN, lib.Seq.)
 use mathlib.Core.Path.{_≡_, refl, sym, ap, _∙_}
 use mathlib.Core.List.{List, [], _∷_, _++_, map, append-assoc, append-nil}
 use Prim.Native.Nat.{ℕ, zero, suc, _+_, _*_, _≤_, _<_}

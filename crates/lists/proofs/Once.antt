@@ -1,4 +1,4 @@
--- How many of a column pass a test, and that each is there once exactly when none is among those before it. Assumes nothing.
+-- How many of a column pass a test, and that each is there once exactly when none is among those before it.
 use mathlib.Core.Path.{_≡_, refl, sym, ap, _∙_}
 use mathlib.Core.Bool.{Bool, true, false, cond, not, _&&_}
 use mathlib.Core.List.{List, [], _∷_, _++_}
@@ -12,8 +12,8 @@ use lib.ListN.{length, getD}
 use borrow.Author.Tests.{eqb-true, eq-eqb, not-true}
 use Rattle.lists.specs.Lists.{tabulate, range, allOf, filter, countOf, All}
 use Rattle.lists.proofs.Tests.{by-test, false-true, and-left, and-right, and-both, all-each, true-all, count-append, count-one}
-use Rattle.lists.proofs.All.{all-column}
-use Rattle.lists.proofs.Columns.{column-suc, column-length, get-column, below-length, below-get}
+use Rattle.lists.proofs.All.{all-tabulate}
+use Rattle.lists.proofs.Columns.{tabulate-suc, tabulate-length, get-tabulate, below-length, below-get}
 
 pub same-tests : (a b : Bool) → (a ≡ true → b ≡ true) → (b ≡ true → a ≡ true) → a ≡ b
 same-tests true true f g = refl
@@ -24,7 +24,7 @@ same-tests false false f g = refl
 module _ {A : Type 0} (p : A → Bool) (f : ℕ → A) where
   pub count-next : (n : ℕ) → countOf p (tabulate f (suc n)) ≡ countOf p (tabulate f n) + cond (p (f n)) 1 0
   count-next n =
-      ap (λ (xs : List A). countOf p xs) (column-suc f n) ∙ count-append p (tabulate f n) (f n ∷ [])
+      ap (λ (xs : List A). countOf p xs) (tabulate-suc f n) ∙ count-append p (tabulate f n) (f n ∷ [])
       ∙ ap (λ (k : ℕ). countOf p (tabulate f n) + k) (count-one p (f n))
 
   count-fails : (n : ℕ) → p (f n) ≡ false → countOf p (tabulate f (suc n)) ≡ countOf p (tabulate f n)
@@ -101,9 +101,9 @@ module _ {A : Type 0} (same : A → A → Bool) (self : (x : A) → same x x ≡
     apart : (i j : ℕ) → j < i → by-turns i ≡ true → same (f i) (f j) ≡ false
     apart i j l e =
         not-true (same (f i) (f j))
-        (ap (λ (x : A). not (same (f i) x)) (sym (get-column f i j (f j) l))
+        (ap (λ (x : A). not (same (f i) x)) (sym (get-tabulate f i j (f j) l))
         ∙ all-each (λ y. not (same (f i) y)) (f j) (tabulate f i) (and-right (q (f i)) (new (f i) (tabulate f i)) e) j
-        (let r = column-length f i in omega arith))
+        (let r = tabulate-length f i in omega arith))
 
     turn-at : allOf by-turns (range n) ≡ true → (i : ℕ) → i < n → by-turns i ≡ true
     turn-at e i l =
@@ -122,13 +122,13 @@ module _ {A : Type 0} (same : A → A → Bool) (self : (x : A) → same x x ≡
             go (no k) = both (f i) (f j) ∙ apart j i (omega arith) (turn-at e j m)
 
     back-at : allOf all-once (tabulate f n) ≡ true → (i : ℕ) → i < n → by-turns i ≡ true
-    back-at e i l = and-both (q (f i)) (new (f i) (tabulate f i)) (and-left (q (f i)) once here) (true-all (λ y. not (same (f i) y)) (tabulate f i) (all-column (λ y. not (same (f i) y) ≡ true) f i unlike))
+    back-at e i l = and-both (q (f i)) (new (f i) (tabulate f i)) (and-left (q (f i)) once here) (true-all (λ y. not (same (f i) y)) (tabulate f i) (all-tabulate (λ y. not (same (f i) y) ≡ true) f i unlike))
       where
         once : Bool
         once = eqb (countOf (same (f i)) (tabulate f n)) 1
 
         here : all-once (f i) ≡ true
-        here = ap all-once (sym (get-column f n i (f i) l)) ∙ all-each all-once (f i) (tabulate f n) e i (let r = column-length f n in omega arith)
+        here = ap all-once (sym (get-tabulate f n i (f i) l)) ∙ all-each all-once (f i) (tabulate f n) e i (let r = tabulate-length f n in omega arith)
 
         unlike : (j : ℕ) → j < i → not (same (f i) (f j)) ≡ true
         unlike j k =
@@ -142,5 +142,5 @@ module _ {A : Type 0} (same : A → A → Bool) (self : (x : A) → same x x ≡
     pub once-by-turns : allOf by-turns (range n) ≡ allOf all-once (tabulate f n)
     once-by-turns =
         same-tests (allOf by-turns (range n)) (allOf all-once (tabulate f n))
-        (λ e. true-all all-once (tabulate f n) (all-column (λ x. all-once x ≡ true) f n (once-at e)))
-        (λ e. true-all by-turns (range n) (all-column (λ i. by-turns i ≡ true) (λ i. i) n (back-at e)))
+        (λ e. true-all all-once (tabulate f n) (all-tabulate (λ x. all-once x ≡ true) f n (once-at e)))
+        (λ e. true-all by-turns (range n) (all-tabulate (λ i. by-turns i ≡ true) (λ i. i) n (back-at e)))

@@ -1,4 +1,4 @@
--- A buffer after a run of words was written into it: `writeAt d at s`, d with s from place `at` on. Assumes nothing.
+-- A buffer after a run of words was written into it: `writeAt d at s`, d with s from place `at` on.
 use mathlib.Core.Path.{_≡_, refl, sym, ap, ap₂, _∙_}
 use mathlib.Core.List.{List, [], _∷_, _++_, append-assoc}
 use Prim.Native.Nat.{ℕ, suc, _+_, _-_, _≤_, _<_}
@@ -9,7 +9,7 @@ use lib.ListN.{length, getD, take, drop, set, length-append, length-drop, take-a
 use lib.Seq.{length-take-le, take-at, drop-at, drop-append-add, drop-drop, set-split, sets, sets-eq, getD-take, getD-drop}
 use Rattle.lists.specs.Lists.{tabulate, writePrefix, writeAt}
 use Rattle.lists.proofs.Lists.{get-left}
-use Rattle.lists.proofs.Columns.{column-length, column-suc}
+use Rattle.lists.proofs.Columns.{tabulate-length, tabulate-suc}
 
 -- lists that agree from a place on agree further behind
 pub drop-more : {A : Type 0} (m n : ℕ) (x y : List A) → m ≤ n → drop m x ≡ drop m y → drop n x ≡ drop n y
@@ -19,9 +19,9 @@ drop-more {A} m n x y h e =
     ∙ ap (λ (i : ℕ). drop i y) (sym q)
 
 module _ {A : Type 0} (d : List A) (at : ℕ) (s : List A) where
-  pub length-over : at + length s ≤ length d → length (writeAt d at s) ≡ length d
+  pub length-writeAt : at + length s ≤ length d → length (writeAt d at s) ≡ length d
   unfolding writeAt
-  length-over h =
+  length-writeAt h =
       omega (
         arith,
         length-append (take at d) (s ++ drop (at + length s) d),
@@ -31,46 +31,46 @@ module _ {A : Type 0} (d : List A) (at : ℕ) (s : List A) where
       )
 
   -- ---- its parts
-  pub take-over : at ≤ length d → take at (writeAt d at s) ≡ take at d
+  pub take-writeAt : at ≤ length d → take at (writeAt d at s) ≡ take at d
   unfolding writeAt
-  take-over h = take-at (take at d) (s ++ drop (at + length s) d) at (length-take-le at d h)
+  take-writeAt h = take-at (take at d) (s ++ drop (at + length s) d) at (length-take-le at d h)
 
   from-over : at ≤ length d → drop at (writeAt d at s) ≡ s ++ drop (at + length s) d
   unfolding writeAt
   from-over h = drop-at (take at d) (s ++ drop (at + length s) d) at (length-take-le at d h)
 
-  pub drop-over : at ≤ length d → drop (at + length s) (writeAt d at s) ≡ drop (at + length s) d
-  drop-over h =
+  pub drop-writeAt : at ≤ length d → drop (at + length s) (writeAt d at s) ≡ drop (at + length s) d
+  drop-writeAt h =
       sym (drop-drop (length s) at (writeAt d at s)) ∙ ap (drop (length s)) (from-over h)
       ∙ drop-at s (drop (at + length s) d) (length s) refl
 
   -- further behind
   pub drop-past : (n : ℕ) → at ≤ length d → at + length s ≤ n → drop n (writeAt d at s) ≡ drop n d
-  drop-past n h l = drop-more (at + length s) n (writeAt d at s) d l (drop-over h)
+  drop-past n h l = drop-more (at + length s) n (writeAt d at s) d l (drop-writeAt h)
 
   -- ---- its entries
-  pub over-before : (i : ℕ) (z : A) → at ≤ length d → i < at → getD (writeAt d at s) i z ≡ getD d i z
-  over-before i z h l =
-      sym (getD-take at (writeAt d at s) i z l) ∙ ap (λ (xs : List A). getD xs i z) (take-over h) ∙ getD-take at d i z l
+  pub writeAt-before : (i : ℕ) (z : A) → at ≤ length d → i < at → getD (writeAt d at s) i z ≡ getD d i z
+  writeAt-before i z h l =
+      sym (getD-take at (writeAt d at s) i z l) ∙ ap (λ (xs : List A). getD xs i z) (take-writeAt h) ∙ getD-take at d i z l
 
-  pub over-inside : (i : ℕ) (z : A) → at ≤ length d → i < length s → getD (writeAt d at s) (at + i) z ≡ getD s i z
-  over-inside i z h l =
+  pub writeAt-inside : (i : ℕ) (z : A) → at ≤ length d → i < length s → getD (writeAt d at s) (at + i) z ≡ getD s i z
+  writeAt-inside i z h l =
       sym (getD-drop at (writeAt d at s) i z) ∙ ap (λ (xs : List A). getD xs i z) (from-over h)
       ∙ get-left s (drop (at + length s) d) i z l
 
-  pub over-after : (i : ℕ) (z : A) → at ≤ length d → at + length s ≤ i → getD (writeAt d at s) i z ≡ getD d i z
-  over-after i z h l =
+  pub writeAt-after : (i : ℕ) (z : A) → at ≤ length d → at + length s ≤ i → getD (writeAt d at s) i z ≡ getD d i z
+  writeAt-after i z h l =
       let e : i ≡ at + length s + (i - (at + length s)) = omega arith in
       ap (λ (j : ℕ). getD (writeAt d at s) j z) e
       ∙ sym (getD-drop (at + length s) (writeAt d at s) (i - (at + length s)) z)
-      ∙ ap (λ (xs : List A). getD xs (i - (at + length s)) z) (drop-over h)
+      ∙ ap (λ (xs : List A). getD xs (i - (at + length s)) z) (drop-writeAt h)
       ∙ getD-drop (at + length s) d (i - (at + length s)) z
       ∙ ap (λ (j : ℕ). getD d j z) (sym e)
 
   -- ---- one run behind another
-  pub over-over : (t : List A) → at + length s ≤ length d → writeAt (writeAt d at s) (at + length s) t ≡ writeAt d at (s ++ t)
+  pub writeAt-writeAt : (t : List A) → at + length s ≤ length d → writeAt (writeAt d at s) (at + length s) t ≡ writeAt d at (s ++ t)
   unfolding writeAt
-  over-over t h =
+  writeAt-writeAt t h =
       let n : length (take at d ++ s) ≡ at + length s =
       length-append (take at d) s ∙ ap (λ (j : ℕ). j + length s) (length-take-le at d (omega arith)) in
       let rest : List A = drop (at + length s) d in
@@ -88,48 +88,48 @@ module _ {A : Type 0} (d : List A) (at : ℕ) (s : List A) where
       ∙ ap (λ (x : List A). take at d ++ x) (sym (append-assoc s t (drop (at + length (s ++ t)) d)))
 
 module _ {A : Type 0} where
-  pub over-none : (d : List A) (at : ℕ) → writeAt d at [] ≡ d
+  pub writeAt-none : (d : List A) (at : ℕ) → writeAt d at [] ≡ d
   unfolding writeAt
-  over-none d at = ap (λ (n : ℕ). take at d ++ drop n d) (add-zero at) ∙ take-append-drop at d
+  writeAt-none d at = ap (λ (n : ℕ). take at d ++ drop n d) (add-zero at) ∙ take-append-drop at d
 
   -- from the first place on
-  pub over-front : (d s : List A) → writeAt d 0 s ≡ s ++ drop (length s) d
+  pub writeAt-front : (d s : List A) → writeAt d 0 s ≡ s ++ drop (length s) d
   unfolding writeAt
-  over-front d s = ap (λ (n : ℕ). s ++ drop n d) (zero-add (length s))
+  writeAt-front d s = ap (λ (n : ℕ). s ++ drop n d) (zero-add (length s))
 
   -- a run written again, by one as long
-  pub over-again : (d : List A) (at : ℕ) (s t : List A) → at + length s ≤ length d → length s ≡ length t → writeAt (writeAt d at s) at t ≡ writeAt d at t
+  pub writeAt-again : (d : List A) (at : ℕ) (s t : List A) → at + length s ≤ length d → length s ≡ length t → writeAt (writeAt d at s) at t ≡ writeAt d at t
   unfolding writeAt
-  over-again d at s t h e =
-      ap₂ (λ (x y : List A). x ++ (t ++ y)) (take-over d at s (omega arith))
-      (ap (λ (n : ℕ). drop (at + n) (writeAt d at s)) (sym e) ∙ drop-over d at s (omega arith) ∙ ap (λ (n : ℕ). drop (at + n) d) e)
+  writeAt-again d at s t h e =
+      ap₂ (λ (x y : List A). x ++ (t ++ y)) (take-writeAt d at s (omega arith))
+      (ap (λ (n : ℕ). drop (at + n) (writeAt d at s)) (sym e) ∙ drop-writeAt d at s (omega arith) ∙ ap (λ (n : ℕ). drop (at + n) d) e)
 
   -- ---- word by word
-  pub over-one : (d : List A) (at : ℕ) (v : A) → at < length d → writeAt d at (v ∷ []) ≡ set d at v
+  pub writeAt-one : (d : List A) (at : ℕ) (v : A) → at < length d → writeAt d at (v ∷ []) ≡ set d at v
   unfolding writeAt
-  over-one d at v h =
+  writeAt-one d at v h =
       ap (λ (n : ℕ). take at d ++ (v ∷ drop n d)) (add-one at) ∙ sym (set-split d at v h)
 
-  pub over-snoc : (d : List A) (at : ℕ) (s : List A) (v : A) → at + length s < length d
+  pub writeAt-snoc : (d : List A) (at : ℕ) (s : List A) (v : A) → at + length s < length d
       → set (writeAt d at s) (at + length s) v ≡ writeAt d at (s ++ (v ∷ []))
-  over-snoc d at s v h =
-      sym (over-one (writeAt d at s) (at + length s) v (let e = length-over d at s (omega arith) in omega arith))
-      ∙ over-over d at s (v ∷ []) (omega arith)
+  writeAt-snoc d at s v h =
+      sym (writeAt-one (writeAt d at s) (at + length s) v (let e = length-writeAt d at s (omega arith) in omega arith))
+      ∙ writeAt-writeAt d at s (v ∷ []) (omega arith)
 
   -- the next word of a column
-  pub over-column : (d : List A) (at : ℕ) (f : ℕ → A) (n : ℕ) → at + n < length d
+  pub writeAt-tabulate : (d : List A) (at : ℕ) (f : ℕ → A) (n : ℕ) → at + n < length d
       → set (writeAt d at (tabulate f n)) (at + n) (f n) ≡ writeAt d at (tabulate f (suc n))
-  over-column d at f n h =
-      let e = column-length f n in
+  writeAt-tabulate d at f n h =
+      let e = tabulate-length f n in
       ap (λ (m : ℕ). set (writeAt d at (tabulate f n)) (at + m) (f n)) (sym e)
-      ∙ over-snoc d at (tabulate f n) (f n) (omega arith)
-      ∙ ap (writeAt d at) (sym (column-suc f n))
+      ∙ writeAt-snoc d at (tabulate f n) (f n) (omega arith)
+      ∙ ap (writeAt d at) (sym (tabulate-suc f n))
 
   -- words set one after another
-  pub over-sets : (vs d : List A) (at : ℕ) → at + length vs ≤ length d → sets d at vs ≡ writeAt d at vs
+  pub writeAt-sets : (vs d : List A) (at : ℕ) → at + length vs ≤ length d → sets d at vs ≡ writeAt d at vs
   unfolding writeAt
-  over-sets vs d at h = sets-eq vs d at h ∙ append-assoc (take at d) vs (drop (at + length vs) d)
+  writeAt-sets vs d at h = sets-eq vs d at h ∙ append-assoc (take at d) vs (drop (at + length vs) d)
 
 -- `writePrefix` is `writeAt` from the first place on
-pub over-written : (s d : List ℕ) → writePrefix s d ≡ writeAt d 0 s
-over-written s d = sym (over-front d s)
+pub writeAt-writePrefix : (s d : List ℕ) → writePrefix s d ≡ writeAt d 0 s
+writeAt-writePrefix s d = sym (writeAt-front d s)

@@ -1,4 +1,4 @@
--- Parts of lists: the parts that `split` gives, columns one after another as one. Assumes nothing.
+-- Parts of lists: the parts that `split` gives, columns one after another as one.
 use mathlib.Core.Path.{_≡_, refl, sym, ap, ap₂, _∙_}
 use mathlib.Core.List.{List, [], _∷_, _++_}
 use Prim.Native.Nat.{ℕ, zero, suc, _+_, _*_, _/_, _%_, _≤_, _<_}
@@ -17,7 +17,7 @@ use native.Mathlib.Omega.{arith}
 use lib.ListN.{length, getD, take, drop}
 use lib.Seq.{take-add, take-suc, drop-drop}
 use Rattle.lists.specs.Lists.{tabulate, concat, split, total}
-use Rattle.lists.proofs.Columns.{columns-suc, column-append, column-cong}
+use Rattle.lists.proofs.Columns.{columns-suc, tabulate-append, tabulate-cong}
 
 -- column and row of a place
 pub div-row : (i rows b : ℕ) → b < rows → (i * rows + b) / rows ≡ i
@@ -69,8 +69,8 @@ module _ {A : Type 0} where
   columns-flat rows f zero = ap (tabulate (λ j. f (j / rows) (j % rows))) (sym (zero-mul rows))
   columns-flat rows f (suc n) =
       columns-suc rows f n
-      ∙ ap₂ _++_ (columns-flat rows f n) (column-cong (f n) (λ b. f ((n * rows + b) / rows) ((n * rows + b) % rows)) rows same)
-      ∙ sym (column-append (λ j. f (j / rows) (j % rows)) (n * rows) rows)
+      ∙ ap₂ _++_ (columns-flat rows f n) (tabulate-cong (f n) (λ b. f ((n * rows + b) / rows) ((n * rows + b) % rows)) rows same)
+      ∙ sym (tabulate-append (λ j. f (j / rows) (j % rows)) (n * rows) rows)
       ∙ ap (tabulate (λ j. f (j / rows) (j % rows))) (sym (suc-mul n rows))
     where
       same : (b : ℕ) → b < rows → f n b ≡ f ((n * rows + b) / rows) ((n * rows + b) % rows)

@@ -1,4 +1,4 @@
--- The place of a number in a list: `indexOf`. Assumes nothing.
+-- The place of a number in a list: `indexOf`.
 use mathlib.Core.Path.{_≡_, sym, ap, _∙_, subst}
 use mathlib.Core.Logic.{_≢_}
 use mathlib.Core.Bool.{Bool, true, false, cond}
@@ -63,10 +63,10 @@ among-below (suc n) q l = go (ℕ-discrete q n) (among-below n q)
     go (yes e) rec = among-right q (range n) (n ∷ []) (let w = index-here q n [] e in omega arith)
     go (no m) rec = among-left q (range n) (n ∷ []) (rec (omega arith))
 
-pub among-those : (p : ℕ → Bool) (q : ℕ) (xs : List ℕ) → p q ≡ true → Among q xs → Among q (filter p xs)
+pub among-filter : (p : ℕ → Bool) (q : ℕ) (xs : List ℕ) → p q ≡ true → Among q xs → Among q (filter p xs)
 unfolding filter
-among-those p q [] t l = absurd (not-suc-le-zero l)
-among-those p q (x ∷ xs) t l = go (ℕ-discrete q x) (among-those p q xs t)
+among-filter p q [] t l = absurd (not-suc-le-zero l)
+among-filter p q (x ∷ xs) t l = go (ℕ-discrete q x) (among-filter p q xs t)
   where
     go : Dec (q ≡ x) → (Among q xs → Among q (filter p xs)) → Among q (cond (p x) (x ∷ filter p xs) (filter p xs))
     go (yes e) rec =

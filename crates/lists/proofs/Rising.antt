@@ -1,4 +1,4 @@
--- Lists by rising number: each number stands once. Assumes nothing.
+-- Lists by rising number: each number stands once.
 use mathlib.Core.Path.{_≡_, refl, ap, _∙_}
 use mathlib.Core.Bool.{Bool, true, false, cond}
 use mathlib.Core.List.{List, [], _∷_, _++_}
@@ -7,7 +7,7 @@ use native.Mathlib.Nat.{not-suc-le-zero}
 use native.Mathlib.Omega.{arith}
 use lib.ListN.{length, getD}
 use Rattle.lists.specs.Lists.{tabulate, range, filter, indexOf, All}
-use Rattle.lists.proofs.All.{all-get, all-join, all-those, all-column}
+use Rattle.lists.proofs.All.{all-get, all-join, all-filter, all-tabulate}
 use Rattle.lists.proofs.Places.{index-here, index-cons}
 
 -- each is less than those after it
@@ -22,15 +22,15 @@ rising-end (x ∷ xs) n r a = (all-join (λ y. x < y) xs (n ∷ []) (r .0) (a .0
 pub rising-below : (n : ℕ) → Rising (range n)
 unfolding tabulate
 rising-below zero = tt
-rising-below (suc n) = rising-end (range n) n (rising-below n) (all-column (λ x. x < n) (λ i. i) n (λ i l. l))
+rising-below (suc n) = rising-end (range n) n (rising-below n) (all-tabulate (λ x. x < n) (λ i. i) n (λ i l. l))
 
-pub rising-those : (p : ℕ → Bool) (xs : List ℕ) → Rising xs → Rising (filter p xs)
+pub rising-filter : (p : ℕ → Bool) (xs : List ℕ) → Rising xs → Rising (filter p xs)
 unfolding filter
-rising-those p [] r = tt
-rising-those p (x ∷ xs) r = go (p x) (rising-those p xs (r .1))
+rising-filter p [] r = tt
+rising-filter p (x ∷ xs) r = go (p x) (rising-filter p xs (r .1))
   where
     go : (t : Bool) → Rising (filter p xs) → Rising (cond t (x ∷ filter p xs) (filter p xs))
-    go true h = (all-those (λ y. x < y) p xs (r .0), h)
+    go true h = (all-filter (λ y. x < y) p xs (r .0), h)
     go false h = h
 
 -- the place of what stands at place i is i

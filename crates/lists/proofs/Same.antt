@@ -1,4 +1,4 @@
--- Lists of words compared, whole and part by part. Assumes nothing.
+-- Lists of words compared, whole and part by part.
 use mathlib.Core.Path.{_≡_, refl, sym, ap, ap₂, _∙_, subst}
 use mathlib.Core.Bool.{Bool, true, false, _&&_}
 use mathlib.Core.List.{List, [], _∷_, _++_}

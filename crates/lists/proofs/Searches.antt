@@ -1,4 +1,4 @@
--- Counts and searches by index: one entry more, and the end. (For one that fails: Walks.) Assumes nothing.
+-- Counts and searches by index: one entry more, and the end. (For one that fails: Walks.)
 use mathlib.Core.Path.{_≡_, refl, sym, ap, ap₂, _∙_}
 use mathlib.Core.Bool.{Bool, true, false, cond, _||_, or-false}
 use mathlib.Core.List.{List, [], _∷_, map}
@@ -11,7 +11,7 @@ use Rattle.lists.specs.Lists.{tabulate, anyOf, filter, countOf, concat, 
 use Rattle.lists.proofs.Tests.{any-append, any-at, count-append, count-one}
 use Rattle.lists.proofs.Lists.{concat-end}
 use Rattle.lists.proofs.Places.{index-here, index-cons}
-use Rattle.lists.proofs.Columns.{column-length, column-suc, column-append, get-column}
+use Rattle.lists.proofs.Columns.{tabulate-length, tabulate-suc, tabulate-append, get-tabulate}
 
 module _ {A : Type 0} (p : A → Bool) where
   pub count-more : (d : A) (xs : List A) (i : ℕ) → i < length xs → countOf p (take (i + 1) xs) ≡ countOf p (take i xs) + cond (p (getD xs i d)) 1 0
@@ -23,7 +23,7 @@ module _ {A : Type 0} (p : A → Bool) where
   pub any-next : (f : ℕ → A) (n : ℕ) → anyOf p (tabulate f (n + 1)) ≡ (anyOf p (tabulate f n) || p (f n))
   unfolding anyOf
   any-next f n =
-      ap (λ (m : ℕ). anyOf p (tabulate f m)) (add-one n) ∙ ap (anyOf p) (column-suc f n) ∙ any-append p (tabulate f n) (f n ∷ [])
+      ap (λ (m : ℕ). anyOf p (tabulate f m)) (add-one n) ∙ ap (anyOf p) (tabulate-suc f n) ∙ any-append p (tabulate f n) (f n ∷ [])
       ∙ ap (λ (t : Bool). anyOf p (tabulate f n) || t) (or-false (p (f n)))
 
   -- a search for one that passes
@@ -32,7 +32,7 @@ module _ {A : Type 0} (p : A → Bool) where
 
   pub any-stop : (f : ℕ → A) (n i : ℕ) → p (f i) ≡ true → i < n → true ≡ anyOf p (tabulate f n)
   any-stop f n i e l =
-      sym (any-at p (f i) (tabulate f n) i (let q = column-length f n in omega arith) (ap p (get-column f n i (f i) l) ∙ e))
+      sym (any-at p (f i) (tabulate f n) i (let q = tabulate-length f n in omega arith) (ap p (get-tabulate f n i (f i) l) ∙ e))
 
   pub any-end : (f : ℕ → A) (n i : ℕ) → i ≤ n → n ≤ i → anyOf p (tabulate f i) ≡ false → false ≡ anyOf p (tabulate f n)
   any-end f n i l m h = sym h ∙ ap (λ (j : ℕ). anyOf p (tabulate f j)) (let e : i ≡ n = omega arith in e)
@@ -41,7 +41,7 @@ module _ {A : Type 0} (p : A → Bool) where
   pub count-joined : (f : ℕ → List A) (n : ℕ) → countOf p (concat (tabulate f (n + 1))) ≡ countOf p (concat (tabulate f n)) + countOf p (f n)
   count-joined f n =
       ap (λ (m : ℕ). countOf p (concat (tabulate f m))) (add-one n)
-      ∙ ap (λ (xss : List (List A)). countOf p (concat xss)) (column-suc f n)
+      ∙ ap (λ (xss : List (List A)). countOf p (concat xss)) (tabulate-suc f n)
       ∙ ap (λ (xs : List A). countOf p xs) (concat-end (tabulate f n) (f n))
       ∙ count-append p (concat (tabulate f n)) (f n)
 
@@ -85,16 +85,16 @@ module _ (q : ℕ) (xs : List ℕ) (i : ℕ) (h : indexOf q xs ≡ i + indexOf q
       omega arith
 
 -- a part of a column
-pub column-part : {A : Type 0} (f : ℕ → A) (n s m : ℕ) → s + m ≤ n → take m (drop s (tabulate f n)) ≡ tabulate (λ i. f (s + i)) m
-column-part {A = A} f n s m l =
+pub tabulate-part : {A : Type 0} (f : ℕ → A) (n s m : ℕ) → s + m ≤ n → take m (drop s (tabulate f n)) ≡ tabulate (λ i. f (s + i)) m
+tabulate-part {A = A} f n s m l =
     let r : ℕ = n - (s + m) in
     let g : ℕ → A = λ i. f (s + i) in
     let e : n ≡ s + (m + r) = omega arith in
     ap (λ (k : ℕ). take m (drop s (tabulate f k))) e
-    ∙ ap (λ (xs : List A). take m (drop s xs)) (column-append f s (m + r))
-    ∙ ap (take m) (drop-at (tabulate f s) (tabulate g (m + r)) s (column-length f s))
-    ∙ ap (take m) (column-append g m r)
-    ∙ take-at (tabulate g m) (tabulate (λ i. g (m + i)) r) m (column-length g m)
+    ∙ ap (λ (xs : List A). take m (drop s xs)) (tabulate-append f s (m + r))
+    ∙ ap (take m) (drop-at (tabulate f s) (tabulate g (m + r)) s (tabulate-length f s))
+    ∙ ap (take m) (tabulate-append g m r)
+    ∙ take-at (tabulate g m) (tabulate (λ i. g (m + i)) r) m (tabulate-length g m)
 
 -- the parts of a list, one after another
 pub total-drop : (ns : List ℕ) (i : ℕ) → i < length ns → total (drop i ns) ≡ getD ns i 0 + total (drop (i + 1) ns)

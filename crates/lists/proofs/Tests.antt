@@ -1,4 +1,4 @@
--- Tests: what `allOf`, `anyOf`, `filter` and `countOf` say. (A test of two numbers: borrow.Author.Tests.) Assumes nothing.
+-- Tests: what `allOf`, `anyOf`, `filter` and `countOf` say. (A test of two numbers: borrow.Author.Tests.)
 use mathlib.Core.Path.{_≡_, refl, sym, ap, ap₂, _∙_, subst}
 use mathlib.Core.Logic.{ite}
 use mathlib.Core.Bool.{Bool, true, false, cond, decide, _&&_, _||_}
@@ -130,10 +130,10 @@ module _ {A : Type 0} (p : A → Bool) where
       or-true false = refl
 
   -- ---- those
-  pub those-append : (xs ys : List A) → filter p (xs ++ ys) ≡ filter p xs ++ filter p ys
+  pub filter-append : (xs ys : List A) → filter p (xs ++ ys) ≡ filter p xs ++ filter p ys
   unfolding filter
-  those-append [] ys = refl
-  those-append (x ∷ xs) ys = go (p x) (those-append xs ys)
+  filter-append [] ys = refl
+  filter-append (x ∷ xs) ys = go (p x) (filter-append xs ys)
     where
       go : (t : Bool) → filter p (xs ++ ys) ≡ filter p xs ++ filter p ys
           → cond t (x ∷ filter p (xs ++ ys)) (filter p (xs ++ ys)) ≡ cond t (x ∷ filter p xs) (filter p xs) ++ filter p ys
@@ -142,7 +142,7 @@ module _ {A : Type 0} (p : A → Bool) where
 
   -- ---- how many
   pub count-append : (xs ys : List A) → countOf p (xs ++ ys) ≡ countOf p xs + countOf p ys
-  count-append xs ys = ap length (those-append xs ys) ∙ length-append (filter p xs) (filter p ys)
+  count-append xs ys = ap length (filter-append xs ys) ∙ length-append (filter p xs) (filter p ys)
 
   pub count-one : (x : A) → countOf p (x ∷ []) ≡ cond (p x) 1 0
   unfolding filter

@@ -1,4 +1,4 @@
--- Totals, the largest of numbers, n / s rounded up, and the parts of a cut. Assumes nothing.
+-- Totals, the largest of numbers, n / s rounded up, and the parts of a cut.
 use mathlib.Core.Path.{_≡_, refl, sym, ap, _∙_, subst}
 use mathlib.Core.List.{List, [], _∷_, _++_}
 use Prim.Native.Nat.{ℕ, zero, suc, _+_, _-_, _*_, _≤_, _<_, max}
@@ -20,7 +20,7 @@ use lib.ListN.{length, getD, take, drop, drop-of-length-le}
 use lib.Seq.{take-nil, take-all}
 use Rattle.lists.specs.Lists.{tabulate, concat, total, maximum, ceilDiv, cut}
 use Rattle.lists.proofs.Lists.{get-none}
-use Rattle.lists.proofs.Columns.{column-length, get-column, concat-parts}
+use Rattle.lists.proofs.Columns.{tabulate-length, get-tabulate, concat-parts}
 
 -- ---- totals
 pub total-append : (ms ns : List ℕ) → total (ms ++ ns) ≡ total ms + total ns
@@ -28,10 +28,10 @@ unfolding total
 total-append [] ns = omega arith
 total-append (m ∷ ms) ns = ap (λ (x : ℕ). m + x) (total-append ms ns) ∙ sym (add-assoc m (total ms) (total ns))
 
-pub largest-append : (ms ns : List ℕ) → maximum (ms ++ ns) ≡ max (maximum ms) (maximum ns)
+pub maximum-append : (ms ns : List ℕ) → maximum (ms ++ ns) ≡ max (maximum ms) (maximum ns)
 unfolding maximum
-largest-append [] ns = omega arith
-largest-append (m ∷ ms) ns = let q = largest-append ms ns in omega arith
+maximum-append [] ns = omega arith
+maximum-append (m ∷ ms) ns = let q = maximum-append ms ns in omega arith
 
 -- ---- rounded up
 -- a product that covers a positive number has positive factors
@@ -115,7 +115,7 @@ module _ (n d : ℕ) (hn : 0 < n) (hd : 0 < d) where
 module _ {A : Type 0} (s : ℕ) (xs : List A) where
   pub cut-length : length (cut s xs) ≡ ceilDiv (length xs) s
   unfolding cut
-  cut-length = column-length (λ i. take s (drop (i * s) xs)) (ceilDiv (length xs) s)
+  cut-length = tabulate-length (λ i. take s (drop (i * s) xs)) (ceilDiv (length xs) s)
 
   -- part i: past the last, none
   pub get-cut : (i : ℕ) → 0 < s → getD (cut s xs) i [] ≡ take s (drop (i * s) xs)
@@ -132,9 +132,9 @@ module _ {A : Type 0} (s : ℕ) (xs : List A) where
           omega arith
 
       go : Dec (i < ceilDiv (length xs) s) → getD (tabulate f (ceilDiv (length xs) s)) i [] ≡ f i
-      go (yes h) = get-column f (ceilDiv (length xs) s) i [] h
+      go (yes h) = get-tabulate f (ceilDiv (length xs) s) i [] h
       go (no h) =
-          get-none (tabulate f (ceilDiv (length xs) s)) i [] (let q = column-length f (ceilDiv (length xs) s) in omega arith)
+          get-none (tabulate f (ceilDiv (length xs) s)) i [] (let q = tabulate-length f (ceilDiv (length xs) s) in omega arith)
           ∙ sym (ap (take s) (drop-of-length-le xs {i = i * s} (past (omega arith))) ∙ take-nil s)
 
   -- together they are the list

@@ -1,4 +1,4 @@
--- A run of words written in any order, one word a turn. Assumes nothing.
+-- A run of words written in any order, one word a turn.
 use mathlib.Core.Path.{_≡_, refl, sym, ap, ap₂, _∙_, subst}
 use mathlib.Core.Logic.{_≢_}
 use mathlib.Core.Bool.{Bool, cond}
@@ -18,10 +18,10 @@ use lib.Dec.{ltb}
 use lib.ListN.{length, getD, set, length-set}
 use borrow.Author.Tests.{lt-ltb, le-ltb}
 use Rattle.lists.specs.Lists.{tabulate, writeAt}
-use Rattle.lists.proofs.Columns.{column-cong, column-length, get-column}
-use Rattle.lists.proofs.Over.{over-before, over-inside}
+use Rattle.lists.proofs.Columns.{tabulate-cong, tabulate-length, get-tabulate}
+use Rattle.lists.proofs.Over.{writeAt-before, writeAt-inside}
 use Rattle.lists.proofs.Parts.{div-row, mod-row}
-use Rattle.lists.proofs.Sets.{over-column-set, over-self}
+use Rattle.lists.proofs.Sets.{writeAt-tabulate-set, writeAt-self}
 
 -- word i of n is written in turn σ i, and turn s writes word ι s
 pub record Turns (n : ℕ) (σ ι : ℕ → ℕ) : Type 0 where
@@ -58,8 +58,8 @@ module _ (n : ℕ) (σ ι f : ℕ → ℕ) (turns : Turns n σ ι) (d : List ℕ
         size = refl;
         now =
             sym
-            (ap (writeAt d at) (column-cong (turned σ f before 0) before n (λ i l. turn-ahead σ f before 0 i (omega arith)))
-            ∙ over-self d at n room);
+            (ap (writeAt d at) (tabulate-cong (turned σ f before 0) before n (λ i l. turn-ahead σ f before 0 i (omega arith)))
+            ∙ writeAt-self d at n room);
       }
 
   module _ (m : List ℕ) (s : ℕ) (inv : Turned n σ f d at m s) where
@@ -85,7 +85,7 @@ module _ (n : ℕ) (σ ι f : ℕ → ℕ) (turns : Turns n σ ι) (d : List ℕ
           now =
               ap₂ (λ (x : List ℕ) (j : ℕ). set x j w) (inv .now) q
               ∙ ap (set (writeAt d at (tabulate (turned σ f before s) n)) (at + ι s)) v
-              ∙ over-column-set d at (turned σ f before s) (turned σ f before (s + 1)) n (ι s) (omega arith) (turns .inside s l)
+              ∙ writeAt-tabulate-set d at (turned σ f before s) (turned σ f before (s + 1)) n (ι s) (omega arith) (turns .inside s l)
               (others l);
         }
 
@@ -93,23 +93,23 @@ module _ (n : ℕ) (σ ι f : ℕ → ℕ) (turns : Turns n σ ι) (d : List ℕ
     pub turn-before : (j : ℕ) → j < at → getD m j 0 ≡ getD d j 0
     turn-before j l =
         ap (λ (x : List ℕ). getD x j 0) (inv .now)
-        ∙ over-before d at (tabulate (turned σ f before s) n) j 0 (omega arith) l
+        ∙ writeAt-before d at (tabulate (turned σ f before s) n) j 0 (omega arith) l
 
     -- a word whose turn is ahead is as it was
     pub turn-fresh : (i : ℕ) → i < n → s ≤ σ i → getD m (at + i) 0 ≡ getD d (at + i) 0
     turn-fresh i l h =
         let words : List ℕ = tabulate (turned σ f before s) n in
-        let q = column-length (turned σ f before s) n in
+        let q = tabulate-length (turned σ f before s) n in
         ap (λ (x : List ℕ). getD x (at + i) 0) (inv .now)
-        ∙ over-inside d at words i 0 (omega arith) (omega arith)
-        ∙ get-column (turned σ f before s) n i 0 l
+        ∙ writeAt-inside d at words i 0 (omega arith) (omega arith)
+        ∙ get-tabulate (turned σ f before s) n i 0 l
         ∙ turn-ahead σ f before s i h
 
     pub turn-end : n ≤ s → m ≡ writeAt d at (tabulate f n)
     turn-end h =
         inv .now
         ∙ ap (writeAt d at)
-        (column-cong (turned σ f before s) f n (λ i l. turn-over σ f before s i (let w = turns .within i l in omega arith)))
+        (tabulate-cong (turned σ f before s) f n (λ i l. turn-over σ f before s i (let w = turns .within i l in omega arith)))
 
 -- ---- n columns of r words each, a row of all of them after another: turn s writes column s mod n
 
@@ -204,8 +204,8 @@ module _ (n : ℕ) (σ ι f : ℕ → ℕ) (turns : Turns n σ ι) (d : List ℕ
       let old : ℕ → ℕ = λ j. getD d (at + j) 0 in
       let f' : ℕ → ℕ = turned (backTurn n σ) f old (n - s) in
       let w = turns .within i l in
-      let q = column-length f' n in
+      let q = tabulate-length f' n in
       ap (λ (x : List ℕ). getD x (at + i) 0) (inv .now)
-      ∙ over-inside d at (tabulate f' n) i 0 (omega arith) (omega arith)
-      ∙ get-column f' n i 0 l
+      ∙ writeAt-inside d at (tabulate f' n) i 0 (omega arith) (omega arith)
+      ∙ get-tabulate f' n i 0 l
       ∙ turn-over (backTurn n σ) f old (n - s) i (omega arith)

@@ -1,4 +1,4 @@
--- Tests and sums of a list, walked by index. Assumes nothing.
+-- Tests and sums of a list, walked by index.
 use mathlib.Core.Path.{_≡_, refl, sym, ap, ap₂, _∙_}
 use mathlib.Core.Bool.{Bool, true, false, _&&_, and-true, and-false}
 use mathlib.Core.List.{List, [], _∷_, _++_, map}
@@ -12,7 +12,7 @@ use lib.Dec.{ltb}
 use borrow.Author.Tests.{lt-ltb, le-ltb}
 use Rattle.lists.specs.Lists.{tabulate, allOf, total, concat}
 use Rattle.lists.proofs.Tests.{and-both, all-append}
-use Rattle.lists.proofs.Columns.{column-of, concat-parts}
+use Rattle.lists.proofs.Columns.{tabulate-of, concat-parts}
 use Rattle.lists.proofs.Totals.{total-append}
 
 module _ {A : Type 0} (p : A → Bool) where
@@ -45,7 +45,7 @@ module _ {A : Type 0} (p : A → Bool) where
 
   -- a list by its places
   pub all-places : (xs : List A) (d : A) → allOf p xs ≡ allOf p (tabulate (λ i. getD xs i d) (length xs))
-  all-places xs d = ap (allOf p) (sym (column-of xs d))
+  all-places xs d = ap (allOf p) (sym (tabulate-of xs d))
 
   pub all-concat : (xss : List (List A)) → allOf (allOf p) xss ≡ allOf p (concat xss)
   unfolding allOf concat

@@ -1,4 +1,4 @@
--- What the entry points answer after each test. Assumes nothing.
+-- What the entry points answer after each test.
 use mathlib.Core.Path.{_≡_, refl, sym, ap, _∙_}
 use mathlib.Core.Bool.{Bool, true, false, cond, _&&_}
 use mathlib.Core.List.{List, []}
@@ -103,11 +103,11 @@ layout-small k ws h e =
         omega arith
 
 -- from the buffer's start on
-pub from-nought : (a b : ℕ) → a ≤ b → 0 + a ≤ b
-from-nought a b h = omega arith
+pub from-zero : (a b : ℕ) → a ≤ b → 0 + a ≤ b
+from-zero a b h = omega arith
 
-pub nought-on : (a b : ℕ) → a ≡ b → a ≡ 0 + b
-nought-on a b e = e ∙ sym (zero-add b)
+pub zero-on : (a b : ℕ) → a ≡ b → a ≡ 0 + b
+zero-on a b e = e ∙ sym (zero-add b)
 
 -- the word at row b
 pub value-word : (nodes circuit witness columns challenges : List ℕ) (l : Layout) (k : ℕ) (eq : List ℕ) (n b place e : ℕ) (x : 𝔾 .F) (r : ℕ)

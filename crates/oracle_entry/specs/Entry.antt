@@ -1,4 +1,4 @@
--- The degree, the queries and the values of an expression, over lent words that may be any. Assumes nothing.
+-- The degree, the queries and the values of an expression, over lent words that may be any.
 use mathlib.Core.Bool.{Bool, cond, _&&_}
 use mathlib.Core.List.{List, []}
 use Prim.Native.Nat.{ℕ, _/_, _^_, min}

@@ -11,10 +11,10 @@ use lib.ListN.{length, getD, take, drop, length-append, length-map}
 use borrow.Author.Tests.{eq-eqb, ne-eqb}
 use Rattle.lists.specs.Lists.{tabulate, split, total, All}
 use Rattle.lists.proofs.Lists.{get-left, get-past, get-map}
-use Rattle.lists.proofs.Columns.{column-length, get-column, column-cong, map-column}
+use Rattle.lists.proofs.Columns.{tabulate-length, get-tabulate, tabulate-cong, map-tabulate}
 use Rattle.lists.proofs.All.{all-get}
 use Rattle.lists.proofs.Parts.{get-split, total-next}
-use Rattle.lists.proofs.Runs.{part-column, total-first}
+use Rattle.lists.proofs.Runs.{part-tabulate, total-first}
 use Rattle.expression.specs.Expr.{Expr, minus, at, distributePowers}
 use Rattle.expression.specs.Nodes.{exprOf}
 use Rattle.expression.specs.Flat.{body, size}
@@ -47,20 +47,20 @@ module _ (nodes widths pairs : List ℕ) (enough : total widths * 2 ≤ length p
   unfolding lookupsOf
   lookup-pairs =
       get-split widths (tabulate (pairAt nodes pairs) (length pairs / 2)) j h
-      ∙ part-column (pairAt nodes pairs) before width (length pairs / 2) half
+      ∙ part-tabulate (pairAt nodes pairs) before width (length pairs / 2) half
 
   pub inputs-are : inputsOf (getD (lookupsOf nodes widths pairs) j []) ≡ sideExprs nodes pairs (before * 2) width
   unfolding sideExprs
   inputs-are =
-      ap inputsOf lookup-pairs ∙ map-column (λ (p : Pair). p .input) (λ i. pairAt nodes pairs (before + i)) width
-      ∙ column-cong (λ i. exprOf nodes (getD pairs ((before + i) * 2) 0)) (λ i. exprOf nodes (getD pairs (before * 2 + i * 2) 0)) width
+      ap inputsOf lookup-pairs ∙ map-tabulate (λ (p : Pair). p .input) (λ i. pairAt nodes pairs (before + i)) width
+      ∙ tabulate-cong (λ i. exprOf nodes (getD pairs ((before + i) * 2) 0)) (λ i. exprOf nodes (getD pairs (before * 2 + i * 2) 0)) width
       (λ i l. ap (λ (n : ℕ). exprOf nodes (getD pairs n 0)) (omega arith))
 
   pub tables-are : tablesOf (getD (lookupsOf nodes widths pairs) j []) ≡ sideExprs nodes pairs (before * 2 + 1) width
   unfolding sideExprs
   tables-are =
-      ap tablesOf lookup-pairs ∙ map-column (λ (p : Pair). p .table) (λ i. pairAt nodes pairs (before + i)) width
-      ∙ column-cong (λ i. exprOf nodes (getD pairs ((before + i) * 2 + 1) 0)) (λ i. exprOf nodes (getD pairs (before * 2 + 1 + i * 2) 0)) width
+      ap tablesOf lookup-pairs ∙ map-tabulate (λ (p : Pair). p .table) (λ i. pairAt nodes pairs (before + i)) width
+      ∙ tabulate-cong (λ i. exprOf nodes (getD pairs ((before + i) * 2 + 1) 0)) (λ i. exprOf nodes (getD pairs (before * 2 + 1 + i * 2) 0)) width
       (λ i l. ap (λ (n : ℕ). exprOf nodes (getD pairs n 0)) (omega arith))
 
   pub lookup-tree : (v : CircuitParams)
@@ -85,12 +85,12 @@ root-node nodes roots i n a h e = let q = all-get (IsNode nodes) roots a i 0 h i
 module _ (nodes pairs : List ℕ) (s w : ℕ) where
   pub side-length : length (sideExprs nodes pairs s w) ≡ w
   unfolding sideExprs
-  side-length = column-length (λ i. exprOf nodes (getD pairs (s + i * 2) 0)) w
+  side-length = tabulate-length (λ i. exprOf nodes (getD pairs (s + i * 2) 0)) w
 
   pub side-nth : (i n : ℕ) → i < w → n ≡ getD pairs (s + i * 2) 0 → nth (sideExprs nodes pairs s w) i ≡ exprOf nodes n
   unfolding sideExprs
   side-nth i n h e =
-      get-column (λ i. exprOf nodes (getD pairs (s + i * 2) 0)) w i (Expr.constant 0) h ∙ ap (exprOf nodes) (sym e)
+      get-tabulate (λ i. exprOf nodes (getD pairs (s + i * 2) 0)) w i (Expr.constant 0) h ∙ ap (exprOf nodes) (sym e)
 
 -- the nodes of a lookup's constraint
 pub lookup-size : (m h : ℕ) (a b : Expr) → size (lookupTree (at m) (at h) a b) ≡ size a * 2 + size b * 2 + 8
@@ -124,7 +124,7 @@ module _ (v : CircuitParams) (names nodes roots widths pairs : List ℕ) where
 
   some-length : (t : Bool) → length (cond t [] some) ≡ cond t 0 (suc (v .«num_chunks»))
   some-length true = refl
-  some-length false = ap suc (column-length (partTree v names) (v .«num_chunks»))
+  some-length false = ap suc (tabulate-length (partTree v names) (v .«num_chunks»))
 
   pub constraints-length : length es ≡ numConstraints (length roots) v
   unfolding constraintTrees permutationTrees numConstraints
@@ -132,7 +132,7 @@ module _ (v : CircuitParams) (names nodes roots widths pairs : List ℕ) where
       length-append user (tabulate lookup (v .«num_lookups») ++ cond (eqb (v .«num_permutation_polys») 0) [] some)
       ∙ ap₂ _+_ (length-map roots (exprOf nodes))
       (length-append (tabulate lookup (v .«num_lookups»)) (cond (eqb (v .«num_permutation_polys») 0) [] some)
-      ∙ ap₂ _+_ (column-length lookup (v .«num_lookups»)) (some-length (eqb (v .«num_permutation_polys») 0)))
+      ∙ ap₂ _+_ (tabulate-length lookup (v .«num_lookups»)) (some-length (eqb (v .«num_permutation_polys») 0)))
       ∙ omega arith
 
   pub own-nth : (i n : ℕ) → i < length roots → n ≡ getD roots i 0 → nth es i ≡ exprOf nodes n
@@ -160,8 +160,8 @@ module _ (v : CircuitParams) (names nodes roots widths pairs : List ℕ) where
   lookup-nth i j s w e h all enough es ew =
       past-own i j e
       ∙ get-left (tabulate lookup (v .«num_lookups»)) (cond (eqb (v .«num_permutation_polys») 0) [] some) j (Expr.constant 0)
-      (let l = column-length lookup (v .«num_lookups») in omega arith)
-      ∙ get-column lookup (v .«num_lookups») j (Expr.constant 0) h
+      (let l = tabulate-length lookup (v .«num_lookups») in omega arith)
+      ∙ get-tabulate lookup (v .«num_lookups») j (Expr.constant 0) h
       ∙ lookup-tree nodes widths pairs enough j (omega arith) v
       ∙ ap₂
       (λ (s w : ℕ).
@@ -179,7 +179,7 @@ module _ (v : CircuitParams) (names nodes roots widths pairs : List ℕ) where
   past-lookups i p e h =
       past-own i (v .«num_lookups» + p) e
       ∙ get-past (tabulate lookup (v .«num_lookups»)) (cond (eqb (v .«num_permutation_polys») 0) [] some) (v .«num_lookups» + p) p (Expr.constant 0)
-      (ap (λ (n : ℕ). n + p) (sym (column-length lookup (v .«num_lookups»))))
+      (ap (λ (n : ℕ). n + p) (sym (tabulate-length lookup (v .«num_lookups»))))
       ∙ some-at (eqb (v .«num_permutation_polys») 0) p (omega arith)
 
   pub start-nth : (i : ℕ) → i ≡ length roots + v .«num_lookups» → i < numConstraints (length roots) v → nth es i ≡ startTree v
@@ -196,7 +196,7 @@ module _ (v : CircuitParams) (names nodes roots widths pairs : List ℕ) where
   pub part-nth : (i p : ℕ) → i ≡ length roots + (v .«num_lookups» + suc p) → i < numConstraints (length roots) v
       → nth es i ≡ partTree v names p
   part-nth i p e h =
-      past-lookups i (suc p) e h ∙ get-column (partTree v names) (v .«num_chunks») p (Expr.constant 0) (part-below i p e h)
+      past-lookups i (suc p) e h ∙ get-tabulate (partTree v names) (v .«num_chunks») p (Expr.constant 0) (part-below i p e h)
 
 -- ---- the h queries and the zero check
 module _ (v : CircuitParams) (es : List Expr) where
@@ -204,21 +204,21 @@ module _ (v : CircuitParams) (es : List Expr) where
   unfolding outerTrees
   outer-length =
       length-append (tabulate (λ j. at (numberOfH v j)) (v .«num_lookups»)) (zeroTree v es ∷ [])
-      ∙ ap (λ (n : ℕ). n + 1) (column-length (λ j. at (numberOfH v j)) (v .«num_lookups»))
+      ∙ ap (λ (n : ℕ). n + 1) (tabulate-length (λ j. at (numberOfH v j)) (v .«num_lookups»))
       ∙ omega arith
 
   pub query-nth : (i : ℕ) → i < v .«num_lookups» → nth (outerTrees v es) i ≡ at (numberOfH v i)
   unfolding outerTrees
   query-nth i h =
       get-left (tabulate (λ j. at (numberOfH v j)) (v .«num_lookups»)) (zeroTree v es ∷ []) i (Expr.constant 0)
-      (let l = column-length (λ j. at (numberOfH v j)) (v .«num_lookups») in omega arith)
-      ∙ get-column (λ j. at (numberOfH v j)) (v .«num_lookups») i (Expr.constant 0) h
+      (let l = tabulate-length (λ j. at (numberOfH v j)) (v .«num_lookups») in omega arith)
+      ∙ get-tabulate (λ j. at (numberOfH v j)) (v .«num_lookups») i (Expr.constant 0) h
 
   pub zero-nth : (i : ℕ) → i ≡ v .«num_lookups» → nth (outerTrees v es) i ≡ zeroTree v es
   unfolding outerTrees
   zero-nth i h =
       get-past (tabulate (λ j. at (numberOfH v j)) (v .«num_lookups»)) (zeroTree v es ∷ []) i 0 (Expr.constant 0)
-      (let l = column-length (λ j. at (numberOfH v j)) (v .«num_lookups») in omega arith)
+      (let l = tabulate-length (λ j. at (numberOfH v j)) (v .«num_lookups») in omega arith)
 
 -- the nodes of a sum with gamma, and of a product with a query
 pub side-size : (nodes pairs : List ℕ) (user s w : ℕ)

@@ -7,7 +7,7 @@ use lib.ListN.{length, take, drop}
 use Rattle.lists.specs.Lists.{tabulate, split, range, cut, ceilDiv, writeAt}
 use Rattle.lists.proofs.Columns.{below-length}
 use Rattle.lists.proofs.Totals.{cut-length}
-use Rattle.lists.proofs.Window.{laid-over, laid-part}
+use Rattle.lists.proofs.Window.{writeWindow-writeAt, writeWindow-part}
 use Rattle.expression.specs.Expr.{Expr}
 use Rattle.expression.specs.Nodes.{exprOf}
 use Rattle.expression.specs.Flat.{size, flat}
@@ -64,14 +64,14 @@ composed-length c = flat-length (compose c) 0
 -- a buffer that has room for all, from the first word on
 pub composed-over : {c : Circuit} {d d1 : List ℕ} {next : ℕ} → composedNodes c * 4 ≤ length d → Composed 0 c d d1 next
     → d1 ≡ writeAt d 0 (composedWords c)
-composed-over {c} {d} h w = w .buffer ∙ laid-over 0 d 0 (composedWords c) refl (omega (arith, composed-length c))
+composed-over {c} {d} h w = w .buffer ∙ writeWindow-writeAt 0 d 0 (composedWords c) refl (omega (arith, composed-length c))
 
 -- the words of one run of them
 pub composed-part : {from : ℕ} {c : Circuit} {d d1 : List ℕ} {next : ℕ} (n : ℕ) → n ≤ length d → from + n ≤ composedNodes c * 4
     → Composed from c d d1 next
     → take n d1 ≡ take n (drop from (composedWords c))
 composed-part {from} {c} {d} n h l w =
-    ap (take n) (w .buffer) ∙ laid-part from d (composedWords c) n h (omega (arith, composed-length c))
+    ap (take n) (w .buffer) ∙ writeWindow-part from d (composedWords c) n h (omega (arith, composed-length c))
 
 -- circuit words, whose pairs are all there, are decoded to their circuit
 pub circuit-decoded : (ws : List ℕ) → length (bodyOf ws Section.pairs) / 2 ≡ entries ws Section.pairs

@@ -1,4 +1,4 @@
--- A circuit's cycles can be walked: what question 11 tells of its copied columns and cells. Its labels, and how large they are. Assumes nothing.
+-- A circuit's cycles can be walked: what question 11 tells of its copied columns and cells. Its labels, and how large they are.
 use mathlib.Core.Path.{_≡_, refl, ap, _∙_}
 use mathlib.Core.Bool.{Bool, true, _&&_}
 use mathlib.Core.List.{List, []}
@@ -10,9 +10,9 @@ use lib.Dec.{eqb, ltb, leb}
 use borrow.Author.Tests.{eq-eqb, eqb-true, ltb-true, leb-true}
 use Rattle.lists.specs.Lists.{tabulate, range, allOf, anyOf, filter, countOf, concat, within, All}
 use Rattle.lists.proofs.Tests.{and-left, and-right, all-true, any-at, any-concat}
-use Rattle.lists.proofs.All.{all-get, all-from, all-those, all-column, all-weaken}
-use Rattle.lists.proofs.Places.{Among, among-below, among-those}
-use Rattle.lists.proofs.Rising.{rising-below, rising-those, rising-index}
+use Rattle.lists.proofs.All.{all-get, all-from, all-filter, all-tabulate, all-weaken}
+use Rattle.lists.proofs.Places.{Among, among-below, among-filter}
+use Rattle.lists.proofs.Rising.{rising-below, rising-filter, rising-index}
 use Rattle.backend.specs.Circuit.{Circuit, Cell, cellAt, cellsOf, sameCell, rowsOf, numPoly, copied, copiedIn, numCopied}
 use Rattle.backend.specs.Questions.{q11, cyclesGood}
 use Rattle.preprocessor.specs.Permutation.{firstLabel, label, labelColumns, permutationColumns, CellPlaced, Once, Apart, Walkable}
@@ -27,7 +27,7 @@ module _ (polys rows : ℕ) (cycles : List (List Cell)) where
   ps = filter named (range polys)
 
   pub each-once : Once ps
-  each-once i l = rising-index ps i (rising-those named (range polys) (rising-below polys)) l
+  each-once i l = rising-index ps i (rising-filter named (range polys) (rising-below polys)) l
 
   -- question 11
   abbrev good : List Cell → Cell → Bool
@@ -79,7 +79,7 @@ module _ (polys rows : ℕ) (cycles : List (List Cell)) where
     among : (j : ℕ) → j < length cycles → (i : ℕ) → i < length (getD cycles j []) → Among (getD (getD cycles j []) i nowhere .polynomial) ps
     among j l i m =
         let q : ℕ = getD (getD cycles j []) i nowhere .polynomial in
-        among-those named q (range polys)
+        among-filter named q (range polys)
         (any-concat (λ (z : Cell). eqb (z .polynomial) q) cycles j l
         (any-at (λ (z : Cell). eqb (z .polynomial) q) nowhere (getD cycles j []) i m (eq-eqb q q refl)))
         (among-below polys q (good-at j l i m .polynomial-in))
@@ -94,7 +94,7 @@ module _ (polys rows : ℕ) (cycles : List (List Cell)) where
     good-walkable h =
         record {
           once = each-once;
-          few = all-those (λ q. q < 72) named (range polys) (all-column (λ q. q < 72) (λ i. i) polys (λ i l. omega arith));
+          few = all-filter (λ q. q < 72) named (range polys) (all-tabulate (λ q. q < 72) (λ i. i) polys (λ i l. omega arith));
           placed = all-placed;
           some = all-weaken (λ cycle. (0 < length cycle) × All (Good cycle) cycle) (λ cycle. 0 < length cycle) (λ cycle g. g .0) cycles all-good;
           apart =

@@ -9,7 +9,7 @@ use native.Mathlib.Numerals.{add-one}
 use native.Mathlib.Omega.{arith}
 use lib.ListN.{length, getD, take}
 use Rattle.lists.specs.Lists.{tabulate, total, All}
-use Rattle.lists.proofs.Columns.{column-suc, column-cong, column-of, map-column}
+use Rattle.lists.proofs.Columns.{tabulate-suc, tabulate-cong, tabulate-of, map-tabulate}
 use Rattle.expression.specs.Expr.{Expr, distributePowers}
 use Rattle.expression.specs.Nodes.{exprOf}
 use Rattle.expression.specs.Flat.{size}
@@ -36,7 +36,7 @@ root-below s step w len i h l =
 -- one expression more
 pub nodes-more : (f : ℕ → Expr) (i : ℕ) → nodesIn (tabulate f (i + 1)) ≡ nodesIn (tabulate f i) + size (f i)
 nodes-more f i =
-    ap (λ (n : ℕ). nodesIn (tabulate f n)) (add-one i) ∙ ap nodesIn (column-suc f i) ∙ nodes-append (tabulate f i) (f i ∷ [])
+    ap (λ (n : ℕ). nodesIn (tabulate f n)) (add-one i) ∙ ap nodesIn (tabulate-suc f i) ∙ nodes-append (tabulate f i) (f i ∷ [])
     ∙ ap (λ (n : ℕ). nodesIn (tabulate f i) + n) (nodes-one (f i))
 
 pub count-more : (f : ℕ → Expr) (i r sum x : ℕ) → r ≡ min most (sum + x) → sum ≡ min most (nodesIn (tabulate f i))
@@ -131,10 +131,10 @@ pub own-nodes : (nodes roots : List ℕ)
     → nodesIn (tabulate (λ i. exprOf nodes (getD roots (0 + i * 1) 0)) (length roots)) ≡ nodesIn (map (exprOf nodes) roots)
 own-nodes nodes roots =
     ap nodesIn
-    (column-cong (λ i. exprOf nodes (getD roots (0 + i * 1) 0)) (λ i. exprOf nodes (getD roots i 0)) (length roots)
+    (tabulate-cong (λ i. exprOf nodes (getD roots (0 + i * 1) 0)) (λ i. exprOf nodes (getD roots i 0)) (length roots)
     (λ i l. ap (λ (n : ℕ). exprOf nodes (getD roots n 0)) (zero-add (i * 1) ∙ mul-one i))
-    ∙ sym (map-column (exprOf nodes) (λ i. getD roots i 0) (length roots))
-    ∙ ap (map (exprOf nodes)) (column-of roots 0))
+    ∙ sym (map-tabulate (exprOf nodes) (λ i. getD roots i 0) (length roots))
+    ∙ ap (map (exprOf nodes)) (tabulate-of roots 0))
 
 -- all of it
 module _ {c : Circuit} {v : CircuitParams} {names nodes roots widths pairs : List ℕ} where

@@ -1,4 +1,4 @@
--- Cycles: one more at the end; labels passed on along the cells of a cycle, one carried at a time. Assumes nothing.
+-- Cycles: one more at the end; labels passed on along the cells of a cycle, one carried at a time.
 use mathlib.Core.Path.{_≡_, refl, sym, ap, _∙_}
 use mathlib.Core.Bool.{Bool, true, false, cond}
 use mathlib.Core.List.{List, [], _∷_, _++_}

@@ -1,5 +1,5 @@
 -- The words of the columns: the word of a cell, one cell's label changed, the first labels, labels exchanged along places, and how large
--- a label is. Assumes nothing.
+-- a label is.
 use mathlib.Core.Path.{_≡_, refl, sym, ap, ap₂, _∙_}
 use mathlib.Core.Bool.{Bool, cond, _&&_}
 use mathlib.Core.List.{List, [], _∷_, _++_, map, append-nil}
@@ -13,10 +13,10 @@ use lib.Dec.{eqb}
 use borrow.Author.Tests.{eq-eqb, ne-eqb}
 use Rattle.lists.specs.Lists.{tabulate, range, concat, indexOf, writeAt, All}
 use Rattle.lists.proofs.Tests.{false-true, by-test}
-use Rattle.lists.proofs.Columns.{column-length, column-cong, column-of, columns-length, get-columns}
-use Rattle.lists.proofs.Over.{over-inside, over-front, length-over}
+use Rattle.lists.proofs.Columns.{tabulate-length, tabulate-cong, tabulate-of, columns-length, get-columns}
+use Rattle.lists.proofs.Over.{writeAt-inside, writeAt-front, length-writeAt}
 use Rattle.lists.proofs.Parts.{div-row, mod-row, columns-flat}
-use Rattle.lists.proofs.Sets.{over-set, set-column}
+use Rattle.lists.proofs.Sets.{writeAt-set, set-tabulate}
 use Rattle.lists.proofs.Turns.{grid-lt}
 use Rattle.lists.proofs.Places.{get-index}
 use Rattle.backend.specs.Circuit.{Cell, sameCell}
@@ -34,8 +34,8 @@ module _ (ps : List ℕ) (rows : ℕ) where
   pub labels-same : (l m : Cell → ℕ) → ((x : Cell) → l x ≡ m x) → labelColumns ps rows l ≡ labelColumns ps rows m
   unfolding labelColumns
   labels-same l m h =
-      ap concat (column-cong (λ i. tabulate (λ b. l (cellIn ps i b)) rows) (λ i. tabulate (λ b. m (cellIn ps i b)) rows) (length ps)
-      (λ i w. column-cong (λ b. l (cellIn ps i b)) (λ b. m (cellIn ps i b)) rows (λ b u. h (cellIn ps i b))))
+      ap concat (tabulate-cong (λ i. tabulate (λ b. l (cellIn ps i b)) rows) (λ i. tabulate (λ b. m (cellIn ps i b)) rows) (length ps)
+      (λ i w. tabulate-cong (λ b. l (cellIn ps i b)) (λ b. m (cellIn ps i b)) rows (λ b u. h (cellIn ps i b))))
 
   pub labels-length : (l : Cell → ℕ) → length (labelColumns ps rows l) ≡ length ps * rows
   unfolding labelColumns
@@ -113,8 +113,8 @@ module _ (ps : List ℕ) (rows : ℕ) where
         → set (labelColumns ps rows l) (firstLabelIn ps rows y) v ≡ labelColumns ps rows (taken l y v)
     label-set l y v h =
         ap (λ (s : List ℕ). set s (firstLabelIn ps rows y) v) (labels-flat l)
-        ∙ set-column (λ j. l (cellIn ps (j / rows) (j % rows))) (length ps * rows) (firstLabelIn ps rows y) v (placed-lt y h)
-        ∙ column-cong (λ j. cond (eqb j (firstLabelIn ps rows y)) v (l (cellIn ps (j / rows) (j % rows))))
+        ∙ set-tabulate (λ j. l (cellIn ps (j / rows) (j % rows))) (length ps * rows) (firstLabelIn ps rows y) v (placed-lt y h)
+        ∙ tabulate-cong (λ j. cond (eqb j (firstLabelIn ps rows y)) v (l (cellIn ps (j / rows) (j % rows))))
         (λ j. taken l y v (cellIn ps (j / rows) (j % rows)))
         (length ps * rows)
         (λ j m. ap (λ (t : Bool). cond t v (l (cellIn ps (j / rows) (j % rows)))) (place-same y h j m))
@@ -123,7 +123,7 @@ module _ (ps : List ℕ) (rows : ℕ) where
     -- "column idx of the sorted list starts as idx × 2^k + row": the words are 0, 1, 2, …
     pub first-labels : range (length ps * rows) ≡ labelColumns ps rows (firstLabelIn ps rows)
     first-labels =
-        column-cong (λ j. j) (λ j. firstLabelIn ps rows (cellIn ps (j / rows) (j % rows))) (length ps * rows)
+        tabulate-cong (λ j. j) (λ j. firstLabelIn ps rows (cellIn ps (j / rows) (j % rows))) (length ps * rows)
         (λ j l. sym (div-add-mod' j rows) ∙ sym (cell-number (j / rows) (j % rows) (place-column j l)))
         ∙ sym (labels-flat (firstLabelIn ps rows))
 
@@ -133,17 +133,17 @@ module _ (ps : List ℕ) (rows : ℕ) where
       run l = writeAt d at (labelColumns ps rows l)
 
       pub run-length : (l : Cell → ℕ) → length (run l) ≡ length d
-      run-length l = length-over d at (labelColumns ps rows l) (let e = labels-length l in omega arith)
+      run-length l = length-writeAt d at (labelColumns ps rows l) (let e = labels-length l in omega arith)
 
       run-get : (l : Cell → ℕ) (x : Cell) → CellPlaced ps rows x → getD (run l) (at + firstLabelIn ps rows x) 0 ≡ l x
       run-get l x h =
-          over-inside d at (labelColumns ps rows l) (firstLabelIn ps rows x) 0 (omega arith)
+          writeAt-inside d at (labelColumns ps rows l) (firstLabelIn ps rows x) 0 (omega arith)
           (let e = labels-length l in let w = placed-lt x h in omega arith)
           ∙ label-of l x h
 
       run-set : (l : Cell → ℕ) (y : Cell) (v : ℕ) → CellPlaced ps rows y → set (run l) (at + firstLabelIn ps rows y) v ≡ run (taken l y v)
       run-set l y v h =
-          over-set d at (labelColumns ps rows l) (firstLabelIn ps rows y) v (let e = labels-length l in omega arith)
+          writeAt-set d at (labelColumns ps rows l) (firstLabelIn ps rows y) v (let e = labels-length l in omega arith)
           (let e = labels-length l in let w = placed-lt y h in omega arith)
           ∙ ap (writeAt d at) (label-set l y v h)
 
@@ -212,8 +212,8 @@ module _ (old : List ℕ) where
 
   all-over : (f : ℕ → ℕ) → writeAt old 0 (tabulate f (length old)) ≡ tabulate f (length old)
   all-over f =
-      let e = column-length f (length old) in
-      over-front old (tabulate f (length old))
+      let e = tabulate-length f (length old) in
+      writeAt-front old (tabulate f (length old))
       ∙ ap (λ (s : List ℕ). tabulate f (length old) ++ s) (drop-of-length-le old {i = length (tabulate f (length old))} (omega arith))
       ∙ append-nil (tabulate f (length old))
 
@@ -225,7 +225,7 @@ module _ (old : List ℕ) where
 
   as-held : writeAt old 0 (labelColumns (0 ∷ []) (length old) held-at) ≡ old
   unfolding held-at
-  as-held = one-over held-at ∙ column-of old 0
+  as-held = one-over held-at ∙ tabulate-of old 0
 
 rows-back : (ws : List ℕ) → map (λ (x : Cell). x .row) (map inOne ws) ≡ ws
 rows-back [] = refl

@@ -9,7 +9,7 @@ use native.Mathlib.Omega.{arith}
 use lib.ListN.{length, getD, take, drop, length-append, drop-of-length-le}
 use lib.Seq.{drop-cons}
 use Rattle.lists.specs.Lists.{tabulate, All}
-use Rattle.lists.proofs.Columns.{column-suc, column-first}
+use Rattle.lists.proofs.Columns.{tabulate-suc, tabulate-first}
 use Rattle.expression.specs.Expr.{Expr, Exprs, exprsOf, distributePowers, productFrom, productOf}
 use Rattle.expression.specs.Flat.{body, sizes, extra, size}
 use Rattle.expression.specs.Written.{Pushed, ExprWritten, WrittenBase, WrittenList}
@@ -130,8 +130,8 @@ module _ (f : ℕ → Expr) {from at x y next : ℕ} {d d1 d2 d3 : List ℕ} whe
   more-factors zero h v w p = absurd (omega arith)
   more-factors (suc m) h v w p =
       let fs : List Expr = tabulate (λ i. f (suc i)) m in
-      written-as (ap productOf (column-suc f (suc m) ∙ ap (λ (l : List Expr). l ++ (f (suc m) ∷ [])) (column-first f m)))
-      (written-factor (f 0) fs (written-as (sym (ap productOf (column-first f m))) v) w p)
+      written-as (ap productOf (tabulate-suc f (suc m) ∙ ap (λ (l : List Expr). l ++ (f (suc m) ∷ [])) (tabulate-first f m)))
+      (written-factor (f 0) fs (written-as (sym (ap productOf (tabulate-first f m))) v) w p)
 
   pub product-more : (j : ℕ) → 0 < j → ExprWritten from (productOf (tabulate f j)) at d d1 x → ExprWritten from (f j) x d1 d2 y
       → Pushed from y 9 (x - 1) (y - 1) 0 d2 d3 next

@@ -8,7 +8,7 @@ use lib.Dec.{eqb}
 use lib.ListN.{length, getD, take, drop, length-append}
 use Rattle.lists.specs.Lists.{tabulate, total, cut, range, concat, ceilDiv}
 use Rattle.lists.proofs.Lists.{concat-length}
-use Rattle.lists.proofs.Columns.{column-length, column-cong, column-of, map-column, below-length}
+use Rattle.lists.proofs.Columns.{tabulate-length, tabulate-cong, tabulate-of, map-tabulate, below-length}
 use Rattle.lists.proofs.Totals.{total-append, concat-cut, cut-length}
 use Rattle.expression.specs.Expr.{Expr, Exprs, at, exprsOf, distributePowers}
 use Rattle.expression.specs.Nodes.{exprOf}
@@ -127,7 +127,7 @@ parts-total v l =
     ∙ sym (cut-length (v .«chunk_size») (range (v .«num_permutation_polys»))) in
     ap (λ (m : ℕ). total (tabulate (λ i. length (getD C i [])) m)) n
     ∙ ap total
-    (sym (map-column (λ (xs : List ℕ). length xs) (λ i. getD C i []) (length C)) ∙ ap (map (λ (xs : List ℕ). length xs)) (column-of C []))
+    (sym (map-tabulate (λ (xs : List ℕ). length xs) (λ i. getD C i []) (length C)) ∙ ap (map (λ (xs : List ℕ). length xs)) (tabulate-of C []))
     ∙ sym (concat-length C)
     ∙ ap length (concat-cut (v .«chunk_size») (range (v .«num_permutation_polys»)) (l .some-part))
     ∙ below-length (v .«num_permutation_polys»)
@@ -139,7 +139,7 @@ permutation-nodes v l names =
     let p =
     nodes-column (partTree v names) (v .«num_chunks»)
     ∙ ap total
-    (column-cong (λ i. size (partTree v names i)) (λ i. length (chunk v i) * 18 + 4) (v .«num_chunks») (λ i h. part-size v l i h names))
+    (tabulate-cong (λ i. size (partTree v names i)) (λ i. length (chunk v i) * 18 + 4) (v .«num_chunks») (λ i h. part-size v l i h names))
     ∙ scaled-total (λ i. length (chunk v i)) (v .«num_chunks») in
     let q = parts-total v l in
     let s = start-size v in

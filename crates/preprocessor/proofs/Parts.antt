@@ -12,10 +12,10 @@ use mir.Val.{Fits}
 use mir.Syntax.{w64}
 use borrow.Author.Tests.{lt-ltb, le-ltb}
 use Rattle.lists.specs.Lists.{tabulate, range, cut, ceilDiv, All}
-use Rattle.lists.proofs.Columns.{column-length, column-first, map-column, below-length}
+use Rattle.lists.proofs.Columns.{tabulate-length, tabulate-first, map-tabulate, below-length}
 use Rattle.lists.proofs.Totals.{ceil-below, ceil-le, get-cut}
-use Rattle.lists.proofs.Runs.{drop-column, take-min}
-use Rattle.lists.proofs.All.{all-column}
+use Rattle.lists.proofs.Runs.{drop-tabulate, take-min}
+use Rattle.lists.proofs.All.{all-tabulate}
 use Rattle.expression.specs.Expr.{Expr, minus, at, productOf}
 use Rattle.expression.specs.Flat.{body, size}
 use Rattle.expression.specs.Written.{Pushed, ExprWritten}
@@ -66,13 +66,13 @@ module _ (v : CircuitParams) (l : Limits v) (i : ℕ) (h : i < v .«num_chunks»
   part-is : chunk v i ≡ tabulate (λ j. i * v .«chunk_size» + j) (length (chunk v i))
   part-is =
       part-run
-      ∙ ap (take (v .«chunk_size»)) (drop-column (λ j. j) (i * v .«chunk_size») (v .«num_permutation_polys») (let a = part-start in omega arith))
+      ∙ ap (take (v .«chunk_size»)) (drop-tabulate (λ j. j) (i * v .«chunk_size») (v .«num_permutation_polys») (let a = part-start in omega arith))
       ∙ take-min (λ j. i * v .«chunk_size» + j) (v .«chunk_size») (v .«num_permutation_polys» - i * v .«chunk_size»)
       ∙ ap (tabulate (λ j. i * v .«chunk_size» + j)) (sym part-length)
 
   part-map : (f : ℕ → Expr) → map f (chunk v i) ≡ tabulate (λ j. f (i * v .«chunk_size» + j)) (length (chunk v i))
   part-map f =
-      ap (map f) part-is ∙ map-column f (λ j. i * v .«chunk_size» + j) (length (chunk v i))
+      ap (map f) part-is ∙ map-tabulate f (λ j. i * v .«chunk_size» + j) (length (chunk v i))
 
   module _ (names : List ℕ) where
     pub part-tree : (count : ℕ) → count ≡ length (chunk v i)
@@ -118,9 +118,9 @@ pub column-product : (s : ℕ) (f : ℕ → Expr) (n : ℕ) → 0 < n → ((i : 
 column-product s f zero h q = absurd (omega arith)
 column-product s f (suc n) h q =
     let g : ℕ → Expr = λ i. f (suc i) in
-    ap (λ (l : List Expr). size (productOf l) + 1) (column-first f n)
-    ∙ product-size s (f 0) (tabulate g n) (q 0, all-column (λ (e : Expr). size e ≡ s) g n (λ i l. q (suc i)))
-    ∙ ap (λ (m : ℕ). suc m * (s + 1)) (column-length g n)
+    ap (λ (l : List Expr). size (productOf l) + 1) (tabulate-first f n)
+    ∙ product-size s (f 0) (tabulate g n) (q 0, all-tabulate (λ (e : Expr). size e ≡ s) g n (λ i l. q (suc i)))
+    ∙ ap (λ (m : ℕ). suc m * (s + 1)) (tabulate-length g n)
 
 pub part-size : (v : CircuitParams) (l : Limits v) (i : ℕ) (h : i < v .«num_chunks») (names : List ℕ)
     → size (partTree v names i) ≡ length (chunk v i) * 18 + 4

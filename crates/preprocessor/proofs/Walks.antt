@@ -1,4 +1,4 @@
--- What holds before each turn of the loops of `permutation_polys`. Assumes nothing.
+-- What holds before each turn of the loops of `permutation_polys`.
 use mathlib.Core.Path.{_≡_, refl, sym, ap, ap₂, _∙_, subst}
 use mathlib.Core.List.{List, [], map}
 use Prim.Native.Nat.{ℕ, suc, _+_, _-_, _*_, _/_, _≤_, _<_}
@@ -11,10 +11,10 @@ use lib.Seq.{getD-set-same, getD-set-other, getD-take, getD-drop, length-take-le
 use Rattle.lists.specs.Lists.{tabulate, range, indexOf, writeAt, split, total, All}
 use Rattle.lists.proofs.All.{all-get, all-weaken}
 use Rattle.lists.proofs.Lists.{get-map, split-length}
-use Rattle.lists.proofs.Columns.{column-length, column-cong, get-column, below-length}
-use Rattle.lists.proofs.Over.{length-over, over-none, over-column, over-again}
+use Rattle.lists.proofs.Columns.{tabulate-length, tabulate-cong, get-tabulate, below-length}
+use Rattle.lists.proofs.Over.{length-writeAt, writeAt-none, writeAt-tabulate, writeAt-again}
 use Rattle.lists.proofs.Parts.{total-next, total-within, get-split}
-use Rattle.lists.proofs.Searches.{column-part}
+use Rattle.lists.proofs.Searches.{tabulate-part}
 use Rattle.lists.proofs.Places.{get-index}
 use Rattle.backend.specs.Circuit.{Cell, cellAt, cellsOf}
 use Rattle.preprocessor.specs.Permutation.{source, before, firstLabelIn, labelColumns, permutationColumns, CellPlaced, Once, Apart, Walkable, Starts, cellWord, CycleIn, Walked}
@@ -30,7 +30,7 @@ pub record First (d : List ℕ) (at count : ℕ) (columns : List ℕ) (j : ℕ) 
 module _ (d : List ℕ) (at count : ℕ) where
   pub first-start : First d at count d 0
   unfolding tabulate
-  first-start = record { low = omega arith; long = refl; words = sym (over-none d at) }
+  first-start = record { low = omega arith; long = refl; words = sym (writeAt-none d at) }
 
   pub first-next : (columns : List ℕ) (j : ℕ) → at + count ≤ length d → First d at count columns j → j < count
       → First d at count (set columns (at + j) j) (j + 1)
@@ -39,7 +39,7 @@ module _ (d : List ℕ) (at count : ℕ) where
         low = omega arith;
         long = length-set columns (at + j) j ∙ w .long;
         words =
-            ap (λ (s : List ℕ). set s (at + j) j) (w .words) ∙ over-column d at (λ i. i) j (omega arith)
+            ap (λ (s : List ℕ). set s (at + j) j) (w .words) ∙ writeAt-tabulate d at (λ i. i) j (omega arith)
             ∙ ap (λ (n : ℕ). writeAt d at (range n)) (sym (add-one j));
       }
 
@@ -51,7 +51,7 @@ module _ (d : List ℕ) (at count : ℕ) where
 pub first-room : (d₀ d : List ℕ) (at count : ℕ) → at + count ≤ length d₀ → d ≡ writeAt d₀ at (range count) → at + count ≤ length d
 first-room d₀ d at count h e =
     let n = below-length count in
-    let q : length d ≡ length d₀ = ap length e ∙ length-over d₀ at (range count) (omega arith) in
+    let q : length d ≡ length d₀ = ap length e ∙ length-writeAt d₀ at (range count) (omega arith) in
     omega arith
 
 -- ---- where the columns begin
@@ -167,10 +167,10 @@ module _ (starts cells : List ℕ) where
   Walking = Along starts (cellsOf cells)
 
   cells-count : length (cellsOf cells) ≡ length cells / 2
-  cells-count = column-length (cellAt cells) (length cells / 2)
+  cells-count = tabulate-length (cellAt cells) (length cells / 2)
 
   cells-each : (i : ℕ) (y : Cell) → i < length cells / 2 → getD (cellsOf cells) i y ≡ cellAt cells i
-  cells-each i y l = get-column (cellAt cells) (length cells / 2) i y l
+  cells-each i y l = get-tabulate (cellAt cells) (length cells / 2) i y l
 
   pub walking-start : (d : List ℕ) (v : ℕ) → Walking d v d v 0
   unfolding Walking
@@ -226,7 +226,7 @@ module _ (rows : ℕ) (ps lengths cells : List ℕ) (at : ℕ) (walk : Walkable 
     again : (Cs : List (List Cell)) → writeAt d at (labelled Cs) ≡ writeAt d₀ at (labelled Cs)
     again Cs =
         ap (λ (s : List ℕ). writeAt s at (labelled Cs)) first
-        ∙ over-again d₀ at (range (length ps * rows)) (labelled Cs) (let e = below-length (length ps * rows) in omega arith) (first-length Cs)
+        ∙ writeAt-again d₀ at (range (length ps * rows)) (labelled Cs) (let e = below-length (length ps * rows) in omega arith) (first-length Cs)
 
     pub turning-start : Turning rows ps lengths cells d at d 0 0
     unfolding total source
@@ -273,8 +273,8 @@ module _ (rows : ℕ) (ps lengths cells : List ℕ) (at : ℕ) (walk : Walkable 
     pub turn-cycle : cellsOf part ≡ getD cycles i []
     turn-cycle =
         ap (tabulate (cellAt part)) part-count
-        ∙ column-cong (cellAt part) (λ j. cellAt cells (total (take i lengths) + j)) (getD lengths i 0) same
-        ∙ sym (column-part (cellAt cells) (length cells / 2) (total (take i lengths)) (getD lengths i 0) (let q = total-within lengths i in omega arith))
+        ∙ tabulate-cong (cellAt part) (λ j. cellAt cells (total (take i lengths) + j)) (getD lengths i 0) same
+        ∙ sym (tabulate-part (cellAt cells) (length cells / 2) (total (take i lengths)) (getD lengths i 0) (let q = total-within lengths i in omega arith))
         ∙ sym (get-split lengths (cellsOf cells) i l)
       where
         same : (j : ℕ) → j < getD lengths i 0 → cellAt part j ≡ cellAt cells (total (take i lengths) + j)
@@ -306,7 +306,7 @@ module _ (rows : ℕ) (ps lengths cells : List ℕ) (at : ℕ) (walk : Walkable 
           × (All (λ (x : Cell). (x .polynomial < 72) × (cellWord starts x < length columns)) (cellsOf part)
           × CycleIn starts (cellsOf part) (length columns))
       turn-asks = (
-        (let s = here (λ cycle. 0 < length cycle) (walk .some) in let e = column-length (cellAt part) (length part / 2) in omega arith),
+        (let s = here (λ cycle. 0 < length cycle) (walk .some) in let e = tabulate-length (cellAt part) (length part / 2) in omega arith),
         (
           all-weaken (CellPlaced ps rows) (λ (x : Cell). (x .polynomial < 72) × (cellWord starts x < length columns)) cell-in (cellsOf part) (here (All (CellPlaced ps rows)) (walk .placed)),
           record {

@@ -1,4 +1,4 @@
--- The words and the numbers that the code is handed: the constraints that they stand for, and what must hold of them. Assumes nothing.
+-- The words and the numbers that the code is handed: the constraints that they stand for, and what must hold of them.
 use mathlib.Core.Path.{_≡_}
 use mathlib.Core.Bool.{cond}
 use mathlib.Core.List.{List, map}

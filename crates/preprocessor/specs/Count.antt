@@ -1,4 +1,4 @@
--- What is counted of expressions before they are written. Assumes nothing.
+-- What is counted of expressions before they are written.
 use mathlib.Core.List.{List, [], _∷_}
 use Prim.Native.Nat.{ℕ, zero, suc, _+_}
 use Rattle.expression.specs.Expr.{Expr}

@@ -1,4 +1,4 @@
--- The cycle that a list of cell records is. Assumes nothing.
+-- The cycle that a list of cell records is.
 use mathlib.Core.List.{List, map}
 use Rattle.backend.specs.Circuit as circuit
 use Rattle.preprocessor_permutation.specs.declared.records.Cell.{Cell}

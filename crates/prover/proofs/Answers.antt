@@ -1,4 +1,4 @@
--- The number and the column m of all answers of the search are those of the definitions over rows. Assumes nothing.
+-- The number and the column m of all answers of the search are those of the definitions over rows.
 use mathlib.Core.Path.{_≡_, refl, sym, ap, ap₂, _∙_}
 use mathlib.Core.Bool.{Bool, true, false, cond, _&&_}
 use mathlib.Core.List.{List, [], _∷_, map}
@@ -10,7 +10,7 @@ use lib.ListN.{length, replicate}
 use Rattle.field.specs.Algebra.{Field}
 use Rattle.field.specs.Field.{𝔾}
 use Rattle.lists.specs.Lists.{tabulate, range, filter, countOf, allOf, total, isSome, isAt, writeAt}
-use Rattle.lists.proofs.Columns.{column-cong}
+use Rattle.lists.proofs.Columns.{tabulate-cong}
 use Rattle.prover.specs.declared.Found.{Found}
 use Rattle.prover.specs.Lookup.{lastEqual, multiplicity, covered}
 use Rattle.prover.specs.Words.{countWords}
@@ -71,7 +71,7 @@ module _ (𝓕 : Field) (rows : ℕ) (input table : ℕ → 𝓕 .F) where
 
   counts : tabulate (λ j. total (map (countedAt j) (searches 𝓕 rows input table))) rows ≡ tabulate (multiplicity 𝓕 rows input table) rows
   unfolding searches found multiplicity
-  counts = column-cong _ _ rows (λ j l. counted-total (λ b. lastEqual 𝓕 rows table (input b)) j (range rows))
+  counts = tabulate-cong _ _ rows (λ j l. counted-total (λ b. lastEqual 𝓕 rows table (input b)) j (range rows))
 
   pub words-are : mWords rows (searches 𝓕 rows input table)
       ≡ cond (covered 𝓕 rows input table) (tabulate (multiplicity 𝓕 rows input table) rows) (replicate rows 0)

@@ -1,5 +1,4 @@
 -- The counts of the first inputs, in a buffer. `found` says for each input the table row that it is counted at, or none.
--- Assumes nothing.
 use mathlib.Core.Path.{_≡_, refl, sym, ap, ap₂, _∙_}
 use mathlib.Core.Logic.{_≢_}
 use mathlib.Core.Bool.{Bool, true, false, cond, _&&_}
@@ -13,10 +12,10 @@ use lib.ListN.{length, getD, set, replicate, length-replicate}
 use borrow.Author.Tests.{eq-eqb, ne-eqb}
 use Rattle.field.specs.Field.{𝔾}
 use Rattle.lists.specs.Lists.{tabulate, range, filter, countOf, allOf, isSome, isAt, writeAt}
-use Rattle.lists.proofs.Columns.{column-length, get-column, column-suc, column-cong, column-replicate, below-length, below-get}
+use Rattle.lists.proofs.Columns.{tabulate-length, get-tabulate, tabulate-suc, tabulate-cong, tabulate-replicate, below-length, below-get}
 use Rattle.lists.proofs.Tests.{false-true, by-test, and-both, all-each, all-append, count-append, count-one}
-use Rattle.lists.proofs.Over.{over-before, over-inside, over-again}
-use Rattle.lists.proofs.Sets.{over-column-set}
+use Rattle.lists.proofs.Over.{writeAt-before, writeAt-inside, writeAt-again}
+use Rattle.lists.proofs.Sets.{writeAt-tabulate-set}
 use Rattle.prover.specs.Lookup.{lastEqual, multiplicity, covered}
 use Rattle.prover.specs.Words.{countWords}
 use Rattle.prover.proofs.Search.{lastRow, row-same}
@@ -32,7 +31,7 @@ module _ (found : ℕ → Option ℕ) where
 
   tally-suc : (i j : ℕ) → tally found (suc i) j ≡ tally found i j + cond (isAt j (found i)) 1 0
   tally-suc i j =
-      ap (λ (l : List ℕ). countOf (λ b. isAt j (found b)) l) (column-suc (λ b. b) i)
+      ap (λ (l : List ℕ). countOf (λ b. isAt j (found b)) l) (tabulate-suc (λ b. b) i)
       ∙ count-append (λ b. isAt j (found b)) (range i) (i ∷ [])
       ∙ ap (λ (n : ℕ). tally found i j + n) (count-one (λ b. isAt j (found b)) i)
 
@@ -68,7 +67,7 @@ module _ (found : ℕ → Option ℕ) where
   unfolding allOf
   found-more i a f h =
       ap allFound (add-one i)
-      ∙ ap (allOf (λ b. isSome (found b))) (column-suc (λ b. b) i)
+      ∙ ap (allOf (λ b. isSome (found b))) (tabulate-suc (λ b. b) i)
       ∙ all-append (λ b. isSome (found b)) (range i) (i ∷ [])
       ∙ and-both (allFound i) (isSome (found i) && true) h (and-both (isSome (found i)) true (ap (λ o. isSome o) f) refl)
 
@@ -97,7 +96,7 @@ module _ (rows : ℕ) (found : ℕ → Option ℕ) (d : List ℕ) (at : ℕ) (ro
         now =
             e
             ∙ ap (writeAt d at)
-            (sym (column-replicate 0 rows) ∙ column-cong (λ j. 0) (tally found 0) rows (λ j l. sym (tally-none found j)));
+            (sym (tabulate-replicate 0 rows) ∙ tabulate-cong (λ j. 0) (tally found 0) rows (λ j l. sym (tally-none found j)));
         ok = found-none found;
       }
 
@@ -106,8 +105,8 @@ module _ (rows : ℕ) (found : ℕ → Option ℕ) (d : List ℕ) (at : ℕ) (ro
     counted-word : (a : ℕ) → a < rows → getD m (at + a) 0 ≡ tally found i a
     counted-word a l =
         ap (λ (x : List ℕ). getD x (at + a) 0) (inv .now)
-        ∙ over-inside d at (tabulate (tally found i) rows) a 0 (omega arith) (let q = column-length (tally found i) rows in omega arith)
-        ∙ get-column (tally found i) rows a 0 l
+        ∙ writeAt-inside d at (tabulate (tally found i) rows) a 0 (omega arith) (let q = tabulate-length (tally found i) rows in omega arith)
+        ∙ get-tabulate (tally found i) rows a 0 l
 
     -- at the word p, row a of the column
     pub counted-le : (p a : ℕ) → p ≡ at + a → a < rows → getD m p 0 ≤ i
@@ -122,14 +121,14 @@ module _ (rows : ℕ) (found : ℕ → Option ℕ) (d : List ℕ) (at : ℕ) (ro
               ap (λ (p : ℕ). set m p (getD m p 0 + 1)) q
               ∙ ap₂ (λ (x : List ℕ) (w : ℕ). set x (at + a) w) (inv .now)
               (ap (λ (w : ℕ). w + 1) (counted-word a l) ∙ sym (tally-at found i a f))
-              ∙ over-column-set d at (tally found i) (tally found (i + 1)) rows a (omega arith) l
+              ∙ writeAt-tabulate-set d at (tally found i) (tally found (i + 1)) rows a (omega arith) l
               (λ j _ n. tally-off found i a f j n);
           ok = found-more found i a f (inv .ok);
         }
 
     -- what stands before the column is as it was
     pub counted-before : (j : ℕ) → j < at → getD m j 0 ≡ getD d j 0
-    counted-before j l = ap (λ (x : List ℕ). getD x j 0) (inv .now) ∙ over-before d at (tabulate (tally found i) rows) j 0 (omega arith) l
+    counted-before j l = ap (λ (x : List ℕ). getD x j 0) (inv .now) ∙ writeAt-before d at (tabulate (tally found i) rows) j 0 (omega arith) l
 
     -- a search in the buffer, of an input and in a table that stand before the column
     pub counted-rows : (input table : ℕ) → input + rows ≤ at → table + rows ≤ at → (b : ℕ) → b < rows
@@ -143,9 +142,9 @@ module _ (rows : ℕ) (found : ℕ → Option ℕ) (d : List ℕ) (at : ℕ) (ro
     pub counted-cleared : (n : List ℕ) → n ≡ writeAt m at (replicate rows 0) → n ≡ writeAt d at (replicate rows 0)
     counted-cleared n e =
         e ∙ ap (λ (x : List ℕ). writeAt x at (replicate rows 0)) (inv .now)
-        ∙ over-again d at (tabulate (tally found i) rows) (replicate rows 0)
-        (let q = column-length (tally found i) rows in omega arith)
-        (column-length (tally found i) rows ∙ sym (length-replicate rows 0))
+        ∙ writeAt-again d at (tabulate (tally found i) rows) (replicate rows 0)
+        (let q = tabulate-length (tally found i) rows in omega arith)
+        (tabulate-length (tally found i) rows ∙ sym (length-replicate rows 0))
 
 -- ---- the answers
 

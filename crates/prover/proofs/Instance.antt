@@ -1,4 +1,4 @@
--- The instance columns: a value at its place, and one column after another. Assumes nothing.
+-- The instance columns: a value at its place, and one column after another.
 use mathlib.Core.Path.{_≡_, refl, sym, ap, ap₂, _∙_, subst⁻¹}
 use mathlib.Core.Logic.{_≢_}
 use mathlib.Core.List.{List, [], _∷_, _++_, map, map-append}
@@ -16,10 +16,10 @@ use Rattle.bh.specs.Rows.{rowAt, placeOf}
 use Rattle.bh.proofs.Order.{row-lt}
 use Rattle.bh.proofs.Place.{row-place, place-row}
 use Rattle.lists.specs.Lists.{tabulate, writeAt, split, total}
-use Rattle.lists.proofs.Columns.{column-cong, column-replicate}
+use Rattle.lists.proofs.Columns.{tabulate-cong, tabulate-replicate}
 use Rattle.lists.proofs.Lists.{get-none, get-map, split-length}
 use Rattle.lists.proofs.Parts.{split-more}
-use Rattle.lists.proofs.Sets.{over-column-set}
+use Rattle.lists.proofs.Sets.{writeAt-tabulate-set}
 use Rattle.prover.specs.Columns.{instanceAt}
 use Rattle.prover.specs.Words.{wordsOf}
 use Rattle.prover.proofs.Words.{words-none, words-more}
@@ -80,7 +80,7 @@ module _ (k : ℕ) (hk : 0 < k) (lk : k < 21) (vs : List ℕ) (t : ℕ) where
       let v : w ≡ placed k vs (suc t) (rowAt k (suc t)) = q ∙ sym (placed-here l r) in
       ap₂ (λ (x : List ℕ) (i : ℕ). set x (at + i) w) now e
       ∙ ap (λ (y : ℕ). set (writeAt d at (tabulate (placed k vs t) (2 ^ k))) (at + rowAt k (suc t)) y) v
-      ∙ over-column-set d at (placed k vs t) (placed k vs (suc t)) (2 ^ k) (rowAt k (suc t)) h (row-lt k hk lk (suc t))
+      ∙ writeAt-tabulate-set d at (placed k vs t) (placed k vs (suc t)) (2 ^ k) (rowAt k (suc t)) h (row-lt k hk lk (suc t))
       (λ b lb n. placed-other b lb n)
       ∙ ap (λ (n : ℕ). writeAt d at (tabulate (placed k vs n) (2 ^ k))) (sym (add-one t))
 
@@ -89,7 +89,7 @@ pub place-start : (k : ℕ) (vs d : List ℕ) (at : ℕ) (m : List ℕ) → m �
 place-start k vs d at m e =
     e
     ∙ ap (writeAt d at)
-    (sym (column-replicate 0 (2 ^ k)) ∙ column-cong (λ _. 0) (placed k vs 0) (2 ^ k) (λ b _. sym (placed-none k vs b)))
+    (sym (tabulate-replicate 0 (2 ^ k)) ∙ tabulate-cong (λ _. 0) (placed k vs 0) (2 ^ k) (λ b _. sym (placed-none k vs b)))
 
 pub place-end : (k : ℕ) (vs : List ℕ) (t : ℕ) → length vs ≤ t → (d : List ℕ) (at : ℕ)
     → writeAt d at (tabulate (placed k vs t) (2 ^ k)) ≡ writeAt d at (tabulate (λ b. val (instanceAt 𝔾 k (map el vs) b)) (2 ^ k))
@@ -135,7 +135,7 @@ module _ (k : ℕ) (ns xs : List ℕ) (i : ℕ) (lt : i < length ns) where
 
 pub instance-start : (k : ℕ) (xs d : List ℕ) → d ≡ writeAt d 0 (wordsOf (2 ^ k) (polys k [] xs))
 unfolding split
-instance-start k xs d = sym (ap (writeAt d 0) (words-none (2 ^ k)) ∙ Rattle.lists.proofs.Over.over-none d 0)
+instance-start k xs d = sym (ap (writeAt d 0) (words-none (2 ^ k)) ∙ Rattle.lists.proofs.Over.writeAt-none d 0)
 
 -- the words of column i are there
 pub words-there : (i n r at len : ℕ) → i < n → at ≡ i * r → n * r ≤ len → at + r ≤ len

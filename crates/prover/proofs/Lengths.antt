@@ -1,11 +1,11 @@
--- How many columns of each kind a log has. Assumes nothing.
+-- How many columns of each kind a log has.
 use mathlib.Core.Path.{_≡_}
 use Prim.Native.Nat.{_+_, _*_}
 use native.Mathlib.Omega.{arith}
 use lib.ListN.{length, length-append, length-map}
 use Rattle.field.specs.Algebra.{Field}
 use Rattle.lists.proofs.Lists.{split-length, pairs-length}
-use Rattle.lists.proofs.Columns.{column-length}
+use Rattle.lists.proofs.Columns.{tabulate-length}
 use Rattle.backend.specs.Circuit.{numInstance, numPoly, numCopied, numLookups}
 use Rattle.preprocessor.specs.Compose.{numZ}
 use Rattle.prover.specs.Log.{Log}
@@ -18,11 +18,11 @@ module _ (𝓕 : Field) (g : Log 𝓕) where
 
   pub given-length : length (givenPolys 𝓕 g) ≡ numPoly (g .circuit)
   unfolding givenPolys instancePolys preprocessPolys witnessPolys numPoly
-  given-length = simp (length-append, length-map, column-length, split-length) (omega arith)
+  given-length = simp (length-append, length-map, tabulate-length, split-length) (omega arith)
 
   pub permutations-length : length (permutationPolys 𝓕 g) ≡ numCopied (g .circuit)
   unfolding permutationPolys
-  permutations-length = simp (length-map, column-length)
+  permutations-length = simp (length-map, tabulate-length)
 
   pub compressed-length : length (compressedPolys 𝓕 g) ≡ numLookups (g .circuit) * 2
   unfolding compressedPolys
@@ -38,9 +38,9 @@ module _ (𝓕 : Field) (g : Log 𝓕) where
 
   pub z-length : length (zPolys 𝓕 g) ≡ numZ (g .circuit)
   unfolding zPolys
-  z-length = simp (length-map, column-length)
+  z-length = simp (length-map, tabulate-length)
 
   pub written-length : length (writtenPolys 𝓕 g)
       ≡ numInstance (g .circuit) + numCopied (g .circuit) + numLookups (g .circuit) * 4 + numZ (g .circuit)
   unfolding writtenPolys instancePolys permutationPolys compressedPolys mPolys hPolys zPolys
-  written-length = simp (length-append, length-map, column-length, split-length, pairs-length) (omega arith)
+  written-length = simp (length-append, length-map, tabulate-length, split-length, pairs-length) (omega arith)

@@ -1,4 +1,4 @@
--- User expressions over the words that are lent: what they read of the column buffer, and when they read a log. Assumes nothing.
+-- User expressions over the words that are lent: what they read of the column buffer, and when they read a log.
 use mathlib.Core.Path.{_≡_, refl, sym, ap, ap₂, _∙_, subst}
 use mathlib.Core.List.{List, [], _∷_, _++_, map, append-nil}
 use Prim.Native.Nat.{ℕ, zero, _+_, _*_, _^_, _<_}
@@ -8,7 +8,7 @@ use lib.Seq.{getD-take, getD-drop}
 use Rattle.field.specs.Field.{𝔾, el, val, el-zero, el-val}
 use Rattle.lists.specs.Lists.{tabulate, concat, split}
 use Rattle.lists.proofs.All.{all-any, map-same}
-use Rattle.lists.proofs.Columns.{column-length, column-cong, get-column}
+use Rattle.lists.proofs.Columns.{tabulate-length, tabulate-cong, get-tabulate}
 use Rattle.lists.proofs.Turns.{grid-lt}
 use Rattle.lists.proofs.Lists.{get-map}
 use Rattle.expression.specs.Expr.{Expr}
@@ -39,12 +39,12 @@ module _ (l : Layout) (perms : l .permutations ≡ 0) (rest : l .rest ≡ 0) (ci
       ++ tabulate (λ i b. el (getD witness (i * l .rows + b) 0)) (l .witness)
 
   front-length : (c : List ℕ) → length (frontOf c) ≡ l .instances
-  front-length c = column-length (λ i b. el (getD c (i * l .rows + b) 0)) (l .instances)
+  front-length c = tabulate-length (λ i b. el (getD c (i * l .rows + b) 0)) (l .instances)
 
   front-get : (c : List ℕ) (q b : ℕ) → q < length (frontOf c) → polyOf 𝔾 (frontOf c) q b ≡ el (getD c (q * l .rows + b) 0)
   front-get c q b h =
       ap (λ (p : ℕ → 𝔾 .F). p b)
-      (get-column (λ i b. el (getD c (i * l .rows + b) 0)) (l .instances) q (λ r. 𝔾 .zero)
+      (get-tabulate (λ i b. el (getD c (i * l .rows + b) 0)) (l .instances) q (λ r. 𝔾 .zero)
       (let e = front-length c in omega arith))
 
   polys-are : (c : List ℕ) → polysOf l circuit witness c ≡ frontOf c ++ backOf
@@ -114,7 +114,7 @@ module _ (s t : Environment 𝔾) (rows : ℕ) (same : (e : Expr) (b : ℕ) → 
   pub compressed-column : (es : List Expr)
       → tabulate (λ b. val (compressedIn 𝔾 s β es b)) rows ≡ tabulate (λ b. val (compressedIn 𝔾 t β es b)) rows
   compressed-column es =
-      column-cong (λ b. val (compressedIn 𝔾 s β es b)) (λ b. val (compressedIn 𝔾 t β es b)) rows
+      tabulate-cong (λ b. val (compressedIn 𝔾 s β es b)) (λ b. val (compressedIn 𝔾 t β es b)) rows
       (λ b l. ap val (compressed-same es b l))
 
   pub compressed-words : (ls : List (List Pair))
@@ -135,7 +135,7 @@ preprocess-word ws i b h m =
     let R : ℕ = 2 ^ wordK ws in
     let body : List ℕ = bodyOf ws Section.preprocess in
     let n : ℕ = entries ws Section.preprocess in
-    ap (λ (xs : List ℕ). getD xs b 0) (get-column (λ i. take R (drop (i * R) body)) n i [] h)
+    ap (λ (xs : List ℕ). getD xs b 0) (get-tabulate (λ i. take R (drop (i * R) body)) n i [] h)
     ∙ getD-take R (drop (i * R) body) b 0 m
     ∙ getD-drop (i * R) body b 0
     ∙ getD-take (n * R) (drop (startOf ws Section.preprocess) ws) (i * R + b) 0 (grid-lt n R i b h m)
@@ -181,7 +181,7 @@ module _ (g : Log 𝔾) (l : Layout) (circuit witness columns challenges : List 
   unfolding circuitOf
   preprocess-count =
       r .preprocess
-      ∙ sym (ap (λ c. numPreprocess c) (r .circuit-is) ∙ column-length _ (entries circuit Section.preprocess))
+      ∙ sym (ap (λ c. numPreprocess c) (r .circuit-is) ∙ tabulate-length _ (entries circuit Section.preprocess))
 
   -- the polynomials that are given
   pub polys-agree : (q b : ℕ) → b < rows → polyOf 𝔾 (polysOf l circuit witness columns) q b ≡ polyOf 𝔾 (givenPolys 𝔾 g) q b

@@ -1,4 +1,4 @@
--- The compressed columns: one value by a running power and a running sum, and the columns one after another. Assumes nothing.
+-- The compressed columns: one value by a running power and a running sum, and the columns one after another.
 use mathlib.Core.Path.{_≡_, refl, sym, ap, ap₂, _∙_}
 use mathlib.Core.List.{List, [], _∷_, _++_, map, append-nil, map-append}
 use Prim.Native.Nat.{ℕ, zero, suc, _+_, _*_, _/_, _%_, _^_, _≤_, _<_}
@@ -12,9 +12,9 @@ use Rattle.field.specs.Field.{𝔾, el, val, el-zero, el-one}
 use Rattle.field.specs.Algebra.{pow, mul-comm}
 use Rattle.bh.specs.Sums.{upTo}
 use Rattle.lists.specs.Lists.{tabulate, concat, writeAt, split, total}
-use Rattle.lists.proofs.Columns.{column-length, column-cong, get-column, map-column}
+use Rattle.lists.proofs.Columns.{tabulate-length, tabulate-cong, get-tabulate, map-tabulate}
 use Rattle.lists.proofs.Lists.{get-none, concat-end, pairs-length, split-length}
-use Rattle.lists.proofs.Over.{over-none, over-over, over-before}
+use Rattle.lists.proofs.Over.{writeAt-none, writeAt-writeAt, writeAt-before}
 use Rattle.lists.proofs.Parts.{split-more}
 use Rattle.identities.proofs.Totals.{upTo-cong, upTo-suc}
 use Rattle.expression.specs.Expr.{Expr, evaluate}
@@ -95,15 +95,15 @@ module _ (s : Environment 𝔾) (β : 𝔾 .F) (nodes pairs : List ℕ) (r : Roo
       ∙ ap (λ (n : ℕ). partialSum β rootValue n) e
       ∙ upTo-cong (𝔾 .add) (𝔾 .zero) (λ j. 𝔾 .mul (pow 𝔾 β j) (rootValue j))
       (λ j. 𝔾 .mul (pow 𝔾 β j) (getD (tabulate rootValue (r .width)) j (𝔾 .zero))) (r .width)
-      (λ j l. ap (𝔾 .mul (pow 𝔾 β j)) (sym (get-column rootValue (r .width) j (𝔾 .zero) l)))
+      (λ j l. ap (𝔾 .mul (pow 𝔾 β j)) (sym (get-tabulate rootValue (r .width) j (𝔾 .zero) l)))
       ∙ ap₂ (λ (xs : List (𝔾 .F)) (n : ℕ). upTo (𝔾 .add) (𝔾 .zero) (λ j. 𝔾 .mul (pow 𝔾 β j) (getD xs j (𝔾 .zero))) n) whole
-      (sym (ap length (sym whole) ∙ column-length rootValue (r .width)))
+      (sym (ap length (sym whole) ∙ tabulate-length rootValue (r .width)))
     where
       exprs : List Expr
       exprs = tabulate (λ i. exprOf nodes (getD pairs ((r .start + i) * 2 + r .side) 0)) (r .width)
 
       whole : tabulate rootValue (r .width) ≡ map (λ e. valueAt 𝔾 s e b) exprs
-      whole = sym (map-column (λ e. valueAt 𝔾 s e b) (λ i. exprOf nodes (getD pairs ((r .start + i) * 2 + r .side) 0)) (r .width))
+      whole = sym (map-tabulate (λ e. valueAt 𝔾 s e b) (λ i. exprOf nodes (getD pairs ((r .start + i) * 2 + r .side) 0)) (r .width))
 
 -- ---- the expressions of a lookup's roots
 
@@ -115,34 +115,34 @@ module _ (nodes pairs : List ℕ) (start width : ℕ) (fit : (start + width) * 2
   pairs-there =
       let n : ℕ = length pairs / 2 in
       let all : List Pair = tabulate (pairAt nodes pairs) n in
-      let len : length all ≡ n = column-length (pairAt nodes pairs) n in
+      let len : length all ≡ n = tabulate-length (pairAt nodes pairs) n in
       let z : Pair = pairAt nodes pairs 0 in
       let this : length (take width (drop start all)) ≡ width =
       length-take-le width (drop start all) (let e = length-drop start all in omega arith) in
       let that : length (tabulate (λ i. pairAt nodes pairs (start + i)) width) ≡ width =
-      column-length (λ i. pairAt nodes pairs (start + i)) width in
+      tabulate-length (λ i. pairAt nodes pairs (start + i)) width in
       ext-getD z (take width (drop start all)) (tabulate (λ i. pairAt nodes pairs (start + i)) width) (this ∙ sym that)
       (λ i l.
       let m : i < width = omega arith in
       getD-take width (drop start all) i z m ∙ getD-drop start all i z
-      ∙ get-column (pairAt nodes pairs) n (start + i) z (omega arith)
-      ∙ sym (get-column (λ i. pairAt nodes pairs (start + i)) width i z m))
+      ∙ get-tabulate (pairAt nodes pairs) n (start + i) z (omega arith)
+      ∙ sym (get-tabulate (λ i. pairAt nodes pairs (start + i)) width i z m))
 
   pub roots-inputs : rootsOf nodes pairs (record { start = start; width = width; side = 0 }) ≡ inputsOf one
   unfolding rootsOf
   roots-inputs =
-      column-cong (λ i. exprOf nodes (getD pairs ((start + i) * 2 + 0) 0)) (λ i. exprOf nodes (getD pairs ((start + i) * 2) 0)) width
+      tabulate-cong (λ i. exprOf nodes (getD pairs ((start + i) * 2 + 0) 0)) (λ i. exprOf nodes (getD pairs ((start + i) * 2) 0)) width
       (λ i l. ap (λ (j : ℕ). exprOf nodes (getD pairs j 0)) (omega arith))
       ∙ sym
       (ap (map (λ (p : Pair). p .input)) pairs-there
-      ∙ map-column (λ (p : Pair). p .input) (λ i. pairAt nodes pairs (start + i)) width)
+      ∙ map-tabulate (λ (p : Pair). p .input) (λ i. pairAt nodes pairs (start + i)) width)
 
   pub roots-tables : rootsOf nodes pairs (record { start = start; width = width; side = 1 }) ≡ tablesOf one
   unfolding rootsOf
   roots-tables =
       sym
       (ap (map (λ (p : Pair). p .table)) pairs-there
-      ∙ map-column (λ (p : Pair). p .table) (λ i. pairAt nodes pairs (start + i)) width)
+      ∙ map-tabulate (λ (p : Pair). p .table) (λ i. pairAt nodes pairs (start + i)) width)
 
 -- ---- one column behind another
 
@@ -175,7 +175,7 @@ module _ (k : ℕ) (small : k < 21) (l : Layout) (g : Given k l) (circuit witnes
   behind-column d to s h room es =
       compressed-column (environmentFromWords circuit witness (writeAt d to s) challenges l k) (environmentFromWords circuit witness d challenges l k)
       (2 ^ k)
-      (lent-same k small l g circuit witness (writeAt d to s) d challenges (λ j m. over-before d to s j 0 room (omega arith)))
+      (lent-same k small l g circuit witness (writeAt d to s) d challenges (λ j m. writeAt-before d to s j 0 room (omega arith)))
       β es
 
   module _ (nodes pairs : List ℕ) where
@@ -196,12 +196,12 @@ module _ (k : ℕ) (small : k < 21) (l : Layout) (g : Given k l) (circuit witnes
         let tabs : List Expr = rootsOf nodes pairs (record { start = start; width = width; side = 1 }) in
         let first : List ℕ = tabulate (λ b. val (at d ins b)) (2 ^ k) in
         let second : List ℕ = tabulate (λ b. val (at d tabs b)) (2 ^ k) in
-        let len : length first ≡ 2 ^ k = column-length (λ b. val (at d ins b)) (2 ^ k) in
+        let len : length first ≡ 2 ^ k = tabulate-length (λ b. val (at d ins b)) (2 ^ k) in
         e₂
         ∙ ap (λ (m : List ℕ). writeAt m next (tabulate (λ b. val (at m tabs b)) (2 ^ k))) e₁
         ∙ ap (writeAt (writeAt d to first) next) (behind-column d to first before (omega arith) tabs)
         ∙ ap (λ (n : ℕ). writeAt (writeAt d to first) n second) (let w : next ≡ to + length first = omega arith in w)
-        ∙ over-over d to first second (omega arith)
+        ∙ writeAt-writeAt d to first second (omega arith)
         ∙ ap (writeAt d to)
         (ap₂ (λ (x y : List Expr). tabulate (λ b. val (at d x b)) (2 ^ k) ++ tabulate (λ b. val (at d y b)) (2 ^ k))
         (roots-inputs nodes pairs start width fit)
@@ -214,7 +214,7 @@ module _ (k : ℕ) (small : k < 21) (l : Layout) (g : Given k l) (circuit witnes
 
     pub all-start : (d : List ℕ) (to : ℕ) → d ≡ writeAt d to (wordsOf (2 ^ k) (all d (split [] (pairsOf nodes pairs))))
     unfolding split compressedPolysIn concat
-    all-start d to = sym (ap (writeAt d to) (words-none (2 ^ k)) ∙ over-none d to)
+    all-start d to = sym (ap (writeAt d to) (words-none (2 ^ k)) ∙ writeAt-none d to)
 
     all-end : (c : List ℕ) (ls : List (List Pair)) (ps : List Pair) → all c (ls ++ (ps ∷ [])) ≡ all c ls ++ of c ps
     unfolding compressedPolysIn
@@ -248,7 +248,7 @@ module _ (k : ℕ) (small : k < 21) (l : Layout) (g : Given k l) (circuit witnes
         (behind-column d to front before (omega arith) (tablesOf ps))
         ∙ sym (words-two (2 ^ k) (at d (inputsOf ps)) (at d (tablesOf ps))))
         ∙ ap (λ (n : ℕ). writeAt (writeAt d to front) n (wordsOf (2 ^ k) (of d ps))) (let p : at' ≡ to + length front = omega arith in p)
-        ∙ over-over d to front (wordsOf (2 ^ k) (of d ps)) (omega arith)
+        ∙ writeAt-writeAt d to front (wordsOf (2 ^ k) (of d ps)) (omega arith)
         ∙ ap (writeAt d to)
         (sym (words-append (2 ^ k) (all d ls) (of d ps))
         ∙ ap (wordsOf (2 ^ k))

@@ -1,4 +1,4 @@
--- Places and rows as a change of order, and the columns that are read while a buffer is written. Assumes nothing.
+-- Places and rows as a change of order, and the columns that are read while a buffer is written.
 use mathlib.Core.Path.{_≡_, ap, _∙_}
 use Prim.Native.Nat.{ℕ, _+_, _-_, _*_, _^_, _≤_, _<_}
 use mathlib.Core.List.{List}

@@ -1,4 +1,4 @@
--- The search from the last row down, over words below p. Assumes nothing.
+-- The search from the last row down, over words below p.
 use mathlib.Core.Path.{_≡_, refl, sym, ap, ap₂, _∙_}
 use mathlib.Core.Logic.{_≢_}
 use mathlib.Core.Bool.{Bool, true, false, cond, decide}

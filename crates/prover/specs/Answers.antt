@@ -1,6 +1,6 @@
 -- `Found`, what the search for an input's table row answers, with document 01's number and values for each case: "an input is
 -- counted at the last equal table row. The search from the last row down stops at the first equal row; none gives 15." Over any
--- field. Assumes nothing.
+-- field.
 use mathlib.Core.Bool.{cond}
 use mathlib.Core.List.{List, [], _∷_, map}
 use mathlib.Core.Option.{Option, none, some}

@@ -1,4 +1,4 @@
--- User expressions and lookups over the words that are lent. Assumes nothing.
+-- User expressions and lookups over the words that are lent.
 use mathlib.Core.Path.{_≡_}
 use mathlib.Core.List.{List, [], _∷_, map}
 use Prim.Native.Nat.{ℕ, _+_, _*_, _%_, _^_, _≤_, _<_}

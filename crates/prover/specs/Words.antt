@@ -1,4 +1,4 @@
--- Columns as words. Assumes nothing.
+-- Columns as words.
 use mathlib.Core.Bool.{Bool, true, false, cond}
 use mathlib.Core.List.{List, [], _∷_, _++_, map}
 use Prim.Native.Nat.{ℕ, _+_, _<_}

@@ -1,4 +1,4 @@
--- The counts of the first j lookups, in the buffer. Assumes nothing.
+-- The counts of the first j lookups, in the buffer.
 use mathlib.Core.Path.{_≡_, refl, sym, ap, ap₂, _∙_}
 use mathlib.Core.Bool.{Bool, true, false, cond}
 use mathlib.Core.List.{List, _++_}
@@ -8,8 +8,8 @@ use native.Mathlib.Omega.{arith}
 use lib.ListN.{length, getD, take, drop, replicate, length-append, length-replicate}
 use Rattle.field.specs.Field.{𝔾, el}
 use Rattle.lists.specs.Lists.{tabulate, concat, writeAt}
-use Rattle.lists.proofs.Columns.{column-length, column-cong, columns-length}
-use Rattle.lists.proofs.Over.{length-over, take-over, over-before, over-none, drop-past}
+use Rattle.lists.proofs.Columns.{tabulate-length, tabulate-cong, columns-length}
+use Rattle.lists.proofs.Over.{length-writeAt, take-writeAt, writeAt-before, writeAt-none, drop-past}
 use Rattle.lists.proofs.Tests.{false-true}
 use Rattle.lists.proofs.Walks.{Walked, walk-none, walk-more, walk-done, walk-fails}
 use Rattle.prover.specs.Lookup.{multiplicity, covered}
@@ -23,7 +23,7 @@ unfolding countWords
 count-length rows input table = go (covered 𝔾 rows input table)
   where
     go : (t : Bool) → length (cond t (tabulate (multiplicity 𝔾 rows input table) rows) (replicate rows 0)) ≡ rows
-    go true = column-length (multiplicity 𝔾 rows input table) rows
+    go true = tabulate-length (multiplicity 𝔾 rows input table) rows
     go false = length-replicate rows 0
 
 count-covered : (rows : ℕ) (input table : ℕ → 𝔾 .F) → covered 𝔾 rows input table ≡ true
@@ -54,7 +54,7 @@ module _ (d : List ℕ) (n at m rows : ℕ) where
         input-is = omega (arith, zero-mul rows);
         to-is = omega (arith, zero-mul rows);
         size = refl;
-        now = sym (over-none d m);
+        now = sym (writeAt-none d m);
         walked = walk-none test (λ i. i) n;
       }
 
@@ -68,7 +68,7 @@ module _ (d : List ℕ) (n at m rows : ℕ) where
         record {
           is = walk-done test (λ i. i) n j (inv .walked) h;
           counts = λ _. now;
-          front = ap (take m) now ∙ take-over d m (countsFrom d at rows n) (omega arith);
+          front = ap (take m) now ∙ take-writeAt d m (countsFrom d at rows n) (omega arith);
           back = ap (drop (m + n * rows)) now ∙ drop-past d m (countsFrom d at rows n) (m + n * rows) (omega arith) (omega arith);
         }
 
@@ -76,7 +76,7 @@ module _ (d : List ℕ) (n at m rows : ℕ) where
       -- what stands before the counts is as it was
       as-it-was : (i : ℕ) → i < m → getD cur i 0 ≡ getD d i 0
       as-it-was i h =
-          ap (λ (x : List ℕ). getD x i 0) (inv .now) ∙ over-before d m (countsFrom d at rows j) i 0 (omega arith) h
+          ap (λ (x : List ℕ). getD x i 0) (inv .now) ∙ writeAt-before d m (countsFrom d at rows j) i 0 (omega arith) h
 
       pub input-there : input + rows + rows ≤ m
       input-there = omega (arith, inv .input-is, pair-there n j rows l)
@@ -129,7 +129,7 @@ module _ (d : List ℕ) (n at m rows : ℕ) where
         pub counted-size : length e ≡ length d
         counted-size =
             ap length (given .1)
-            ∙ length-over cur to words (let w = words-size in let t = counts-there in let s = inv .size in omega arith)
+            ∙ length-writeAt cur to words (let w = words-size in let t = counts-there in let s = inv .size in omega arith)
             ∙ inv .size
 
         pub counted-more : answer ≡ true → CountedUpto d n at m rows e (input + rows + rows) (to + rows) (j + 1)
@@ -143,7 +143,7 @@ module _ (d : List ℕ) (n at m rows : ℕ) where
                   (given .1
                   ∙ ap (writeAt cur to)
                   (count-covered rows (elementsFrom cur input) (elementsFrom cur (input + rows)) (sym (given .0) ∙ u)
-                  ∙ column-cong (multiplicity 𝔾 rows (elementsFrom cur input) (elementsFrom cur (input + rows))) (count j) rows
+                  ∙ tabulate-cong (multiplicity 𝔾 rows (elementsFrom cur input) (elementsFrom cur (input + rows))) (count j) rows
                   (λ b h.
                   multiplicity-same rows (elementsFrom cur input) (inputFrom d at rows j) (elementsFrom cur (input + rows))
                   (tableFrom d at rows j) input-same table-same b)));
@@ -161,7 +161,7 @@ module _ (d : List ℕ) (n at m rows : ℕ) where
             record {
               is = walk-fails test (λ i. i) n j l (sym answer-is ∙ u);
               counts = λ f. false-true f;
-              front = ap (take m) now ∙ take-over d m run (omega arith);
+              front = ap (take m) now ∙ take-writeAt d m run (omega arith);
               back =
                   ap (drop (m + n * rows)) now
                   ∙ drop-past d m run (m + n * rows) (omega arith) (omega (arith, place-there n j rows l));

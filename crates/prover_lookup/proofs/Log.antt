@@ -1,4 +1,4 @@
--- A log's count and h columns, from a buffer that holds the words of its compressed columns from word `at` on. Assumes nothing.
+-- A log's count and h columns, from a buffer that holds the words of its compressed columns from word `at` on.
 use mathlib.Core.Path.{_≡_, refl, sym, ap, _∙_}
 use mathlib.Core.Bool.{Bool}
 use mathlib.Core.List.{List, [], _∷_, map}
@@ -10,7 +10,7 @@ use Rattle.field.specs.Prime.{P}
 use Rattle.field.specs.Field.{𝔾, el, val, P-pos, el-val, val-el}
 use Rattle.lists.specs.Lists.{tabulate, range, concat, allOf}
 use Rattle.lists.proofs.All.{all-getD}
-use Rattle.lists.proofs.Columns.{column-cong, column-of, map-column}
+use Rattle.lists.proofs.Columns.{tabulate-cong, tabulate-of, map-tabulate}
 use Rattle.lists.proofs.Lists.{get-map}
 use Rattle.lists.proofs.Walks.{all-map}
 use Rattle.lists.proofs.Turns.{grid-lt}
@@ -54,10 +54,10 @@ columns-are : {A : Type 0} (xs : List A) (d : A) (rows : ℕ) (f : ℕ → ℕ �
 unfolding wordsOf
 columns-are {A = A} xs d rows f p h =
     ap concat
-    (column-cong (λ j. tabulate (f j) rows) (λ j. tabulate (λ b. val (p (getD xs j d) b)) rows) (length xs)
-    (λ j l. column-cong (f j) (λ b. val (p (getD xs j d) b)) rows (h j l))
-    ∙ sym (map-column (λ (x : A). tabulate (λ b. val (p x b)) rows) (λ j. getD xs j d) (length xs))
-    ∙ ap (map (λ (x : A). tabulate (λ b. val (p x b)) rows)) (column-of xs d)
+    (tabulate-cong (λ j. tabulate (f j) rows) (λ j. tabulate (λ b. val (p (getD xs j d) b)) rows) (length xs)
+    (λ j l. tabulate-cong (f j) (λ b. val (p (getD xs j d) b)) rows (h j l))
+    ∙ sym (map-tabulate (λ (x : A). tabulate (λ b. val (p x b)) rows) (λ j. getD xs j d) (length xs))
+    ∙ ap (map (λ (x : A). tabulate (λ b. val (p x b)) rows)) (tabulate-of xs d)
     ∙ maps xs)
   where
     maps : (ys : List A) → map (λ (x : A). tabulate (λ b. val (p x b)) rows) ys ≡ map (λ (q : ℕ → 𝔾 .F). tabulate (λ b. val (q b)) rows) (map p ys)
@@ -111,7 +111,7 @@ module _ (g : Log 𝔾) (d : List ℕ) (at : ℕ)
       covered-same rows (inputFrom d at rows j) (inputAt 𝔾 g (lookup j)) (tableFrom d at rows j) (tableAt 𝔾 g (lookup j)) (input-is j l)
       (table-is j l))
       ∙ sym (all-map test lookup (range n))
-      ∙ ap (allOf test) (map-column lookup (λ i. i) n ∙ column-of (g .circuit .lookups) [])
+      ∙ ap (allOf test) (map-tabulate lookup (λ i. i) n ∙ tabulate-of (g .circuit .lookups) [])
     where
       test : List Pair → Bool
       test l = covered 𝔾 rows (inputAt 𝔾 g l) (tableAt 𝔾 g l)

@@ -1,4 +1,4 @@
--- Where the columns of a lookup stand, and columns written one after another. Assumes nothing.
+-- Where the columns of a lookup stand, and columns written one after another.
 use mathlib.Core.Path.{_≡_, sym, ap, ap₂, _∙_}
 use mathlib.Core.List.{List, _++_}
 use Prim.Native.Nat.{ℕ, suc, _+_, _*_, _≤_, _<_}
@@ -8,7 +8,7 @@ use native.Mathlib.Omega.{arith}
 use lib.ListN.{length}
 use Rattle.lists.specs.Lists.{tabulate, concat, writeAt}
 use Rattle.lists.proofs.Columns.{columns-suc, columns-length}
-use Rattle.lists.proofs.Over.{over-over}
+use Rattle.lists.proofs.Over.{writeAt-writeAt}
 
 -- ---- numbers
 
@@ -45,7 +45,7 @@ module _ (d : List ℕ) (to rows : ℕ) (f : ℕ → ℕ → ℕ) (j p : ℕ) (a
       let q : p ≡ to + length (concat (tabulate (λ j. tabulate (f j) rows) j)) = omega arith in
       put
       ∙ ap₂ (λ (x : List ℕ) (w : ℕ). writeAt x w s) is q
-      ∙ over-over d to (concat (tabulate (λ j. tabulate (f j) rows) j)) s (omega arith)
+      ∙ writeAt-writeAt d to (concat (tabulate (λ j. tabulate (f j) rows) j)) s (omega arith)
 
   pub column-next : e ≡ writeAt cur p (tabulate (f j) rows) → e ≡ writeAt d to (concat (tabulate (λ j. tabulate (f j) rows) (j + 1)))
   column-next put =

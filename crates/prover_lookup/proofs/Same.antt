@@ -1,4 +1,4 @@
--- Counts, coverage and h depend on the first rows alone. Assumes nothing.
+-- Counts, coverage and h depend on the first rows alone.
 use mathlib.Core.Path.{_≡_, sym, ap, ap₂, _∙_}
 use mathlib.Core.Bool.{Bool}
 use mathlib.Core.List.{List}
@@ -7,7 +7,7 @@ use Prim.Native.Nat.{ℕ, _≤_, _<_}
 use native.Mathlib.Omega.{arith}
 use Rattle.field.specs.Field.{𝔾}
 use Rattle.lists.specs.Lists.{range, countOf, allOf, isSome, isAt}
-use Rattle.lists.proofs.Columns.{column-cong, map-below, below-length}
+use Rattle.lists.proofs.Columns.{tabulate-cong, map-below, below-length}
 use Rattle.lists.proofs.Searches.{count-le, count-map}
 use Rattle.lists.proofs.Walks.{all-map}
 use Rattle.prover.specs.Lookup.{same, lastEqual, multiplicity, covered, hAt}
@@ -18,13 +18,13 @@ use Rattle.prover.proofs.Search.{last-same}
 pub all-agree : (p q : ℕ → Bool) (n : ℕ) → ((b : ℕ) → b < n → p b ≡ q b) → allOf p (range n) ≡ allOf q (range n)
 all-agree p q n h =
     sym (all-map (λ (t : Bool). t) p (range n))
-    ∙ ap (allOf (λ (t : Bool). t)) (map-below p n ∙ column-cong p q n h ∙ sym (map-below q n))
+    ∙ ap (allOf (λ (t : Bool). t)) (map-below p n ∙ tabulate-cong p q n h ∙ sym (map-below q n))
     ∙ all-map (λ (t : Bool). t) q (range n)
 
 count-agree : (p q : ℕ → Bool) (n : ℕ) → ((b : ℕ) → b < n → p b ≡ q b) → countOf p (range n) ≡ countOf q (range n)
 count-agree p q n h =
     sym (count-map (λ (t : Bool). t) p (range n))
-    ∙ ap (λ (ts : List Bool). countOf (λ (t : Bool). t) ts) (map-below p n ∙ column-cong p q n h ∙ sym (map-below q n))
+    ∙ ap (λ (ts : List Bool). countOf (λ (t : Bool). t) ts) (map-below p n ∙ tabulate-cong p q n h ∙ sym (map-below q n))
     ∙ count-map (λ (t : Bool). t) q (range n)
 
 -- ---- columns that agree on the first rows

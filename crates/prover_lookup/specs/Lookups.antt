@@ -1,5 +1,5 @@
 -- The count and h columns of all lookups, from the compressed columns of a buffer: input 0, table 0, input 1, table 1, … from word
--- `at` on. Assumes nothing.
+-- `at` on.
 use mathlib.Core.Path.{_≡_}
 use mathlib.Core.Bool.{Bool, true}
 use mathlib.Core.List.{List}

@@ -1,4 +1,4 @@
--- Names counted in one place a node, name by name. Assumes nothing.
+-- Names counted in one place a node, name by name.
 use mathlib.Core.Path.{_≡_, refl, sym, ap, _∙_}
 use mathlib.Core.Bool.{Bool, true, false, cond}
 use mathlib.Core.List.{List, [], _∷_, _++_, map, map-append}

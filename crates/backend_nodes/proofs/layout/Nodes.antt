@@ -1,4 +1,4 @@
--- What a node's words say, kind by kind. Assumes nothing.
+-- What a node's words say, kind by kind.
 use mathlib.Core.Path.{_≡_, refl, sym, ap, ap₂, _∙_}
 use mathlib.Core.Bool.{Bool, true, false, cond, not, _&&_, _||_, and-true, and-false, Bool·beq}
 use mathlib.Core.List.{List, [], _∷_, _++_}

@@ -1,4 +1,4 @@
--- The cells before one that are in its chain, met from the last on. Assumes nothing.
+-- The cells before one that are in its chain, met from the last on.
 use mathlib.Core.Path.{_≡_, refl, sym, ap, _∙_, subst}
 use mathlib.Core.Bool.{Bool, true, false, cond, not}
 use mathlib.Core.List.{List}
@@ -12,7 +12,7 @@ use lib.ListN.{length, getD, set, replicate, length-set, length-replicate, getD-
 use lib.Seq.{getD-set-same, getD-set-other}
 use borrow.Author.Tests.{eq-eqb, ne-eqb}
 use Rattle.lists.proofs.Tests.{by-test, true-all}
-use Rattle.lists.proofs.All.{all-column}
+use Rattle.lists.proofs.All.{all-tabulate}
 use Rattle.lists.proofs.Walks.{walk-fails}
 use Rattle.backend.specs.Circuit.{Cell, cellAt, sameCell}
 use Rattle.backend.specs.Cycles.{cellsFrom, fresh}
@@ -123,7 +123,7 @@ module _ (cells : List ℕ) where
     down-end d l =
         sym
         (true-all (λ y. not (sameCell (cellAt cells (start + n)) y)) (cellsFrom cells start n)
-        (all-column (λ y. not (sameCell (cellAt cells (start + n)) y) ≡ true) (λ i. cellAt cells (start + i)) n
+        (all-tabulate (λ y. not (sameCell (cellAt cells (start + n)) y) ≡ true) (λ i. cellAt cells (start + i)) n
         (λ i k. ap not (d .none (start + i) (omega arith) (omega arith)))))
 
     pub down-met : Down (start + n) j → start < j → sameCell (cellAt cells (start + n)) (cellAt cells (j - 1)) ≡ true

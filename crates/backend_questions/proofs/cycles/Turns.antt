@@ -1,4 +1,4 @@
--- Question 11, cell by cell and cycle by cycle. Assumes nothing.
+-- Question 11, cell by cell and cycle by cycle.
 use mathlib.Core.Path.{_≡_, refl, sym, ap, ap₂, _∙_}
 use mathlib.Core.Bool.{Bool, true, false, not, _&&_, and-false}
 use mathlib.Core.List.{List}
@@ -9,8 +9,8 @@ use lib.ListN.{length, getD, drop, drop-of-length-le}
 use borrow.Author.Tests.{leb-true, le-leb, ltb-true, lt-ltb, not-true, not-false}
 use Rattle.lists.specs.Lists.{range, allOf, split, total, within}
 use Rattle.lists.proofs.Tests.{and-left, and-right, and-both}
-use Rattle.lists.proofs.Columns.{column-length}
-use Rattle.lists.proofs.Searches.{column-part, total-drop, split-drop}
+use Rattle.lists.proofs.Columns.{tabulate-length}
+use Rattle.lists.proofs.Searches.{tabulate-part, total-drop, split-drop}
 use Rattle.lists.proofs.Once.{same-tests, once-by-turns}
 use Rattle.backend.specs.Circuit.{Cell, cellAt, cellsOf, sameCell}
 use Rattle.backend.specs.Questions.{goodCell, goodCycle, cyclesGood}
@@ -57,7 +57,7 @@ module _ (polys rows : ℕ) (cells : List ℕ) (start : ℕ) where
   pub no-cell : (n : ℕ) → n ≡ 0 → false ≡ goodCycle polys rows (cellsFrom cells start n)
   no-cell n e =
       ap (λ (m : ℕ). ltb 0 m && allOf (goodCell polys rows (cellsFrom cells start n)) (cellsFrom cells start n))
-      (sym (column-length (λ i. cellAt cells (start + i)) n ∙ e))
+      (sym (tabulate-length (λ i. cellAt cells (start + i)) n ∙ e))
 
   pub bad-cell : (n : ℕ) → false ≡ allOf turn (range n) → false ≡ goodCycle polys rows (cellsFrom cells start n)
   bad-cell n e =
@@ -65,7 +65,7 @@ module _ (polys rows : ℕ) (cells : List ℕ) (start : ℕ) where
 
   pub good-cells : (n : ℕ) → (n ≡ 0 → ⊥) → true ≡ allOf turn (range n) → true ≡ goodCycle polys rows (cellsFrom cells start n)
   good-cells n ne e =
-      ap₂ _&&_ (sym (lt-ltb 0 (length (cellsFrom cells start n)) (let q = column-length (λ i. cellAt cells (start + i)) n in omega arith)))
+      ap₂ _&&_ (sym (lt-ltb 0 (length (cellsFrom cells start n)) (let q = tabulate-length (λ i. cellAt cells (start + i)) n in omega arith)))
       (e ∙ by-turns n)
 
 -- ---- the cycles
@@ -94,7 +94,7 @@ module _ (polys rows : ℕ) (lengths body : List ℕ) where
         ∙ ap
         (λ (xs : List Cell).
         goodCycle polys rows xs && cyclesGood polys rows (split (drop (i + 1) lengths) (drop (start + getD lengths i 0) (cellsOf body))))
-        (column-part (cellAt body) (length body / 2) start (getD lengths i 0) room)
+        (tabulate-part (cellAt body) (length body / 2) start (getD lengths i 0) room)
 
     pub before-next : (t : Bool) → t ≡ goodCycle polys rows (cellsFrom body start (getD lengths i 0)) → not t ≡ false
         → Before (start + getD lengths i 0) (i + 1)

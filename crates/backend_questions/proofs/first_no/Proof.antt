@@ -8,19 +8,15 @@ use Rattle.backend_questions.proofs.first_no.Lts as lts
 use Rattle.backend_questions.proofs.body_no.Reads as body-no-reads
 use Rattle.backend_questions.proofs.layout_no.Reads as layout-no-reads
 
--- src/lib.rt:172:9
 layout-no-requires : tie.Need-layout-no-requires
 layout-no-requires c κs = search needs
 
--- src/lib.rt:174:9
 returns : tie.Need-returns
 returns c = refused-at (c .before .before .before .args .circuit .now) _ (c .before .layout-no .ensures) (c .if1 .taken)
 
--- src/lib.rt:176:5
 body-no-requires : tie.Need-body-no-requires
 body-no-requires c κs = all-laid (c .before .before .before .args .circuit .now) (sym (c .before .layout-no .ensures) ∙ c .if1 .left)
 
--- src/lib.rt:169:1
 returns-2 : tie.Need-returns-2
 returns-2 c = then-body (c .before .before .before .before .args .circuit .now) _ _ (c .before .before .layout-no .ensures) (c .before .if1 .left) (c .body-no .ensures)
 

@@ -1,4 +1,4 @@
--- The nodes and the cells are as few as question 3 lets them be. Assumes nothing.
+-- The nodes and the cells are as few as question 3 lets them be.
 use mathlib.Core.Path.{_≡_, ap, _∙_}
 use mathlib.Core.List.{List}
 use Prim.Native.Nat.{ℕ, _/_, _≤_}

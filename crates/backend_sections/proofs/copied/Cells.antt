@@ -1,4 +1,4 @@
--- The copied columns, gathered: which polynomials the first cells name, and those among the first polynomials. Assumes nothing.
+-- The copied columns, gathered: which polynomials the first cells name, and those among the first polynomials.
 use mathlib.Core.Path.{_≡_, refl, sym, ap, ap₂, _∙_}
 use mathlib.Core.Bool.{Bool, true, false, cond, _||_, or-false}
 use mathlib.Core.List.{List, [], _∷_, _++_, append-nil}
@@ -11,8 +11,8 @@ use lib.ListN.{length, getD, take, drop, set, replicate, length-set, length-repl
 use lib.Seq.{length-take-le, getD-set-same, getD-set-other, drop-set-lt, take-suc-set, drop-drop}
 use borrow.Author.Tests.{eq-eqb, ne-eqb}
 use Rattle.lists.specs.Lists.{tabulate, range, anyOf, filter}
-use Rattle.lists.proofs.Tests.{those-append}
-use Rattle.lists.proofs.Columns.{column-suc}
+use Rattle.lists.proofs.Tests.{filter-append}
+use Rattle.lists.proofs.Columns.{tabulate-suc}
 use Rattle.lists.proofs.Searches.{any-next}
 use Rattle.backend.specs.Circuit.{Cell, cellAt, cellsOf, cellsName, copiedIn}
 
@@ -100,8 +100,8 @@ module _ (cells : List ℕ) where
 
   those-next : (q : ℕ) → filter is-named (range (q + 1)) ≡ filter is-named (range q) ++ cond (is-named q) (q ∷ []) []
   those-next q =
-      ap (λ (n : ℕ). filter is-named (range n)) (add-one q) ∙ ap (filter is-named) (column-suc (λ i. i) q)
-      ∙ those-append is-named (range q) (q ∷ [])
+      ap (λ (n : ℕ). filter is-named (range n)) (add-one q) ∙ ap (filter is-named) (tabulate-suc (λ i. i) q)
+      ∙ filter-append is-named (range q) (q ∷ [])
       ∙ ap (λ (xs : List ℕ). filter is-named (range q) ++ xs) one
     where
       one : filter is-named (q ∷ []) ≡ cond (is-named q) (q ∷ []) []

@@ -5,7 +5,6 @@
 --     section, word    the accessors of a section and of a word
 -- The machine value that `new` returns is stored and passed on as it is. In a local of a body MIR erases the lifetime of the struct's type, so the value is shown to have the type at `erased`: what the struct owns does not say the lifetime's name.
 -- A `&[u64]` is Copy, so what it owns is had twice: once for `new`, and once for the exit. What is asked of the words goes to the accessor.
--- Assumes nothing.
 use mathlib.Core.Path.{_≡_, sym, refl, subst}
 use Prim.Native.Nat.{ℕ}
 use mathlib.Core.List.{List, [], _∷_}

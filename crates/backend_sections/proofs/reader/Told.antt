@@ -2,7 +2,6 @@
 --     function s       the MIR of the accessor of word s
 --     tells            it meets any contract that promises of the result that it is that word, and no more
 -- The struct is Copy: what it owns is had twice, one copy is kept whole for the exit, and of the other what the words own goes to the callee, beside the lifetime's token, which comes back.
--- Assumes nothing.
 use mathlib.Core.Path.{_≡_, refl}
 use Prim.Native.Nat.{ℕ, _<_, _^_}
 use mathlib.Core.List.{[], _∷_}

@@ -1,4 +1,4 @@
--- The checked constructor's answer for a word, and for all words. Assumes nothing.
+-- The checked constructor's answer for a word, and for all words.
 use mathlib.Core.Path.{_≡_, refl, sym, ap, _∙_}
 use mathlib.Core.Bool.{Bool, true, false, cond, _&&_}
 use mathlib.Core.List.{List, [], _∷_, map}

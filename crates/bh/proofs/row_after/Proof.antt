@@ -1,4 +1,4 @@
--- `row_after` meets its contract. Assumes nothing.
+-- `row_after` meets its contract.
 use mathlib.Core.Path.{ap, _∙_}
 use native.Mathlib.Omega.{arith}
 use Rattle.bh.specs.Rows.{nextRow}

@@ -1,4 +1,4 @@
--- `rows_of` meets its contract: the shift loses no bit. Assumes nothing.
+-- `rows_of` meets its contract: the shift loses no bit.
 use borrow.Author.Needs.{needs}
 use native.Mathlib.Omega.{arith}
 use Rattle.bh.proofs.Words.{shifted}

@@ -1,4 +1,4 @@
--- `fill` meets what the stages require. Assumes nothing.
+-- `fill` meets what the stages require.
 use mathlib.Core.Path.{refl}
 use lib.ListN.{length}
 use borrow.Author.Needs.{needs}

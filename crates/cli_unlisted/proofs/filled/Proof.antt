@@ -1,4 +1,4 @@
--- `filled` meets what `circuit_params` and `fill` require. Assumes nothing.
+-- `filled` meets what `circuit_params` and `fill` require.
 use native.Mathlib.Omega.{arith}
 use Rattle.cli_unlisted.proofs.Asked.{count-is}
 use borrow.Author.Needs.{needs}

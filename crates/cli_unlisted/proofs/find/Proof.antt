@@ -1,4 +1,4 @@
--- `find` meets its contract: what it names is missing, as asked last. Assumes nothing.
+-- `find` meets its contract: what it names is missing, as asked last.
 use borrow.Author.Needs.{needs}
 use Rattle.cli_unlisted.proofs.find.Statement.{statement}
 use Rattle.cli_unlisted.proofs.find.Tie as tie

@@ -1,4 +1,4 @@
--- `first_of` meets what `place_of` and `first_at` require. Assumes nothing.
+-- `first_of` meets what `place_of` and `first_at` require.
 use native.Mathlib.Omega.{arith}
 use Rattle.cli_unlisted.proofs.Asked.{row-asked, point-asked}
 use borrow.Author.Needs.{needs}

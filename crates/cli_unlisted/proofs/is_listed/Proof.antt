@@ -1,4 +1,4 @@
--- `is_listed` meets its contract: no word before the loop's place equals the value. Assumes nothing.
+-- `is_listed` meets its contract: no word before the loop's place equals the value.
 use mathlib.Core.Logic.{_≢_}
 use Prim.Native.Nat.{ℕ, _+_, _-_, _≤_, _<_}
 use native.Mathlib.Omega.{arith}

@@ -1,4 +1,4 @@
--- `is_missing` meets its contract. Assumes nothing.
+-- `is_missing` meets its contract.
 use mathlib.Core.Path.{sym, subst}
 use lib.Dec.{T}
 use borrow.Author.Tests.{not-true}

@@ -1,4 +1,4 @@
--- `pair_at` is safe and ends. The measure is the lookups left. Assumes nothing.
+-- `pair_at` is safe and ends. The measure is the lookups left.
 use Prim.Native.Nat.{_-_}
 use borrow.Author.Needs.{needs}
 use Rattle.cli_unlisted.proofs.pair_at.Statement.{statement}

@@ -1,4 +1,4 @@
--- `see_all` is safe and ends. The measure is the lookups left. Assumes nothing.
+-- `see_all` is safe and ends. The measure is the lookups left.
 use Prim.Native.Nat.{_-_}
 use borrow.Author.Needs.{needs}
 use Rattle.cli_unlisted.proofs.see_all.Statement.{statement}

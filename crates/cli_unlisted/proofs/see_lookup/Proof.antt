@@ -1,4 +1,4 @@
--- `see_lookup` is safe and ends. The measure is the rows left. Assumes nothing.
+-- `see_lookup` is safe and ends. The measure is the rows left.
 use Prim.Native.Nat.{_-_}
 use borrow.Author.Needs.{needs}
 use Rattle.cli_unlisted.proofs.see_lookup.Statement.{statement}

@@ -1,4 +1,4 @@
--- `sought` meets what `filled` requires. Assumes nothing.
+-- `sought` meets what `filled` requires.
 use mathlib.Core.Path.{sym, _∙_}
 use Rattle.backend.proofs.Answers.{says-yes}
 use borrow.Author.Needs.{needs}

@@ -1,4 +1,4 @@
--- `values_of` is safe and ends. The measure is the values left. Assumes nothing.
+-- `values_of` is safe and ends. The measure is the values left.
 use mathlib.Core.Path.{_≡_}
 use Prim.Native.Nat.{_-_}
 use lib.ListN.{length}

@@ -1,4 +1,4 @@
--- `end_number`: the number begun is kept, or there is no room. Assumes nothing.
+-- `end_number`: the number begun is kept, or there is no room.
 use borrow.Author.Tests.{eq-eqb, ne-eqb}
 use Rattle.decimal.proofs.Steps.{full, keeps, none-begun}
 use borrow.Author.Needs.{needs}

@@ -1,4 +1,4 @@
--- `read`: from the start, all bytes, the end. Assumes nothing.
+-- `read`: from the start, all bytes, the end.
 use Rattle.decimal.proofs.Steps.{read-whole}
 use borrow.Author.Needs.{needs}
 use Rattle.decimal.proofs.read.Statement.{statement}

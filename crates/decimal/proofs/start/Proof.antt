@@ -1,4 +1,4 @@
--- `start`: nothing is taken, so that all the text is ahead. Assumes nothing.
+-- `start`: nothing is taken, so that all the text is ahead.
 use Rattle.decimal.proofs.Steps.{from-start}
 use Rattle.decimal.proofs.start.Statement.{statement}
 use Rattle.decimal.proofs.start.Tie as tie

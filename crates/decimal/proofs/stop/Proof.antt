@@ -1,4 +1,4 @@
--- `stop`: what the ended reading has heard. Assumes nothing.
+-- `stop`: what the ended reading has heard.
 use mathlib.Core.Path.{refl}
 use Rattle.decimal.specs.Reading.{heard}
 use Rattle.decimal.proofs.stop.Statement.{statement}

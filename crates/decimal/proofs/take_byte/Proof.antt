@@ -1,4 +1,4 @@
--- `take_byte`: the byte is a newline, of a comment, a hash, white space, a digit, or none of these. Assumes nothing.
+-- `take_byte`: the byte is a newline, of a comment, a hash, white space, a digit, or none of these.
 use mathlib.Core.Path.{sym, _∙_}
 use borrow.Author.Tests.{eq-eqb, ne-eqb}
 use Rattle.decimal.proofs.Steps.{newline-takes, hash-takes, blank-takes, comment-takes, other-takes}

@@ -1,4 +1,4 @@
--- `take_bytes`: the bytes from place i on are still to be taken. Assumes nothing.
+-- `take_bytes`: the bytes from place i on are still to be taken.
 use mathlib.Core.Path.{refl}
 use Prim.Native.Nat.{_-_}
 use native.Mathlib.Omega.{arith}

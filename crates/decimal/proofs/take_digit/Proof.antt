@@ -1,4 +1,4 @@
--- `take_digit`: the number grows, or passes 64 bits. Assumes nothing.
+-- `take_digit`: the number grows, or passes 64 bits.
 use mathlib.Core.Path.{_≡_}
 use Prim.Native.Nat.{_+_, _-_, _*_, _^_, _≤_}
 use native.Mathlib.Omega.{arith}

@@ -1,4 +1,4 @@
--- `take_end`: the number begun is the last word. Assumes nothing.
+-- `take_end`: the number begun is the last word.
 use borrow.Author.Tests.{not-true, not-false}
 use Rattle.decimal.proofs.Steps.{over-already, full-at-end, kept-at-end}
 use borrow.Author.Needs.{needs}

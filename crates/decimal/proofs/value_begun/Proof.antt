@@ -1,4 +1,4 @@
--- `value_begun`, by where the reading stands. Assumes nothing.
+-- `value_begun`, by where the reading stands.
 use borrow.Author.Tests.{eq-eqb, ne-eqb}
 use Rattle.decimal.proofs.value_begun.Statement.{statement}
 use Rattle.decimal.proofs.value_begun.Tie as tie

@@ -1,5 +1,5 @@
 -- Demand 3's premises hold of a log of the bench, so its conclusions do: seven readings (angle, current), looked up in an approved table
--- that lists a pair twice; settings copied from the sheet to the knee; and a seal over the angles. Assumes nothing.
+-- that lists a pair twice; settings copied from the sheet to the knee; and a seal over the angles.
 use mathlib.Core.Path.{_≡_, refl, sym, ap, _∙_}
 use mathlib.Core.Logic.{_≢_}
 use mathlib.Core.Bool.{Bool, true, not, _&&_}

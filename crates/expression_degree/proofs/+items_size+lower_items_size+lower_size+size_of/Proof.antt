@@ -1,4 +1,4 @@
--- The walk for the size: each way through the code is the size, capped. Assumes nothing.
+-- The walk for the size: each way through the code is the size, capped.
 use borrow.Author.Needs.{needs}
 use Rattle.expression.proofs.Sizes.{size-lower, size-not-lower, listed-lower, listed-not-lower, listed-last, listed-more, size-negated, size-sum, size-product, size-scaled, size-powers, size-other}
 use Prim.Native.Nat.{ℕ, _+_, _<_}

@@ -1,4 +1,4 @@
--- `value` meets its contract: the walk with the context of its layout and point. Assumes nothing.
+-- `value` meets its contract: the walk with the context of its layout and point.
 use borrow.Author.Needs.{needs}
 use mathlib.Core.Path.{ap, _∙_, subst⁻¹}
 use mathlib.Core.List.{List}

@@ -1,4 +1,4 @@
--- The walk for a query: each way through the code is the fold by `usedOps`. Assumes nothing.
+-- The walk for a query: each way through the code is the fold by `usedOps`.
 use borrow.Author.Needs.{needs}
 use mathlib.Core.Path.{_∙_, ap, refl}
 use Rattle.expression.proofs.Ways as ways

@@ -1,4 +1,4 @@
--- The element zero, and the word 0. Assumes nothing.
+-- The element zero, and the word 0.
 use mathlib.Core.Path.{_≡_, refl, sym, ap, _∙_}
 use mathlib.Core.Logic.{_≢_}
 use mathlib.Core.Bool.{true, false, decide, true≢false}

@@ -1,4 +1,4 @@
--- `build` meets its contract: the first no gives its number, and demand 3 holds of what is returned and left. Assumes nothing.
+-- `build` meets its contract: the first no gives its number, and demand 3 holds of what is returned and left.
 use mathlib.Core.Path.{_≡_, refl, sym, _∙_}
 use mathlib.Core.List.{List}
 use Prim.Native.Nat.{ℕ}

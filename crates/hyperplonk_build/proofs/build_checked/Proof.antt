@@ -1,4 +1,4 @@
--- `build_checked` meets its contract. Assumes nothing.
+-- `build_checked` meets its contract.
 use mathlib.Core.Path.{ap, _∙_}
 use native.Mathlib.Omega.{arith}
 use borrow.Author.Needs.{needs}

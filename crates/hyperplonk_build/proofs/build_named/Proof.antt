@@ -1,4 +1,4 @@
--- `build_named` meets its contract. Assumes nothing.
+-- `build_named` meets its contract.
 use mathlib.Core.Path.{_≡_, refl, sym, _∙_}
 use Prim.Native.Nat.{ℕ}
 use native.Mathlib.Omega.{arith}

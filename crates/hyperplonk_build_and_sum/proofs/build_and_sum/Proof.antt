@@ -1,4 +1,4 @@
--- `build_and_sum` meets its contracts: what it returns and leaves is that of its definition, and demand 3 holds of it. Assumes nothing.
+-- `build_and_sum` meets its contracts: what it returns and leaves is that of its definition, and demand 3 holds of it.
 use mathlib.Core.Logic.{⊎-elim}
 use Prim.Native.Nat.{_-_}
 use native.Mathlib.Omega.{arith}

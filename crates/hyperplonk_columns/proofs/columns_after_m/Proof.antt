@@ -1,4 +1,4 @@
--- `columns_after_m` meets its contract. Assumes nothing.
+-- `columns_after_m` meets its contract.
 use borrow.Author.Needs.{needs}
 use mathlib.Core.Path.{_∙_, refl}
 use native.Mathlib.Omega.{arith}

@@ -1,4 +1,4 @@
--- `columns_before_m` meets its contract. Assumes nothing.
+-- `columns_before_m` meets its contract.
 use mathlib.Core.Path.{_∙_}
 use lib.ListN.{length}
 use Rattle.hyperplonk_columns.proofs.Accepted.{instance-asked, permutation-asked, compressed-asked, before-m-end}

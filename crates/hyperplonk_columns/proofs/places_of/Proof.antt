@@ -1,4 +1,4 @@
--- `places_of` meets its contract. Assumes nothing.
+-- `places_of` meets its contract.
 use native.Mathlib.Omega.{arith}
 use Prim.Native.Nat.{_+_, _*_}
 use lib.ListN.{getD}

@@ -1,4 +1,4 @@
--- What the stages ask for and write, from accepted circuit words. Assumes nothing.
+-- What the stages ask for and write, from accepted circuit words.
 use mathlib.Core.Path.{_≡_, sym, ap, ap₂, _∙_, subst}
 use mathlib.Core.List.{List, map}
 use Prim.Native.Nat.{ℕ, _+_, _-_, _*_, _/_, _^_, _≤_, _<_}
@@ -8,7 +8,7 @@ use lib.ListN.{length, getD, take}
 use Rattle.field.specs.Prime.{P}
 use Rattle.field.specs.Field.{𝔾, el, val, val-el}
 use Rattle.lists.specs.Lists.{range, tabulate, concat, writeAt, split, total}
-use Rattle.lists.proofs.Columns.{column-cong, map-column}
+use Rattle.lists.proofs.Columns.{tabulate-cong, map-tabulate}
 use Rattle.expression.specs.declared.poly.Layout.{Layout}
 use Rattle.backend.specs.Circuit.{
   pairsOf,
@@ -158,9 +158,9 @@ module _ (ws : List ℕ) (a : Accepted ws) where
       let words : (ℕ → 𝔾 .F) → List ℕ = λ p. tabulate (λ b. val (p b)) R in
       label-columns c
       ∙ ap concat
-      (column-cong (λ i. tabulate (label c i) R) (λ i. tabulate (λ b. val (el (label c i b))) R) n
-      (λ i l. column-cong (label c i) (λ b. val (el (label c i b))) R (λ b m. sym (val-el (label c i b) (label-small i b l m))))
-      ∙ sym (ap (map words) (map-column (λ i b. el (label c i b)) (λ i. i) n) ∙ map-column words (λ i b. el (label c i b)) n))
+      (tabulate-cong (λ i. tabulate (label c i) R) (λ i. tabulate (λ b. val (el (label c i b))) R) n
+      (λ i l. tabulate-cong (label c i) (λ b. val (el (label c i b))) R (λ b m. sym (val-el (label c i b) (label-small i b l m))))
+      ∙ sym (ap (map words) (map-tabulate (λ i b. el (label c i b)) (λ i. i) n) ∙ map-tabulate words (λ i b. el (label c i b)) n))
 
   pub permutation-asks : (l : Layout) (names lengths cells columns : List ℕ) → l ≡ layoutFromWords ws → names ≡ copied (circuitOf ws)
       → lengths ≡ bodyOf ws Section.lengths → cells ≡ bodyOf ws Section.cells → compressedOffset (circuitOf ws) ≤ length columns

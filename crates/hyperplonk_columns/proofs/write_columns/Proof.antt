@@ -1,4 +1,4 @@
--- `write_columns` meets its contract. Assumes nothing.
+-- `write_columns` meets its contract.
 use borrow.Author.Tests.{not-true, not-false}
 use mathlib.Core.Path.{_∙_}
 use native.Mathlib.Omega.{arith}

@@ -1,4 +1,4 @@
--- `compose_nodes` meets its contract. Assumes nothing.
+-- `compose_nodes` meets its contract.
 use borrow.Author.Needs.{needs}
 use Rattle.hyperplonk_prepare.proofs.Accepted.{laid-of}
 use Rattle.hyperplonk_nodes.proofs.ComposeInput.{asked, decoded-from}

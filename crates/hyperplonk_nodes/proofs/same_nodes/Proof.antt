@@ -21,30 +21,24 @@ Inv-loop circuit copied v nodes at₀ at = (at ≤ length nodes) × (take at nod
 abbrev μ-loop : tie.MeasureT-loop
 μ-loop circuit copied v nodes at₀ at = length nodes - at
 
--- src/lib.rt:104:5
 loop-holds : tie.Need-loop-holds Inv-loop μ-loop
 loop-holds c = (omega arith, refl)
 
--- src/lib.rt:105:13
 window-end-requires : tie.Need-window-end-requires Inv-loop μ-loop
 window-end-requires c κs = omega arith
 
--- src/lib.rt:106:13
 same-window-requires : tie.Need-same-window-requires Inv-loop μ-loop
 same-window-requires c κs =
     (c .before .before .before .before .before .before .pre .0, (c .before .before .before .before .before .before .pre .1, (omega arith, (omega arith, omega arith))))
 
--- src/lib.rt:107:13
 returns : tie.Need-returns Inv-loop μ-loop
 returns c =
     sym (run-differs (c .before .before .before .before .before .before .before .before .args .nodes .now) (composedWords (circuitOf (c .before .before .before .before .before .before .before .before .args .circuit .now))) (c .before .before .before .before .loop .at) (c .before .before .window-end .result - c .before .before .before .before .loop .at)
     (sym (c .before .same-window .ensures) ∙ not-true (c .before .same-window .result) (c .if1 .taken)))
 
--- src/lib.rt:104:5
 loop-less : tie.Need-loop-less Inv-loop μ-loop
 loop-less c = omega arith
 
--- src/lib.rt:104:5
 loop-again : tie.Need-loop-again Inv-loop μ-loop
 loop-again c = (
   omega arith,
@@ -52,7 +46,6 @@ loop-again c = (
       (sym (c .before .same-window .ensures) ∙ not-false (c .before .same-window .result) (c .if1 .left)),
 )
 
--- src/lib.rt:99:1
 returns-2 : tie.Need-returns-2 Inv-loop μ-loop
 returns-2 c =
     sym (same-all (c .before .before .before .before .before .args .nodes .now) (composedWords (circuitOf (c .before .before .before .before .before .args .circuit .now))) (c .before .loop .at) (omega arith) (omega (arith, composed-length (circuitOf (c .before .before .before .before .before .args .circuit .now)))) (c .before .loop .inv .1))

@@ -9,51 +9,39 @@ use Rattle.hyperplonk_nodes.proofs.same_window.Lts as lts
 use Rattle.hyperplonk_nodes.proofs.compose_nodes.Reads as compose-nodes-reads
 use Rattle.hyperplonk_nodes.proofs.same_words.Reads as same-words-reads
 
--- src/lib.rt:93:17
 sub-count : tie.Need-sub-count
 sub-count c = search needs
 
--- src/lib.rt:94:43
 slice-aggregate-compose-nodes : tie.Need-slice-aggregate-compose-nodes
 slice-aggregate-compose-nodes c = search needs
 
--- src/lib.rt:94:5
 compose-nodes-requires : tie.Need-compose-nodes-requires
 compose-nodes-requires c κs = search needs
 
--- src/lib.rt:95:16
 mul-same-words : tie.Need-mul-same-words
 mul-same-words c = search needs
 
--- src/lib.rt:95:16
 sub-same-words : tie.Need-sub-same-words
 sub-same-words c = search needs
 
--- src/lib.rt:95:16
 part-same-words-start : tie.Need-part-same-words-start
 part-same-words-start c = search needs
 
--- src/lib.rt:95:16
 part-same-words-end : tie.Need-part-same-words-end
 part-same-words-end c = search needs
 
--- src/lib.rt:95:33
 sub-same-words-2 : tie.Need-sub-same-words-2
 sub-same-words-2 c = search needs
 
--- src/lib.rt:95:33
 part-same-words-start-2 : tie.Need-part-same-words-start-2
 part-same-words-start-2 c = search needs
 
--- src/lib.rt:95:33
 part-same-words-end-2 : tie.Need-part-same-words-end-2
 part-same-words-end-2 c = search needs
 
--- src/lib.rt:95:5
 same-words-requires : tie.Need-same-words-requires
 same-words-requires c κs = search needs
 
--- src/lib.rt:81:1
 returns : tie.Need-returns
 returns c =
     compared (c .same-words .result) _ (c .before .before .before .before .before .before .before .before .before .before .args .end - c .before .before .before .before .before .before .before .before .before .before .args .at) (omega arith) (omega arith) (c .before .before .before .before .before .compose-nodes .ensures) (c .same-words .ensures)

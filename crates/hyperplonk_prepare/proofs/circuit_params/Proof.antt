@@ -11,43 +11,33 @@ use Rattle.backend_sections.proofs.bodies.num_user.Reads as num-user-reads
 use Rattle.backend_sections.proofs.bodies.rows.Reads as rows-reads
 use Rattle.hyperplonk_prepare.proofs.degree_of.Reads as degree-of-reads
 
--- src/lib.rt:81:9
 num-poly-requires : tie.Need-num-poly-requires
 num-poly-requires c κs = laid-counted (c .before .args .circuit .now) (c .before .pre .0)
 
--- src/lib.rt:82:9
 num-user-requires : tie.Need-num-user-requires
 num-user-requires c κs = laid-counted (c .before .before .args .circuit .now) (c .before .before .pre .0)
 
--- src/lib.rt:83:9
 rows-requires : tie.Need-rows-requires
 rows-requires c κs = laid-of (c .before .before .before .args .circuit .now) (c .before .before .before .pre .0)
 
--- src/lib.rt:84:19
 shared-slice-read-lookups : tie.Need-shared-slice-read-lookups
 shared-slice-read-lookups c = omega (arith, laid-of (c .before .before .before .before .before .args .circuit .now) (c .before .before .before .before .before .pre .0) .long)
 
--- src/lib.rt:85:16
 degree-of-requires : tie.Need-degree-of-requires
 degree-of-requires c κs = search needs
 
--- src/lib.rt:85:16
 sub-part : tie.Need-sub-part
 sub-part c = omega (arith, two-degree (c .before .before .before .before .before .before .args .circuit .now) (c .before .before .before .before .before .before .pre .0), c .degree-of .ensures)
 
--- src/lib.rt:86:18
 add-parts : tie.Need-add-parts
 add-parts c = omega (arith, degree-most (c .before .before .before .before .before .before .args .circuit .now) (c .before .before .before .before .before .before .pre .0), few-copied (c .before .before .before .before .before .before .args .circuit .now) (c .before .before .before .before .before .before .pre .0), c .before .before .before .before .before .before .pre .1, c .degree-of .ensures)
 
--- src/lib.rt:86:18
 sub-parts : tie.Need-sub-parts
 sub-parts c = omega (arith, two-degree (c .before .before .before .before .before .before .args .circuit .now) (c .before .before .before .before .before .before .pre .0), c .degree-of .ensures)
 
--- src/lib.rt:86:17
 div-parts : tie.Need-div-parts
 div-parts c = omega (arith, two-degree (c .before .before .before .before .before .before .args .circuit .now) (c .before .before .before .before .before .before .pre .0), c .degree-of .ensures)
 
--- src/lib.rt:77:1
 returns : tie.Need-returns
 returns c = numbers-from (c .before .before .before .before .before .before .args .circuit .now) (c .before .before .before .before .before .before .pre .0) _ _ _ _ _ _ (c .before .before .before .before .num-poly .ensures) (c .before .before .before .before .before .before .pre .1) (lookups-are (c .before .before .before .before .before .before .args .circuit .now) (c .before .before .before .before .before .before .pre .0)) (c .before .before .before .num-user .ensures) (c .before .before .rows .ensures) (c .degree-of .ensures)
 

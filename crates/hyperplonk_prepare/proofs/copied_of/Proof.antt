@@ -1,4 +1,4 @@
--- `copied_of` meets its contract. Assumes nothing.
+-- `copied_of` meets its contract.
 use mathlib.Core.Path.{ap, _∙_}
 use mathlib.Core.List.{List, _++_}
 use Prim.Native.Nat.{ℕ, _-_}

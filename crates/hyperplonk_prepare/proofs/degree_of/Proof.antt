@@ -1,4 +1,4 @@
--- `degree_of` meets its contract. Assumes nothing.
+-- `degree_of` meets its contract.
 use borrow.Author.Needs.{needs}
 use Rattle.hyperplonk_prepare.proofs.Accepted.{laid-of, counted-of, answers}
 use Rattle.hyperplonk_prepare.proofs.Computed.{degrees-fit, degree-from}

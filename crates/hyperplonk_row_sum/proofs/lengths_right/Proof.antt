@@ -1,4 +1,4 @@
--- `lengths_right` meets its contract: a count that stops at 2^60 tells fewer than 2^62 words. Assumes nothing.
+-- `lengths_right` meets its contract: a count that stops at 2^60 tells fewer than 2^62 words.
 use native.Mathlib.Omega.{arith}
 use Rattle.hyperplonk_row_sum.proofs.Sixteen.{numbers-few, words-fit, lengths-are}
 use borrow.Author.Needs.{needs}

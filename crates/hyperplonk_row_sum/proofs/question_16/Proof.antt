@@ -1,4 +1,4 @@
--- `question_16` meets its contract: node words of another length are not those that building writes. Assumes nothing.
+-- `question_16` meets its contract: node words of another length are not those that building writes.
 use Rattle.backend.specs.Circuit.{circuitOf}
 use Rattle.hyperplonk_row_sum.proofs.Sixteen.{lengths-no, nodes-no, rest-is, nodes-many}
 use borrow.Author.Needs.{needs}

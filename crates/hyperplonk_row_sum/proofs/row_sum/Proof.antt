@@ -1,4 +1,4 @@
--- `row_sum` meets its contracts: the answer is that of its definition, and so is what demand 3 says of it. Assumes nothing.
+-- `row_sum` meets its contracts: the answer is that of its definition, and so is what demand 3 says of it.
 use borrow.Author.Needs.{needs}
 use Rattle.hyperplonk_row_sum.proofs.Answer.{refused-early}
 use Rattle.hyperplonk_row_sum.proofs.RowSumClaim.{both}

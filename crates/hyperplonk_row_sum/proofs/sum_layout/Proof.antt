@@ -1,4 +1,4 @@
--- `sum_layout` meets its contract: the numbers of the circuit, and three words of the contents. Assumes nothing.
+-- `sum_layout` meets its contract: the numbers of the circuit, and three words of the contents.
 use native.Mathlib.Omega.{arith}
 use Rattle.hyperplonk_prepare.proofs.Accepted.{laid-of}
 use Rattle.hyperplonk_row_sum.proofs.Sixteen.{polys-are, numbers-few, layout-made}

@@ -1,4 +1,4 @@
--- `sum_named` meets its contract. Assumes nothing.
+-- `sum_named` meets its contract.
 use borrow.Author.Needs.{needs}
 use native.Mathlib.Omega.{arith}
 use Rattle.hyperplonk_row_sum.proofs.Answer.{count-is, prepared}

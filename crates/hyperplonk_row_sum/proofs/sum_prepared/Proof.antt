@@ -1,4 +1,4 @@
--- `sum_prepared` meets its contract: a yes to 16 tells what the sum requires. Assumes nothing.
+-- `sum_prepared` meets its contract: a yes to 16 tells what the sum requires.
 use mathlib.Core.Path.{ap, _∙_}
 use Rattle.field.specs.Field.{val}
 use Rattle.hyperplonk_row_sum.proofs.Answer.{refused-late, summable, answered}

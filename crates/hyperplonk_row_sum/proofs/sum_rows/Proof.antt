@@ -1,4 +1,4 @@
--- `sum_rows` meets its contract: after t turns the sum is that over the first t rows of the order. Assumes nothing.
+-- `sum_rows` meets its contract: after t turns the sum is that over the first t rows of the order.
 use borrow.Author.Needs.{needs}
 use mathlib.Core.Path.{_≡_, refl, sym, _∙_}
 use Prim.Native.Nat.{_-_, _^_, _≤_, _<_}
@@ -6,7 +6,7 @@ use native.Mathlib.Omega.{arith}
 use Rattle.field.specs.Field.{𝔾}
 use Rattle.field.specs.Element.{elem}
 use Rattle.bh.specs.Rows.{rowAt}
-use Rattle.bh.proofs.Order.{row-nought}
+use Rattle.bh.proofs.Order.{row-zero}
 use Rattle.expression.specs.Nodes.{exprOf}
 use Rattle.expression.specs.Value.{valueAt}
 use Rattle.backend.specs.Circuit.{circuitOf}
@@ -31,7 +31,7 @@ sub-root : tie.Need-sub-root Inv-loop μ-loop
 sub-root c = root-there _ _ _ _ _ (c .before .before .before .before .before .before .before .pre)
 
 loop-holds : tie.Need-loop-holds Inv-loop μ-loop
-loop-holds c = (sym (row-nought (c .before .before .before .before .before .before .before .args .k)), omega arith, added-none _ _)
+loop-holds c = (sym (row-zero (c .before .before .before .before .before .before .before .args .k)), omega arith, added-none _ _)
 
 eq-at-requires : tie.Need-eq-at-requires Inv-loop μ-loop
 eq-at-requires c κs = values-there _ _ _ _ _ (c .before .before .before .before .before .before .before .before .before .pre)

@@ -1,4 +1,4 @@
--- `values_small` meets its contract. Assumes nothing.
+-- `values_small` meets its contract.
 use Rattle.hyperplonk_row_sum.proofs.Sixteen.{small-all}
 use borrow.Author.Needs.{needs}
 use Rattle.hyperplonk_row_sum.proofs.values_small.Statement.{statement}

@@ -1,4 +1,4 @@
--- `expression_degree` meets its contract. Assumes nothing.
+-- `expression_degree` meets its contract.
 use borrow.Author.Needs.{needs}
 use Rattle.oracle_entry.proofs.Answers.{degree-there, degree-none}
 use Rattle.oracle_entry.proofs.expression_degree.Statement.{statement}

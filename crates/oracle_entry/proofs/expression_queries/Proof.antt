@@ -1,4 +1,4 @@
--- `expression_queries` meets its contract. Assumes nothing.
+-- `expression_queries` meets its contract.
 use borrow.Author.Needs.{needs}
 use mathlib.Core.Path.{ap, _∙_}
 use mathlib.Core.List.{List}

@@ -1,4 +1,4 @@
--- `expression_values` meets its contract. Assumes nothing.
+-- `expression_values` meets its contract.
 use borrow.Author.Needs.{needs}
 use mathlib.Core.Path.{_≡_, refl, subst⁻¹}
 use mathlib.Core.Bool.{true, _&&_}

@@ -1,4 +1,4 @@
--- `layout_from` meets its contract. Assumes nothing.
+-- `layout_from` meets its contract.
 use borrow.Author.Needs.{needs}
 use mathlib.Core.Path.{_∙_}
 use Rattle.oracle_entry.proofs.Answers.{same-layout}

@@ -1,4 +1,4 @@
--- `small_layout` meets its contract. Assumes nothing.
+-- `small_layout` meets its contract.
 use borrow.Author.Needs.{needs}
 use mathlib.Core.Path.{ap}
 use mathlib.Core.Bool.{Bool, _&&_}

@@ -1,15 +1,15 @@
--- `values` meets its contract: a row a turn. Assumes nothing.
+-- `values` meets its contract: a row a turn.
 use borrow.Author.Needs.{needs}
 use mathlib.Core.Path.{_≡_, sym, ap, _∙_}
 use Prim.Native.Nat.{ℕ, _-_, _^_, _<_}
 use native.Mathlib.Omega.{arith}
 use Rattle.bh.specs.Rows.{rowAt, placeOf}
-use Rattle.bh.proofs.Order.{row-nought}
+use Rattle.bh.proofs.Order.{row-zero}
 use Rattle.bh.proofs.Rows.{row-in, placed-at}
 use Rattle.lists.proofs.Turns.{Turned, turn-start, turn-more, turn-end}
 use Rattle.prover.proofs.Rows.{row-turns}
 use Rattle.oracle_entry.specs.Entry.{valueWord}
-use Rattle.oracle_entry.proofs.Answers.{from-nought, nought-on, value-word}
+use Rattle.oracle_entry.proofs.Answers.{from-zero, zero-on, value-word}
 use Rattle.oracle_entry.proofs.values.Statement.{statement}
 use Rattle.oracle_entry.proofs.values.Tie as tie
 
@@ -31,7 +31,7 @@ rows-of-requires c κs = omega (arith, c .before .before .before .before .before
 loop-holds : tie.Need-loop-holds Inv-loop μ-loop
 loop-holds c =
     let s = c .before .before .before .before .before .before .before .before in
-    (sym (row-nought (s .args .of .k)), turn-start _ _ _ _ (row-turns (s .args .of .k) (s .pre .2) (s .pre .3)) (s .args .out .now) 0 (from-nought _ _ (s .pre .4)))
+    (sym (row-zero (s .args .of .k)), turn-start _ _ _ _ (row-turns (s .args .of .k) (s .pre .2) (s .pre .3)) (s .args .out .now) 0 (from-zero _ _ (s .pre .4)))
 
 word-at-requires : tie.Need-word-at-requires Inv-loop μ-loop
 word-at-requires c κs = search needs
@@ -86,7 +86,7 @@ loop-again c =
     let a = s .args in
     let inside : l .loop .place < 2 ^ (a .of .k) = omega (arith, c .before .before .before .before .loop-test .taken, l .before .rows-of .ensures) in (
       c .row-after .ensures .0,
-      turn-more _ _ _ _ (row-turns (a .of .k) (s .pre .2) (s .pre .3)) (a .out .now) 0 (from-nought _ _ (s .pre .4)) _ _ (l .loop .inv .1) inside _ (nought-on _ _ (l .loop .inv .0)) _
+      turn-more _ _ _ _ (row-turns (a .of .k) (s .pre .2) (s .pre .3)) (a .out .now) 0 (from-zero _ _ (s .pre .4)) _ _ (l .loop .inv .1) inside _ (zero-on _ _ (l .loop .inv .0)) _
           (value-word (a .nodes .now) (a .circuit .now) (a .witness .now) (a .columns .now) (a .challenges .now) (a .of .layout) (a .of .k) (a .eq .now) (a .of .n) (l .loop .row) (l .loop .place) _ _ _
           (placed-at (a .of .k) (l .loop .row) (l .loop .place) (s .pre .2) (s .pre .3) inside (l .loop .inv .0))
           (c .before .before .before .word-at .ensures)
@@ -101,7 +101,7 @@ same-length c = c .before .loop .inv .1 .size
 returns : tie.Need-returns Inv-loop μ-loop
 returns c =
     let s = start (c .before) in
-    turn-end _ _ _ _ (row-turns (s .args .of .k) (s .pre .2) (s .pre .3)) (s .args .out .now) 0 (from-nought _ _ (s .pre .4)) _ _ (c .before .loop .inv .1) (omega (arith, c .loop-test .left, c .before .before .rows-of .ensures))
+    turn-end _ _ _ _ (row-turns (s .args .of .k) (s .pre .2) (s .pre .3)) (s .args .out .now) 0 (from-zero _ _ (s .pre .4)) _ _ (c .before .loop .inv .1) (omega (arith, c .loop-test .left, c .before .before .rows-of .ensures))
 
 pub values-spec : {M : Type 1} → statement M
 values-spec =

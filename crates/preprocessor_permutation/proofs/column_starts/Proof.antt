@@ -1,4 +1,4 @@
--- The columns passed have their first words. Assumes nothing.
+-- The columns passed have their first words.
 use mathlib.Core.Path.{refl}
 use Prim.Native.Nat.{_-_, _^_, _<_}
 use native.Mathlib.Omega.{arith}

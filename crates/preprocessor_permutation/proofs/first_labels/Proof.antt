@@ -1,4 +1,4 @@
--- The first j words are 0, 1, …, j - 1. Assumes nothing.
+-- The first j words are 0, 1, …, j - 1.
 use Prim.Native.Nat.{_-_}
 use borrow.Author.Needs.{needs}
 use Rattle.preprocessor.proofs.Walks.{First, first-start, first-next, first-end}

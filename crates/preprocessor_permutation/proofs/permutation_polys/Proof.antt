@@ -1,4 +1,4 @@
--- After i cycles the columns hold the labels of the first i cycles. Assumes nothing.
+-- After i cycles the columns hold the labels of the first i cycles.
 use mathlib.Core.List.{List}
 use Prim.Native.Nat.{ℕ, _+_, _*_, _-_, _≤_}
 use native.Mathlib.Omega.{arith}

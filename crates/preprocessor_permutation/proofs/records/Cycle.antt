@@ -1,4 +1,4 @@
--- The laws of a walk along a cycle (`preprocessor`'s `Along`), of a list of cell records. Assumes nothing.
+-- The laws of a walk along a cycle (`preprocessor`'s `Along`), of a list of cell records.
 use mathlib.Core.Path.{_≡_}
 use mathlib.Core.List.{List}
 use Prim.Native.Nat.{ℕ, _+_, _-_, _≤_, _<_}

@@ -1,4 +1,4 @@
--- The places left to walk, with the label at hand, give what all of them gave at first. Assumes nothing.
+-- The places left to walk, with the label at hand, give what all of them gave at first.
 use Prim.Native.Nat.{_-_, _/_}
 use native.Mathlib.Omega.{arith}
 use borrow.Author.Needs.{needs}

@@ -1,4 +1,4 @@
--- `compressed_at` meets its contract: the sum with the context of its layout and point. Assumes nothing.
+-- `compressed_at` meets its contract: the sum with the context of its layout and point.
 use borrow.Author.Needs.{needs}
 use mathlib.Core.Path.{refl, ap, _∙_, subst⁻¹}
 use mathlib.Core.List.{List}

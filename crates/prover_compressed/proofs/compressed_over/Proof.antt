@@ -1,4 +1,4 @@
--- `compressed_over` meets its contract: a running power and a running sum. Assumes nothing.
+-- `compressed_over` meets its contract: a running power and a running sum.
 use borrow.Author.Needs.{needs}
 use Prim.Native.Nat.{_-_, _≤_}
 use native.Mathlib.Omega.{arith}

@@ -1,4 +1,4 @@
--- `compressed_pair` meets its contract: the table's column behind the input's. Assumes nothing.
+-- `compressed_pair` meets its contract: the table's column behind the input's.
 use mathlib.Core.Path.{ap, _∙_}
 use Prim.Native.Nat.{ℕ, _+_, _^_}
 use native.Mathlib.Omega.{arith}

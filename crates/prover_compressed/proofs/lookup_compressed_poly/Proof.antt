@@ -1,4 +1,4 @@
--- `lookup_compressed_poly` meets its contract: a row a turn, and the instance columns stay as they are. Assumes nothing.
+-- `lookup_compressed_poly` meets its contract: a row a turn, and the instance columns stay as they are.
 use borrow.Author.Needs.{needs}
 use mathlib.Core.Path.{_≡_, sym, ap, _∙_}
 use Prim.Native.Nat.{ℕ, _+_, _-_, _^_}
@@ -6,7 +6,7 @@ use native.Mathlib.Omega.{arith}
 use Rattle.field.specs.Field.{𝔾, val}
 use Rattle.field.specs.Element.{elem}
 use Rattle.bh.specs.Rows.{rowAt, placeOf}
-use Rattle.bh.proofs.Order.{row-nought}
+use Rattle.bh.proofs.Order.{row-zero}
 use Rattle.bh.proofs.Rows.{row-in, placed-at}
 use Rattle.lists.proofs.Turns.{Turned, turn-start, turn-more, turn-before, turn-end}
 use Rattle.prover.specs.Lent.{environmentFromWords, compressedIn, rootsOf}
@@ -36,7 +36,7 @@ loop-holds : tie.Need-loop-holds Inv-loop μ-loop
 loop-holds c =
     let a = c .before .before .before .before .before .before .before .before .args in
     let pre = c .before .before .before .before .before .before .before .before .pre in (
-      sym (row-nought (a .poly .k)),
+      sym (row-zero (a .poly .k)),
       turn-start _ _ _ _ (row-turns (a .poly .k) (pre .0 .positive) (pre .0 .small)) _ _ (pre .0 .room),
     )
 

@@ -1,4 +1,4 @@
--- `lookup_compressed_polys` meets its contract: after i turns the columns of the first i lookups stand there. Assumes nothing.
+-- `lookup_compressed_polys` meets its contract: after i turns the columns of the first i lookups stand there.
 use borrow.Author.Needs.{needs}
 use mathlib.Core.Path.{_≡_, refl, sym, ap, ap₂, _∙_}
 use mathlib.Core.List.{List}

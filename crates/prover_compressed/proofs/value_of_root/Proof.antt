@@ -1,4 +1,4 @@
--- `value_of_root` meets its contract: past the last node the words read as 0. Assumes nothing.
+-- `value_of_root` meets its contract: past the last node the words read as 0.
 use borrow.Author.Needs.{needs}
 use mathlib.Core.Path.{_∙_}
 use native.Mathlib.Omega.{arith}

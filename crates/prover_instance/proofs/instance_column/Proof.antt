@@ -1,4 +1,4 @@
--- `instance_column` meets its contract: the values are put at their places, through the row order once. Assumes nothing.
+-- `instance_column` meets its contract: the values are put at their places, through the row order once.
 use borrow.Author.Needs.{needs}
 use mathlib.Core.Path.{_≡_, refl, sym, ap, ap₂, _∙_}
 use mathlib.Core.List.{List}

@@ -1,4 +1,4 @@
--- `instance_polys` meets its contract: after i turns the columns of the first i lengths stand at the front. Assumes nothing.
+-- `instance_polys` meets its contract: after i turns the columns of the first i lengths stand at the front.
 use borrow.Author.Needs.{needs}
 use mathlib.Core.Path.{_≡_, refl, sym, ap, ap₂, _∙_}
 use mathlib.Core.List.{List}
@@ -31,25 +31,20 @@ none : (ns : List ℕ) → 0 ≡ total (take 0 ns)
 unfolding total
 none ns = refl
 
--- src/lib.rt:58:9
 rows-of-requires : tie.Need-rows-of-requires Inv-loop μ-loop
 rows-of-requires c κs = search needs
 
--- src/lib.rt:62:5
 loop-holds : tie.Need-loop-holds Inv-loop μ-loop
 loop-holds c =
     let s = c .before .before .before .before .args in
     (omega arith, none (s .lengths .now), sym (zero-mul (2 ^ s .k)), refl, instance-start (s .k) (s .instance .now) (s .columns .now))
 
--- src/lib.rt:63:21
 mul-count : tie.Need-mul-count Inv-loop μ-loop
 mul-count c = search needs
 
--- src/lib.rt:63:21
 shared-slice-read-count : tie.Need-shared-slice-read-count Inv-loop μ-loop
 shared-slice-read-count c = search needs
 
--- src/lib.rt:64:9
 instance-column-requires : tie.Need-instance-column-requires Inv-loop μ-loop
 instance-column-requires c κs =
     let s = c .before .before .before .before .before .before .before .before in
@@ -61,23 +56,18 @@ instance-column-requires c κs =
       rw (l .inv .3) (words-there (c .before .before .before .loop .i) _ _ (c .before .before .before .loop .at) _ (c .before .before .loop-test .taken) (c .before .before .before .loop .inv .2) (c .before .before .before .before .before .before .before .before .pre .4)),
     )
 
--- src/lib.rt:65:9
 add-from : tie.Need-add-from Inv-loop μ-loop
 add-from c = omega (arith, part-there (c .before .before .before .before .before .before .before .before .before .before .before .args .lengths .now) (c .before .before .before .before .before .before .loop .i) (c .before .before .before .before .before .loop-test .taken) (c .before .before .before .before .before .before .loop .from) (length (c .before .before .before .before .before .before .before .before .before .before .before .args .instance .now)) (c .before .before .before .before .before .before .loop .inv .1) (omega (arith, c .before .before .before .before .before .before .before .before .before .before .before .pre .3)), c .before .before .before .before .before .before .before .rows-of .ensures, c .before .before .before .before .before .before .before .before .before .before .before .good)
 
--- src/lib.rt:66:9
 add-at : tie.Need-add-at Inv-loop μ-loop
 add-at c = omega (arith, words-there (c .before .before .before .before .before .before .loop .i) _ _ (c .before .before .before .before .before .before .loop .at) _ (c .before .before .before .before .before .loop-test .taken) (c .before .before .before .before .before .before .loop .inv .2) (c .before .before .before .before .before .before .before .before .before .before .before .pre .4), c .before .before .before .before .before .before .before .rows-of .ensures, c .before .before .before .before .before .before .before .before .before .before .before .good)
 
--- src/lib.rt:67:9
 add-i : tie.Need-add-i Inv-loop μ-loop
 add-i c = search needs
 
--- src/lib.rt:62:5
 loop-less : tie.Need-loop-less Inv-loop μ-loop
 loop-less c = search needs
 
--- src/lib.rt:62:5
 loop-again : tie.Need-loop-again Inv-loop μ-loop
 loop-again c =
     let s = c .before .before .before .before .before .before .before .before .before .before .before in
@@ -92,11 +82,9 @@ loop-again c =
           (omega (arith, words-there (c .before .before .before .before .before .before .loop .i) _ _ (c .before .before .before .before .before .before .loop .at) _ (c .before .before .before .before .before .loop-test .taken) (c .before .before .before .before .before .before .loop .inv .2) (c .before .before .before .before .before .before .before .before .before .before .before .pre .4))) (l .inv .4) (c .before .before .instance-column .ensures),
     )
 
--- src/lib.rt:54:1
 same-length : tie.Need-same-length Inv-loop μ-loop
 same-length c = c .before .loop .inv .3
 
--- src/lib.rt:54:1
 returns : tie.Need-returns Inv-loop μ-loop
 returns c =
     let a = c .before .before .before .before .before .before .args in

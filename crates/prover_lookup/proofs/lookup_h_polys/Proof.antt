@@ -1,4 +1,4 @@
--- `lookup_h_polys` meets its contract: after j turns h of the first j lookups stands there. Assumes nothing.
+-- `lookup_h_polys` meets its contract: after j turns h of the first j lookups stands there.
 use borrow.Author.Needs.{needs}
 use Prim.Native.Nat.{_+_, _-_, _≤_}
 use native.Mathlib.Omega.{arith}

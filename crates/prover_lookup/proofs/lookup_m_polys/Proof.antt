@@ -1,5 +1,4 @@
 -- `lookup_m_polys` meets its contract: after j turns the counts of the first j lookups stand there, all of them covered.
--- Assumes nothing.
 use borrow.Author.Needs.{needs}
 use borrow.Author.Tests.{not-true, not-false}
 use Prim.Native.Nat.{_+_, _-_, _≤_}

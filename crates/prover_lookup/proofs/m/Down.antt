@@ -1,4 +1,4 @@
--- The search from the last row down, by how many rows it has seen. Assumes nothing.
+-- The search from the last row down, by how many rows it has seen.
 use mathlib.Core.Path.{_≡_, sym, ap, _∙_}
 use mathlib.Core.Logic.{_≢_}
 use Prim.Native.Nat.{ℕ, _+_, _-_, _≤_, _<_}

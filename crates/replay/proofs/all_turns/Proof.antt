@@ -1,4 +1,4 @@
--- `all_turns` is safe and ends. The lent slices keep their lengths; the measure is what is left. Assumes nothing.
+-- `all_turns` is safe and ends. The lent slices keep their lengths; the measure is what is left.
 use mathlib.Core.Path.{_≡_}
 use Prim.Native.Nat.{_-_}
 use lib.ListN.{length}

@@ -1,4 +1,4 @@
--- Question 7 lays the nodes out, and the pairs are as many as the widths ask. Assumes nothing.
+-- Question 7 lays the nodes out, and the pairs are as many as the widths ask.
 use mathlib.Core.Path.{refl, _∙_}
 use Rattle.backend.proofs.Answers.{seven, pairs-enough, user-degree-of, lookups-degree-of}
 use Rattle.backend.proofs.Degree.{left-roots, right-roots}

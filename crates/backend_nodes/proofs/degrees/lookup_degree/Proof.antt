@@ -11,29 +11,23 @@ use Rattle.backend_nodes.proofs.degrees.lookup_degree.Reads as reads
 use Rattle.backend_nodes.proofs.degrees.lookup_degree.Lts as lts
 use Rattle.backend_nodes.proofs.degrees.side_degree.Reads as side-degree-reads
 
--- src/degrees.rt:57:9
 side-degree-requires : tie.Need-side-degree-requires
 side-degree-requires c κs = search needs
 
--- src/degrees.rt:58:9
 side-degree-requires-2 : tie.Need-side-degree-requires-2
 side-degree-requires-2 c κs = search needs
 
--- src/degrees.rt:59:18
 add-degree : tie.Need-add-degree
 add-degree c = search needs
 
--- src/degrees.rt:59:18
 add-degree-2 : tie.Need-add-degree-2
 add-degree-2 c = search needs
 
--- src/degrees.rt:53:1
 returns : tie.Need-returns
 returns c =
     let a = c .before .before .before .before .before .args in
     sides-low (a .nodes .now) (a .pairs .now) (a .start) (a .n) (c .before .before .side-degree .result) (c .before .side-degree2 .result) (c .before .before .side-degree .ensures) (c .before .side-degree2 .ensures) (c .if1 .taken)
 
--- src/degrees.rt:53:1
 returns-2 : tie.Need-returns-2
 returns-2 c =
     let a = c .before .before .before .before .before .args in

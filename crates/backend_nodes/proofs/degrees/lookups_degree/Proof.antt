@@ -18,51 +18,41 @@ Inv-loop nodes widths pairs degree₀ start₀ i₀ degree start i = Looked node
 abbrev μ-loop : tie.MeasureT-loop
 μ-loop nodes widths pairs degree₀ start₀ i₀ degree start i = length widths - i
 
--- src/degrees.rt:71:5
 loop-holds : tie.Need-loop-holds Inv-loop μ-loop
 loop-holds c =
     let a = c .before .before .before .args in
     looked-none (a .nodes .now) (a .pairs .now) (a .widths .now) (c .before .before .before .pre .1)
 
--- src/degrees.rt:72:17
 mul-n : tie.Need-mul-n Inv-loop μ-loop
 mul-n c = search needs
 
--- src/degrees.rt:72:17
 shared-slice-read-n : tie.Need-shared-slice-read-n Inv-loop μ-loop
 shared-slice-read-n c = search needs
 
--- src/degrees.rt:73:31
 lookup-degree-requires : tie.Need-lookup-degree-requires Inv-loop μ-loop
 lookup-degree-requires c κs =
     let a = c .before .before .before .before .before .before .args in
     (c .before .before .before .before .before .before .pre .0, looked-room (a .nodes .now) (a .pairs .now) (a .widths .now) (c .before .before .loop .degree) (c .before .before .loop .start) (c .before .before .loop .i) (c .before .before .loop .inv) (c .before .loop-test .taken))
 
--- src/degrees.rt:73:9
 most-requires : tie.Need-most-requires Inv-loop μ-loop
 most-requires c κs = search needs
 
--- src/degrees.rt:74:9
 add-start : tie.Need-add-start Inv-loop μ-loop
 add-start c =
     let a = c .before .before .before .before .before .before .before .before .args in
     record { fits = omega (arith, looked-room (a .nodes .now) (a .pairs .now) (a .widths .now) (c .before .before .before .before .loop .degree) (c .before .before .before .before .loop .start) (c .before .before .before .before .loop .i) (c .before .before .before .before .loop .inv) (c .before .before .before .loop-test .taken), c .before .before .before .before .before .before .before .before .good) }
 
--- src/degrees.rt:75:9
 add-i : tie.Need-add-i Inv-loop μ-loop
 add-i c = search needs
 
--- src/degrees.rt:71:5
 loop-less : tie.Need-loop-less Inv-loop μ-loop
 loop-less c = search needs
 
--- src/degrees.rt:71:5
 loop-again : tie.Need-loop-again Inv-loop μ-loop
 loop-again c =
     let a = c .before .before .before .before .before .before .before .before .args in
     looked-more (a .nodes .now) (a .pairs .now) (a .widths .now) (c .before .before .before .before .loop .degree) (c .before .before .before .before .loop .start) (c .before .before .before .before .loop .i) (c .before .before .before .before .loop .inv) (c .before .before .before .loop-test .taken) (c .before .lookup-degree .result) (c .most .result) (c .before .lookup-degree .ensures) (c .most .ensures)
 
--- src/degrees.rt:64:1
 returns : tie.Need-returns Inv-loop μ-loop
 returns c =
     let a = c .before .before .before .before .before .args in

@@ -20,58 +20,46 @@ Inv-loop nodes pairs start n side degree₀ i₀ degree i = Most (λ j. degreeAt
 abbrev μ-loop : tie.MeasureT-loop
 μ-loop nodes pairs start n side degree₀ i₀ degree i = n - i
 
--- src/degrees.rt:43:5
 loop-holds : tie.Need-loop-holds Inv-loop μ-loop
 loop-holds c =
     let a = c .before .before .args in
     most-none (λ j. degreeAt (exprOf (a .nodes .now) (getD (a .pairs .now) ((a .start + j) * 2 + a .side) 0))) (a .n)
 
--- src/degrees.rt:44:19
 add-at : tie.Need-add-at Inv-loop μ-loop
 add-at c = search needs
 
--- src/degrees.rt:44:18
 mul-at : tie.Need-mul-at Inv-loop μ-loop
 mul-at c = search needs
 
--- src/degrees.rt:44:18
 add-at-2 : tie.Need-add-at-2 Inv-loop μ-loop
 add-at-2 c = search needs
 
--- src/degrees.rt:45:20
 mul-root : tie.Need-mul-root Inv-loop μ-loop
 mul-root c = search needs
 
--- src/degrees.rt:45:20
 shared-slice-read-root : tie.Need-shared-slice-read-root Inv-loop μ-loop
 shared-slice-read-root c = search needs
 
--- src/degrees.rt:46:31
 degree-of-requires : tie.Need-degree-of-requires Inv-loop μ-loop
 degree-of-requires c κs =
     let a = c .before .before .before .before .before .args in
     root-in (a .nodes .now) (a .pairs .now) (c .before .before .before .before .before .pre .0) ((a .start + c .before .before .loop .i) * 2 + a .side)
     (let l = c .before .loop-test .taken in let p = c .before .before .before .before .before .pre .1 in omega arith)
 
--- src/degrees.rt:46:9
 most-requires : tie.Need-most-requires Inv-loop μ-loop
 most-requires c κs = search needs
 
--- src/degrees.rt:47:9
 add-i : tie.Need-add-i Inv-loop μ-loop
 add-i c = search needs
 
--- src/degrees.rt:43:5
 loop-less : tie.Need-loop-less Inv-loop μ-loop
 loop-less c = search needs
 
--- src/degrees.rt:43:5
 loop-again : tie.Need-loop-again Inv-loop μ-loop
 loop-again c =
     let a = c .before .before .before .before .before .before .before .args in
     most-more (λ j. degreeAt (exprOf (a .nodes .now) (getD (a .pairs .now) ((a .start + j) * 2 + a .side) 0))) (a .n) (c .before .before .before .before .loop .degree) (c .before .before .before .before .loop .i) (c .before .degree-of .result) (c .most .result) (c .before .before .before .before .loop .inv) (c .before .before .before .loop-test .taken) (c .before .degree-of .ensures) (c .most .ensures)
 
--- src/degrees.rt:37:1
 returns : tie.Need-returns Inv-loop μ-loop
 returns c =
     let a = c .before .before .before .before .args in

@@ -21,45 +21,36 @@ Inv-loop nodes constraints degree₀ i₀ degree i = Most (λ j. degreeAt (exprO
 abbrev μ-loop : tie.MeasureT-loop
 μ-loop nodes constraints degree₀ i₀ degree i = length constraints - i
 
--- src/degrees.rt:28:5
 loop-holds : tie.Need-loop-holds Inv-loop μ-loop
 loop-holds c =
     let a = c .before .before .args in
     most-none (λ j. degreeAt (exprOf (a .nodes .now) (getD (a .constraints .now) j 0))) (length (a .constraints .now))
 
--- src/degrees.rt:29:20
 mul-root : tie.Need-mul-root Inv-loop μ-loop
 mul-root c = search needs
 
--- src/degrees.rt:29:20
 shared-slice-read-root : tie.Need-shared-slice-read-root Inv-loop μ-loop
 shared-slice-read-root c = search needs
 
--- src/degrees.rt:30:31
 degree-of-requires : tie.Need-degree-of-requires Inv-loop μ-loop
 degree-of-requires c κs =
     let a = c .before .before .before .before .before .args in
     root-in (a .nodes .now) (a .constraints .now) (c .before .before .before .before .before .pre) (c .before .before .loop .i) (c .before .loop-test .taken)
 
--- src/degrees.rt:30:9
 most-requires : tie.Need-most-requires Inv-loop μ-loop
 most-requires c κs = search needs
 
--- src/degrees.rt:31:9
 add-i : tie.Need-add-i Inv-loop μ-loop
 add-i c = search needs
 
--- src/degrees.rt:28:5
 loop-less : tie.Need-loop-less Inv-loop μ-loop
 loop-less c = search needs
 
--- src/degrees.rt:28:5
 loop-again : tie.Need-loop-again Inv-loop μ-loop
 loop-again c =
     let a = c .before .before .before .before .before .before .before .args in
     most-more (λ j. degreeAt (exprOf (a .nodes .now) (getD (a .constraints .now) j 0))) (length (a .constraints .now)) (c .before .before .before .before .loop .degree) (c .before .before .before .before .loop .i) (c .before .degree-of .result) (c .most .result) (c .before .before .before .before .loop .inv) (c .before .before .before .loop-test .taken) (c .before .degree-of .ensures) (c .most .ensures)
 
--- src/degrees.rt:22:1
 returns : tie.Need-returns Inv-loop μ-loop
 returns c =
     let a = c .before .before .before .before .args in

@@ -19,36 +19,29 @@ Inv-loop nodes count n₀ n = Walked (inPlace nodes) (λ i. i) count n
 abbrev μ-loop : tie.MeasureT-loop
 μ-loop nodes count n₀ n = count - n
 
--- src/layout.rt:118:5
 loop-holds : tie.Need-loop-holds Inv-loop μ-loop
 loop-holds c = let a = c .before .args in walk-none (inPlace (a .nodes .now)) (λ i. i) (nodeCount (a .nodes .now))
 
--- src/layout.rt:119:13
 in-place-requires : tie.Need-in-place-requires Inv-loop μ-loop
 in-place-requires c κs = search needs
 
--- src/layout.rt:120:13
 returns : tie.Need-returns Inv-loop μ-loop
 returns c =
     let a = c .before .before .before .before .before .args in
     walk-fails (inPlace (a .nodes .now)) (λ i. i) (nodeCount (a .nodes .now)) (c .before .before .before .loop .n) (c .before .before .loop-test .taken) (sym (c .before .in-place .ensures) ∙ not-true (c .before .in-place .result) (c .if1 .taken))
 
--- src/layout.rt:122:9
 add-n : tie.Need-add-n Inv-loop μ-loop
 add-n c = search needs
 
--- src/layout.rt:118:5
 loop-less : tie.Need-loop-less Inv-loop μ-loop
 loop-less c = search needs
 
--- src/layout.rt:118:5
 loop-again : tie.Need-loop-again Inv-loop μ-loop
 loop-again c =
     let a = c .before .before .before .before .before .args in
     walk-more (inPlace (a .nodes .now)) (λ i. i) (nodeCount (a .nodes .now)) (c .before .before .before .loop .n) (c .before .before .before .loop .inv) (c .before .before .loop-test .taken)
     (sym (c .before .in-place .ensures) ∙ not-false (c .before .in-place .result) (c .if1 .left))
 
--- src/layout.rt:113:1
 returns-2 : tie.Need-returns-2 Inv-loop μ-loop
 returns-2 c =
     let a = c .before .before .before .args in

@@ -1,4 +1,4 @@
--- One name, counted in its place. Assumes nothing.
+-- One name, counted in its place.
 use native.Mathlib.Omega.{arith}
 use Rattle.backend_nodes.proofs.layout.Counts.{tally-name, tally-past}
 use borrow.Author.Needs.{needs}

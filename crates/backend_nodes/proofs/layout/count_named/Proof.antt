@@ -1,4 +1,4 @@
--- The names of one node, kind by kind. Assumes nothing.
+-- The names of one node, kind by kind.
 use mathlib.Core.Path.{refl, sym, ap}
 use mathlib.Core.Bool.{Bool, cond}
 use mathlib.Core.List.{List, [], _∷_}

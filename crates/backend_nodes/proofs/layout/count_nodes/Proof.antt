@@ -1,4 +1,4 @@
--- The names of the nodes passed are counted. Assumes nothing.
+-- The names of the nodes passed are counted.
 use Prim.Native.Nat.{_-_}
 use borrow.Author.Needs.{needs}
 use Rattle.backend_nodes.proofs.layout.Counts.{Noded, noded-none, noded-room, noded-more, noded-all}

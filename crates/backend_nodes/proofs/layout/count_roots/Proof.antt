@@ -1,4 +1,4 @@
--- The roots passed are counted. Assumes nothing.
+-- The roots passed are counted.
 use Prim.Native.Nat.{_-_}
 use borrow.Author.Needs.{needs}
 use lib.ListN.{length}

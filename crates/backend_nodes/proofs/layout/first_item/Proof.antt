@@ -11,37 +11,29 @@ use Rattle.backend_nodes.proofs.layout.first_item.Tie as tie
 use Rattle.backend_nodes.proofs.layout.first_item.Reads as reads
 use Rattle.backend_nodes.proofs.layout.first_item.Lts as lts
 
--- src/layout.rt:65:18
 mul-at : tie.Need-mul-at
 mul-at c = search needs
 
--- src/layout.rt:66:10
 mul-result : tie.Need-mul-result
 mul-result c = search needs
 
--- src/layout.rt:66:10
 shared-slice-read-result : tie.Need-shared-slice-read-result
 shared-slice-read-result c = search needs
 
--- src/layout.rt:66:36
 add-result : tie.Need-add-result
 add-result c = search needs
 
--- src/layout.rt:66:30
 mul-result-2 : tie.Need-mul-result-2
 mul-result-2 c = search needs
 
--- src/layout.rt:66:30
 shared-slice-read-result-2 : tie.Need-shared-slice-read-result-2
 shared-slice-read-result-2 c = search needs
 
--- src/layout.rt:60:1
 returns : tie.Need-returns
 returns c =
     let a = c .before .before .before .args in
     ap (λ (t : Bool). t && eqb (getD (a .nodes .now) (a .node * 4 + 3) 0) 1) (item-low (a .nodes .now) (a .limit) (a .node) (c .before .before .if1 .taken))
 
--- src/layout.rt:60:1
 returns-2 : tie.Need-returns-2
 returns-2 c =
     let a = c .before .args in

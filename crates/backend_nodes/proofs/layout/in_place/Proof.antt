@@ -14,103 +14,78 @@ use Rattle.backend_nodes.proofs.layout.item.Reads as item-reads
 use Rattle.backend_nodes.proofs.layout.plain.Reads as plain-reads
 use Rattle.backend_nodes.proofs.layout.shaped.Reads as shaped-reads
 
--- src/layout.rt:92:14
 mul-at : tie.Need-mul-at
 mul-at c = search needs
 
--- src/layout.rt:93:16
 mul-kind : tie.Need-mul-kind
 mul-kind c = search needs
 
--- src/layout.rt:93:16
 shared-slice-read-kind : tie.Need-shared-slice-read-kind
 shared-slice-read-kind c = search needs
 
--- src/layout.rt:94:23
 add-first : tie.Need-add-first
 add-first c = search needs
 
--- src/layout.rt:94:17
 mul-first : tie.Need-mul-first
 mul-first c = search needs
 
--- src/layout.rt:94:17
 shared-slice-read-first : tie.Need-shared-slice-read-first
 shared-slice-read-first c = search needs
 
--- src/layout.rt:95:24
 add-second : tie.Need-add-second
 add-second c = search needs
 
--- src/layout.rt:95:18
 mul-second : tie.Need-mul-second
 mul-second c = search needs
 
--- src/layout.rt:95:18
 shared-slice-read-second : tie.Need-shared-slice-read-second
 shared-slice-read-second c = search needs
 
--- src/layout.rt:96:23
 add-value : tie.Need-add-value
 add-value c = search needs
 
--- src/layout.rt:96:17
 mul-value : tie.Need-mul-value
 mul-value c = search needs
 
--- src/layout.rt:96:17
 shared-slice-read-value : tie.Need-shared-slice-read-value
 shared-slice-read-value c = search needs
 
--- src/layout.rt:97:9
 shaped-requires : tie.Need-shaped-requires
 shaped-requires c κs = search needs
 
--- src/layout.rt:98:9
 returns : tie.Need-returns
 returns c = let a = c .before .before .before .before .before .before .before .args in not-shaped (a .nodes .now) (a .n) (c .before .shaped .result) (c .before .shaped .ensures) (not-true (c .before .shaped .result) (c .if1 .taken))
 
--- src/layout.rt:101:14
 plain-requires : tie.Need-plain-requires
 plain-requires c κs = search needs
 
--- src/layout.rt:102:14
 plain-requires-2 : tie.Need-plain-requires-2
 plain-requires-2 c κs = search needs
 
--- src/layout.rt:102:39
 plain-requires-3 : tie.Need-plain-requires-3
 plain-requires-3 c κs = search needs
 
--- src/layout.rt:103:14
 plain-requires-4 : tie.Need-plain-requires-4
 plain-requires-4 c κs = search needs
 
--- src/layout.rt:103:39
 plain-requires-5 : tie.Need-plain-requires-5
 plain-requires-5 c κs = search needs
 
--- src/layout.rt:104:15
 plain-requires-6 : tie.Need-plain-requires-6
 plain-requires-6 c κs = search needs
 
--- src/layout.rt:105:15
 plain-requires-7 : tie.Need-plain-requires-7
 plain-requires-7 c κs = search needs
 
--- src/layout.rt:105:40
 first-item-requires : tie.Need-first-item-requires
 first-item-requires c κs = search needs
 
--- src/layout.rt:106:15
 plain-requires-8 : tie.Need-plain-requires-8
 plain-requires-8 c κs = search needs
 
--- src/layout.rt:106:56
 item-requires : tie.Need-item-requires
 item-requires c κs = search needs
 
--- src/layout.rt:88:1
 returns-2 : tie.Need-returns-2
 unfolding kindOf
 returns-2 c =
@@ -119,7 +94,6 @@ returns-2 c =
     in-place-at (a .nodes .now) (a .n) 7 (s .result) _ (s .ensures) (not-false (s .result) (c .before .before .if1 .left)) (c .before .match .keys1)
     (rest-one (a .nodes .now) (a .n) 7 (getD (a .nodes .now) (a .n * 4 + 1) 0) (getD (a .nodes .now) (a .n * 4 + 2) 0) (getD (a .nodes .now) (a .n * 4 + 3) 0) (c .plain .result) refl refl (c .plain .ensures))
 
--- src/layout.rt:88:1
 returns-3 : tie.Need-returns-3
 unfolding kindOf
 returns-3 c =
@@ -128,7 +102,6 @@ returns-3 c =
     in-place-at (a .nodes .now) (a .n) 8 (s .result) _ (s .ensures) (not-false (s .result) (c .before .before .before .if1 .left)) (c .before .before .match .keys2)
     (rest-two (a .nodes .now) (a .n) 8 (getD (a .nodes .now) (a .n * 4 + 1) 0) (getD (a .nodes .now) (a .n * 4 + 2) 0) (getD (a .nodes .now) (a .n * 4 + 3) 0) (c .before .plain2 .result) (c .plain3 .result) refl refl (c .before .plain2 .ensures) (c .plain3 .ensures))
 
--- src/layout.rt:88:1
 returns-4 : tie.Need-returns-4
 unfolding kindOf
 returns-4 c =
@@ -137,7 +110,6 @@ returns-4 c =
     in-place-at (a .nodes .now) (a .n) 9 (s .result) _ (s .ensures) (not-false (s .result) (c .before .before .before .if1 .left)) (c .before .before .match .keys3)
     (rest-two (a .nodes .now) (a .n) 9 (getD (a .nodes .now) (a .n * 4 + 1) 0) (getD (a .nodes .now) (a .n * 4 + 2) 0) (getD (a .nodes .now) (a .n * 4 + 3) 0) (c .before .plain4 .result) (c .plain5 .result) refl refl (c .before .plain4 .ensures) (c .plain5 .ensures))
 
--- src/layout.rt:88:1
 returns-5 : tie.Need-returns-5
 unfolding kindOf
 returns-5 c =
@@ -146,7 +118,6 @@ returns-5 c =
     in-place-at (a .nodes .now) (a .n) 10 (s .result) _ (s .ensures) (not-false (s .result) (c .before .before .if1 .left)) (c .before .match .keys4)
     (rest-one (a .nodes .now) (a .n) 10 (getD (a .nodes .now) (a .n * 4 + 1) 0) (getD (a .nodes .now) (a .n * 4 + 2) 0) (getD (a .nodes .now) (a .n * 4 + 3) 0) (c .plain6 .result) refl refl (c .plain6 .ensures))
 
--- src/layout.rt:88:1
 returns-6 : tie.Need-returns-6
 returns-6 c =
     let a = c .before .before .before .before .before .before .before .before .before .before .args in
@@ -154,7 +125,6 @@ returns-6 c =
     in-place-at (a .nodes .now) (a .n) 11 (s .result) _ (s .ensures) (not-false (s .result) (c .before .before .before .if1 .left)) (c .before .before .match .keys5)
     (rest-powers (a .nodes .now) (a .n) (getD (a .nodes .now) (a .n * 4 + 1) 0) (getD (a .nodes .now) (a .n * 4 + 2) 0) (getD (a .nodes .now) (a .n * 4 + 3) 0) (c .before .plain7 .result) (c .first-item .result) (c .before .plain7 .ensures) (c .first-item .ensures))
 
--- src/layout.rt:88:1
 returns-7 : tie.Need-returns-7
 returns-7 c =
     let a = c .before .before .before .before .before .before .before .before .before .before .args in
@@ -162,7 +132,6 @@ returns-7 c =
     in-place-at (a .nodes .now) (a .n) 12 (s .result) _ (s .ensures) (not-false (s .result) (c .before .before .before .if1 .left)) (c .before .before .match .keys6)
     (rest-item (a .nodes .now) (a .n) (getD (a .nodes .now) (a .n * 4 + 1) 0) (getD (a .nodes .now) (a .n * 4 + 2) 0) (getD (a .nodes .now) (a .n * 4 + 3) 0) (c .before .plain8 .result) (c .item .result) (c .before .plain8 .ensures) (c .item .ensures))
 
--- src/layout.rt:88:1
 returns-8 : tie.Need-returns-8
 returns-8 c =
     let a = c .before .before .before .before .before .before .before .before .args in

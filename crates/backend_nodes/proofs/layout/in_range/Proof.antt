@@ -15,66 +15,51 @@ use Rattle.backend_nodes.proofs.layout.in_range.Reads as reads
 use Rattle.backend_nodes.proofs.layout.in_range.Lts as lts
 use Rattle.backend_nodes.proofs.layout.rotation_in_range.Reads as rotation-in-range-reads
 
--- src/layout.rt:217:14
 mul-at : tie.Need-mul-at
 mul-at c = search needs
 
--- src/layout.rt:218:11
 mul-match : tie.Need-mul-match
 mul-match c = search needs
 
--- src/layout.rt:218:11
 shared-slice-read-match : tie.Need-shared-slice-read-match
 shared-slice-read-match c = search needs
 
--- src/layout.rt:220:21
 add-result : tie.Need-add-result
 add-result c = search needs
 
--- src/layout.rt:220:15
 mul-result : tie.Need-mul-result
 mul-result c = search needs
 
--- src/layout.rt:220:15
 shared-slice-read-result : tie.Need-shared-slice-read-result
 shared-slice-read-result c = search needs
 
--- src/layout.rt:220:51
 add-rotation-in-range : tie.Need-add-rotation-in-range
 add-rotation-in-range c = search needs
 
--- src/layout.rt:220:45
 mul-rotation-in-range : tie.Need-mul-rotation-in-range
 mul-rotation-in-range c = search needs
 
--- src/layout.rt:220:45
 shared-slice-read-rotation-in-range : tie.Need-shared-slice-read-rotation-in-range
 shared-slice-read-rotation-in-range c = search needs
 
--- src/layout.rt:220:40
 rotation-in-range-requires : tie.Need-rotation-in-range-requires
 rotation-in-range-requires c κs = search needs
 
--- src/layout.rt:221:20
 add-result-2 : tie.Need-add-result-2
 add-result-2 c = search needs
 
--- src/layout.rt:221:14
 mul-result-2 : tie.Need-mul-result-2
 mul-result-2 c = search needs
 
--- src/layout.rt:221:14
 shared-slice-read-result-2 : tie.Need-shared-slice-read-result-2
 shared-slice-read-result-2 c = search needs
 
--- src/layout.rt:213:1
 returns : tie.Need-returns
 unfolding kindOf
 returns c =
     let a = c .before .before .before .args in
     by-kind (a .nodes .now) (a .n) (inRange (a .polys) (a .user) (a .k)) 4 (c .match .keys1)
 
--- src/layout.rt:213:1
 returns-2 : tie.Need-returns-2
 unfolding kindOf
 returns-2 c =
@@ -82,14 +67,12 @@ returns-2 c =
     ap (λ (t : Bool). ltb (getD (a .nodes .now) (a .n * 4 + 1) 0) (a .polys) && t) (c .rotation-in-range .ensures)
     ∙ by-kind (a .nodes .now) (a .n) (inRange (a .polys) (a .user) (a .k)) 5 (c .before .before .before .match .keys2)
 
--- src/layout.rt:213:1
 returns-3 : tie.Need-returns-3
 unfolding kindOf
 returns-3 c =
     let a = c .before .before .before .before .args in
     by-kind (a .nodes .now) (a .n) (inRange (a .polys) (a .user) (a .k)) 6 (c .before .match .keys3)
 
--- src/layout.rt:213:1
 returns-4 : tie.Need-returns-4
 returns-4 c =
     let a = c .before .before .before .args in

@@ -13,41 +13,33 @@ use Rattle.backend_nodes.proofs.layout.all_in_place.Reads as all-in-pla
 use Rattle.backend_nodes.proofs.layout.named_once.Reads as named-once-reads
 use Rattle.backend_nodes.proofs.layout.roots_right.Reads as roots-right-reads
 
--- src/layout.rt:189:9
 all-in-place-requires : tie.Need-all-in-place-requires
 all-in-place-requires c κs = search needs
 
--- src/layout.rt:190:9
 returns : tie.Need-returns
 returns c =
     let a = c .before .before .before .before .before .args in
     not-in-place (a .nodes .now) (a .constraints .now) (a .pairs .now) (c .before .all-in-place .result) (c .before .all-in-place .ensures) (c .if1 .taken)
 
--- src/layout.rt:192:9
 roots-right-requires : tie.Need-roots-right-requires
 roots-right-requires c κs = search needs
 
--- src/layout.rt:193:9
 returns-2 : tie.Need-returns-2
 returns-2 c =
     let a = c .before .before .before .before .before .before .before .args in
     not-root (a .nodes .now) (a .constraints .now) (a .pairs .now) (c .before .before .before .all-in-place .result) (c .before .before .before .all-in-place .ensures) (c .before .roots-right .result) (c .before .roots-right .ensures) (c .if2 .taken)
 
--- src/layout.rt:195:9
 roots-right-requires-2 : tie.Need-roots-right-requires-2
 roots-right-requires-2 c κs = search needs
 
--- src/layout.rt:196:9
 returns-3 : tie.Need-returns-3
 returns-3 c =
     let a = c .before .before .before .before .before .before .before .before .before .args in
     not-root-too (a .nodes .now) (a .constraints .now) (a .pairs .now) (c .before .before .before .before .before .all-in-place .result) (c .before .before .before .before .before .all-in-place .ensures) (c .before .before .before .roots-right .result) (c .before .before .before .roots-right .ensures) (c .before .roots-right2 .result) (c .before .roots-right2 .ensures) (c .if3 .taken)
 
--- src/layout.rt:198:5
 named-once-requires : tie.Need-named-once-requires
 named-once-requires c κs = search needs
 
--- src/layout.rt:186:1
 returns-4 : tie.Need-returns-4
 returns-4 c =
     let a = c .before .before .before .before .before .before .before .before .before .before .args in

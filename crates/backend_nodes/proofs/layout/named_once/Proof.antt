@@ -1,4 +1,4 @@
--- Each place has the number of its node's names, and the places passed have 1. Assumes nothing.
+-- Each place has the number of its node's names, and the places passed have 1.
 use mathlib.Core.Path.{_≡_, refl, sym, ap, _∙_}
 use mathlib.Core.List.{_++_}
 use Prim.Native.Nat.{ℕ, _+_, _-_, _<_, _^_}

@@ -19,37 +19,30 @@ Inv-loop nodes polys user k count n₀ n = Walked (byWords (inRange polys user k
 abbrev μ-loop : tie.MeasureT-loop
 μ-loop nodes polys user k count n₀ n = count - n
 
--- src/layout.rt:232:5
 loop-holds : tie.Need-loop-holds Inv-loop μ-loop
 loop-holds c = let a = c .before .args in walk-none (byWords (inRange (a .polys) (a .user) (a .k)) (a .nodes .now)) (λ i. i) (nodeCount (a .nodes .now))
 
--- src/layout.rt:233:13
 in-range-requires : tie.Need-in-range-requires Inv-loop μ-loop
 in-range-requires c κs = search needs
 
--- src/layout.rt:234:13
 returns : tie.Need-returns Inv-loop μ-loop
 unfolding nodesInRange
 returns c =
     let a = c .before .before .before .before .before .args in
     walk-fails (byWords (inRange (a .polys) (a .user) (a .k)) (a .nodes .now)) (λ i. i) (nodeCount (a .nodes .now)) (c .before .before .before .loop .n) (c .before .before .loop-test .taken) (sym (c .before .in-range .ensures) ∙ not-true (c .before .in-range .result) (c .if1 .taken))
 
--- src/layout.rt:236:9
 add-n : tie.Need-add-n Inv-loop μ-loop
 add-n c = search needs
 
--- src/layout.rt:232:5
 loop-less : tie.Need-loop-less Inv-loop μ-loop
 loop-less c = search needs
 
--- src/layout.rt:232:5
 loop-again : tie.Need-loop-again Inv-loop μ-loop
 loop-again c =
     let a = c .before .before .before .before .before .args in
     walk-more (byWords (inRange (a .polys) (a .user) (a .k)) (a .nodes .now)) (λ i. i) (nodeCount (a .nodes .now)) (c .before .before .before .loop .n) (c .before .before .before .loop .inv) (c .before .before .loop-test .taken)
     (sym (c .before .in-range .ensures) ∙ not-false (c .before .in-range .result) (c .if1 .left))
 
--- src/layout.rt:227:1
 returns-2 : tie.Need-returns-2 Inv-loop μ-loop
 unfolding nodesInRange
 returns-2 c =

@@ -7,25 +7,20 @@ use Rattle.backend_nodes.proofs.layout.plain.Tie as tie
 use Rattle.backend_nodes.proofs.layout.plain.Reads as reads
 use Rattle.backend_nodes.proofs.layout.plain.Lts as lts
 
--- src/layout.rt:34:18
 mul-at : tie.Need-mul-at
 mul-at c = search needs
 
--- src/layout.rt:35:9
 mul-result : tie.Need-mul-result
 mul-result c = search needs
 
--- src/layout.rt:35:9
 shared-slice-read-result : tie.Need-shared-slice-read-result
 shared-slice-read-result c = search needs
 
--- src/layout.rt:29:1
 returns : tie.Need-returns
 returns c =
     let a = c .before .before .args in
     plain-low (a .nodes .now) (a .limit) (a .node) (c .before .if1 .taken)
 
--- src/layout.rt:29:1
 returns-2 : tie.Need-returns-2
 returns-2 c = let a = c .before .args in not-low (a .nodes .now) (a .limit) (a .node) (plain (a .node)) refl (c .if1 .left)
 

@@ -19,47 +19,38 @@ Inv-loop nodes roots count i₀ i = Walked (isRoot nodes) (λ j. getD roots j 0)
 abbrev μ-loop : tie.MeasureT-loop
 μ-loop nodes roots count i₀ i = length roots - i
 
--- src/layout.rt:133:5
 loop-holds : tie.Need-loop-holds Inv-loop μ-loop
 loop-holds c =
     let a = c .before .before .args in
     walk-none (isRoot (a .nodes .now)) (λ i. getD (a .roots .now) i 0) (length (a .roots .now))
 
--- src/layout.rt:134:33
 mul-plain : tie.Need-mul-plain Inv-loop μ-loop
 mul-plain c = search needs
 
--- src/layout.rt:134:33
 shared-slice-read-plain : tie.Need-shared-slice-read-plain Inv-loop μ-loop
 shared-slice-read-plain c = search needs
 
--- src/layout.rt:134:13
 plain-requires : tie.Need-plain-requires Inv-loop μ-loop
 plain-requires c κs = search needs
 
--- src/layout.rt:135:13
 returns : tie.Need-returns Inv-loop μ-loop
 returns c =
     let a = c .before .before .before .before .before .before .before .args in
     list-fails (isRoot (a .nodes .now)) (a .roots .now) 0 (c .before .before .before .before .loop .i) (c .before .before .before .loop-test .taken)
     (sym (c .before .plain .ensures) ∙ not-true (c .before .plain .result) (c .if1 .taken))
 
--- src/layout.rt:137:9
 add-i : tie.Need-add-i Inv-loop μ-loop
 add-i c = search needs
 
--- src/layout.rt:133:5
 loop-less : tie.Need-loop-less Inv-loop μ-loop
 loop-less c = search needs
 
--- src/layout.rt:133:5
 loop-again : tie.Need-loop-again Inv-loop μ-loop
 loop-again c =
     let a = c .before .before .before .before .before .before .before .args in
     walk-more (isRoot (a .nodes .now)) (λ i. getD (a .roots .now) i 0) (length (a .roots .now)) (c .before .before .before .before .loop .i) (c .before .before .before .before .loop .inv) (c .before .before .before .loop-test .taken)
     (sym (c .before .plain .ensures) ∙ not-false (c .before .plain .result) (c .if1 .left))
 
--- src/layout.rt:128:1
 returns-2 : tie.Need-returns-2 Inv-loop μ-loop
 returns-2 c =
     let a = c .before .before .before .before .args in

@@ -10,15 +10,12 @@ use Rattle.backend_nodes.proofs.layout.rotation_in_range.Tie as tie
 use Rattle.backend_nodes.proofs.layout.rotation_in_range.Reads as reads
 use Rattle.backend_nodes.proofs.layout.rotation_in_range.Lts as lts
 
--- src/layout.rt:206:9
 sub-result : tie.Need-sub-result
 sub-result c = search needs
 
--- src/layout.rt:202:1
 returns : tie.Need-returns
 returns c = near-low (c .before .args .kept) (c .before .args .k) (c .if1 .taken)
 
--- src/layout.rt:202:1
 returns-2 : tie.Need-returns-2
 returns-2 c = near-high (c .before .args .kept) (c .before .args .k) (c .if1 .left)
 

@@ -6,67 +6,54 @@ use Rattle.backend_nodes.proofs.layout.shaped.Tie as tie
 use Rattle.backend_nodes.proofs.layout.shaped.Reads as reads
 use Rattle.backend_nodes.proofs.layout.shaped.Lts as lts
 
--- src/layout.rt:13:1
 returns : tie.Need-returns
 unfolding kindOf
 returns c = rw (c .match .keys1)
 
--- src/layout.rt:13:1
 returns-2 : tie.Need-returns-2
 unfolding kindOf
 returns-2 c = rw (c .match .keys2)
 
--- src/layout.rt:13:1
 returns-3 : tie.Need-returns-3
 unfolding kindOf
 returns-3 c = rw (c .match .keys3)
 
--- src/layout.rt:13:1
 returns-4 : tie.Need-returns-4
 unfolding kindOf
 returns-4 c = rw (c .match .keys4)
 
--- src/layout.rt:13:1
 returns-5 : tie.Need-returns-5
 unfolding kindOf
 returns-5 c = rw (c .match .keys5)
 
--- src/layout.rt:13:1
 returns-6 : tie.Need-returns-6
 unfolding kindOf
 returns-6 c = rw (c .match .keys6)
 
--- src/layout.rt:13:1
 returns-7 : tie.Need-returns-7
 unfolding kindOf
 returns-7 c = rw (c .match .keys7)
 
--- src/layout.rt:13:1
 returns-8 : tie.Need-returns-8
 unfolding kindOf
 returns-8 c = rw (c .match .keys8)
 
--- src/layout.rt:13:1
 returns-9 : tie.Need-returns-9
 unfolding kindOf
 returns-9 c = rw (c .match .keys9)
 
--- src/layout.rt:13:1
 returns-10 : tie.Need-returns-10
 unfolding kindOf
 returns-10 c = rw (c .match .keys10)
 
--- src/layout.rt:13:1
 returns-11 : tie.Need-returns-11
 unfolding kindOf
 returns-11 c = rw (c .match .keys11)
 
--- src/layout.rt:13:1
 returns-12 : tie.Need-returns-12
 unfolding kindOf
 returns-12 c = rw (c .match .keys12)
 
--- src/layout.rt:13:1
 returns-13 : tie.Need-returns-13
 returns-13 c = rw (no-kind (c .before .args .kind) (c .match .rest))
 

@@ -1,4 +1,4 @@
--- The sum of the lengths, each one word. Assumes nothing.
+-- The sum of the lengths, each one word.
 use Rattle.backend.proofs.Numbers.{single-sum}
 use borrow.Author.Needs.{needs}
 use Rattle.backend_questions.proofs.bodies.lengths_to.Statement.{statement}

@@ -9,23 +9,18 @@ use Rattle.backend_sections.proofs.bodies.user_to.Reads as user-to-reads
 use Rattle.backend_questions.proofs.bodies.widths_narrow.Reads as widths-narrow-reads
 use Rattle.backend_sections.proofs.bodies.witness_to.Reads as witness-to-reads
 
--- src/bodies.rt:99:9
 witness-to-requires : tie.Need-witness-to-requires
 witness-to-requires c κs = search needs
 
--- src/bodies.rt:100:9
 user-to-requires : tie.Need-user-to-requires
 user-to-requires c κs = search needs
 
--- src/bodies.rt:101:9
 widths-narrow-requires : tie.Need-widths-narrow-requires
 widths-narrow-requires c κs = search needs
 
--- src/bodies.rt:102:9
 lengths-to-requires : tie.Need-lengths-to-requires
 lengths-to-requires c κs = search needs
 
--- src/bodies.rt:95:1
 returns : tie.Need-returns
 returns c = three-bodies _ _ _ _ _ (c .before .before .before .witness-to .ensures) (c .before .before .user-to .ensures) (c .before .widths-narrow .ensures) (c .lengths-to .ensures)
 

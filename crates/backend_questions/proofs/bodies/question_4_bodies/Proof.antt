@@ -7,31 +7,24 @@ use Rattle.backend_questions.proofs.bodies.question_4_bodies.Lts as lts
 use Rattle.backend_questions.proofs.bodies.lengths_to.Reads as lengths-to-reads
 use Rattle.backend_questions.proofs.bodies.widths_to.Reads as widths-to-reads
 
--- src/bodies.rt:111:17
 shared-slice-read-pairs : tie.Need-shared-slice-read-pairs
 shared-slice-read-pairs c = search needs
 
--- src/bodies.rt:112:17
 shared-slice-read-cells : tie.Need-shared-slice-read-cells
 shared-slice-read-cells c = search needs
 
--- src/bodies.rt:113:37
 add-widths-to : tie.Need-add-widths-to
 add-widths-to c = search needs
 
--- src/bodies.rt:113:9
 widths-to-requires : tie.Need-widths-to-requires
 widths-to-requires c κs = search needs
 
--- src/bodies.rt:114:39
 add-lengths-to : tie.Need-add-lengths-to
 add-lengths-to c = search needs
 
--- src/bodies.rt:114:9
 lengths-to-requires : tie.Need-lengths-to-requires
 lengths-to-requires c κs = search needs
 
--- src/bodies.rt:107:1
 returns : tie.Need-returns
 returns c = four-bodies _ _ _ (c .before .widths-to .ensures) (c .lengths-to .ensures)
 

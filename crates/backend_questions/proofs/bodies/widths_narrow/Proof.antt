@@ -1,4 +1,4 @@
--- Every width below 9 is every width at most 8. Assumes nothing.
+-- Every width below 9 is every width at most 8.
 use Rattle.backend.proofs.Numbers.{narrow-widths}
 use borrow.Author.Needs.{needs}
 use Rattle.backend_questions.proofs.bodies.widths_narrow.Statement.{statement}

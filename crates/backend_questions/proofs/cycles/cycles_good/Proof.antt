@@ -1,4 +1,4 @@
--- The cycles passed are good, and their cells linked. Assumes nothing.
+-- The cycles passed are good, and their cells linked.
 use mathlib.Core.Path.{refl}
 use Prim.Native.Nat.{_+_, _-_}
 use native.Mathlib.Omega.{arith}

@@ -1,4 +1,4 @@
--- Down the cell's chain: none of the cells from j on is the same. Assumes nothing.
+-- Down the cell's chain: none of the cells from j on is the same.
 use borrow.Author.Needs.{needs}
 use native.Mathlib.Omega.{arith}
 use Prim.Native.Nat.{_+_}

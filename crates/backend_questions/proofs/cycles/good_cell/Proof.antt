@@ -1,4 +1,4 @@
--- Its numbers in range, and none of those before it. Assumes nothing.
+-- Its numbers in range, and none of those before it.
 use Prim.Native.Nat.{_+_}
 use Rattle.backend.specs.Circuit.{cellAt}
 use Rattle.backend.specs.Cycles.{cellsFrom}

@@ -1,4 +1,4 @@
--- The cells passed are good, and linked. Assumes nothing.
+-- The cells passed are good, and linked.
 use mathlib.Core.Path.{sym, _∙_}
 use Prim.Native.Nat.{_+_, _-_, _≤_}
 use native.Mathlib.Omega.{arith}

@@ -1,4 +1,4 @@
--- One cell more. Assumes nothing.
+-- One cell more.
 use Rattle.backend_questions.proofs.cycles.Chains.{link-next}
 use borrow.Author.Needs.{needs}
 use Rattle.backend_questions.proofs.cycles.link.Statement.{statement}

@@ -1,4 +1,4 @@
--- The cells are as many as the cycles ask, and good cycles are question 11. Assumes nothing.
+-- The cells are as many as the cycles ask, and good cycles are question 11.
 use Rattle.backend.proofs.Answers.{cells-enough, eleven}
 use Rattle.backend_questions.proofs.nodes.Few.{few-cells}
 use borrow.Author.Needs.{needs}

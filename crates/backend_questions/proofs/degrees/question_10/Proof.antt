@@ -1,4 +1,4 @@
--- Degrees that fit are question 10. Assumes nothing.
+-- Degrees that fit are question 10.
 use Rattle.backend.proofs.Answers.{ten}
 use borrow.Author.Needs.{needs}
 use Rattle.backend_questions.proofs.degrees.question_10.Statement.{statement}

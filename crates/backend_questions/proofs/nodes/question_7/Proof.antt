@@ -1,4 +1,4 @@
--- The nodes laid out under the constraints and the pairs are question 7. Assumes nothing.
+-- The nodes laid out under the constraints and the pairs are question 7.
 use Rattle.backend.proofs.Answers.{seven}
 use Rattle.backend_questions.proofs.nodes.Few.{few-nodes}
 use borrow.Author.Needs.{needs}

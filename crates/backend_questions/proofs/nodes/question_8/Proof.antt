@@ -1,4 +1,4 @@
--- The nodes in range of the circuit's numbers are question 8. Assumes nothing.
+-- The nodes in range of the circuit's numbers are question 8.
 use Rattle.backend.proofs.Answers.{eight}
 use borrow.Author.Needs.{needs}
 use Rattle.backend_questions.proofs.nodes.question_8.Statement.{statement}

@@ -1,4 +1,4 @@
--- Rounds that are good, and instances shorter than the rows, are question 5. Assumes nothing.
+-- Rounds that are good, and instances shorter than the rows, are question 5.
 use Rattle.backend.proofs.Numbers.{five}
 use borrow.Author.Needs.{needs}
 use Rattle.backend_questions.proofs.sections.question_5.Statement.{statement}

@@ -1,4 +1,4 @@
--- The preprocess words and the nodes' values below p are question 6. Assumes nothing.
+-- The preprocess words and the nodes' values below p are question 6.
 use Rattle.backend.proofs.Numbers.{six}
 use borrow.Author.Needs.{needs}
 use Rattle.backend_questions.proofs.sections.question_6.Statement.{statement}

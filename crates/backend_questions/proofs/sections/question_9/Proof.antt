@@ -1,4 +1,4 @@
--- Widths above 0, and a constraint, lookup or cycle, are question 9. Assumes nothing.
+-- Widths above 0, and a constraint, lookup or cycle, are question 9.
 use Rattle.backend.proofs.Numbers.{nine}
 use borrow.Author.Needs.{needs}
 use Rattle.backend_questions.proofs.sections.question_9.Statement.{statement}

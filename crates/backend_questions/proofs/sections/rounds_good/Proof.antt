@@ -1,4 +1,4 @@
--- There is a round, and the tests of the two words of each are the definition's. Assumes nothing.
+-- There is a round, and the tests of the two words of each are the definition's.
 use Rattle.backend.proofs.Numbers.{some-rounds, rounds-tested}
 use borrow.Author.Needs.{needs}
 use Rattle.backend_questions.proofs.sections.rounds_good.Statement.{statement}

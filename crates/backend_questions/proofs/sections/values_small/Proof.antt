@@ -16,64 +16,51 @@ Inv-loop nodes n i₀ i = Walked (smallValue nodes) (λ (i : ℕ). i) (length no
 abbrev μ-loop : tie.MeasureT-loop
 μ-loop nodes n i₀ i = length nodes / 4 - i
 
--- src/sections.rt:151:5
 loop-holds : tie.Need-loop-holds Inv-loop μ-loop
 loop-holds c = walk-none _ _ _
 
--- src/sections.rt:152:26
 mul-kind : tie.Need-mul-kind Inv-loop μ-loop
 mul-kind c = omega arith
 
--- src/sections.rt:152:20
 mul-kind-2 : tie.Need-mul-kind-2 Inv-loop μ-loop
 mul-kind-2 c = omega arith
 
--- src/sections.rt:152:20
 shared-slice-read-kind : tie.Need-shared-slice-read-kind Inv-loop μ-loop
 shared-slice-read-kind c = omega arith
 
--- src/sections.rt:153:27
 mul-value : tie.Need-mul-value Inv-loop μ-loop
 mul-value c = omega arith
 
--- src/sections.rt:153:27
 add-value : tie.Need-add-value Inv-loop μ-loop
 add-value c = omega arith
 
--- src/sections.rt:153:21
 mul-value-2 : tie.Need-mul-value-2 Inv-loop μ-loop
 mul-value-2 c = omega arith
 
--- src/sections.rt:153:21
 shared-slice-read-value : tie.Need-shared-slice-read-value Inv-loop μ-loop
 shared-slice-read-value c = omega arith
 
 is-element-requires : tie.Need-is-element-requires Inv-loop μ-loop
 is-element-requires c κs = search needs
 
--- src/sections.rt:157:13
 returns : tie.Need-returns Inv-loop μ-loop
 returns c =
     let l = c .before .before .before .before .before in
     walk-fails _ _ _ (l .loop .i) (c .before .before .before .before .loop-test .taken)
     (value-large (l .before .before .args .nodes .now) (l .loop .i) _ (c .before .is-element .ensures .0) (c .if1 .taken))
 
--- src/sections.rt:159:9
 add-i : tie.Need-add-i Inv-loop μ-loop
 add-i c = omega arith
 
--- src/sections.rt:151:5
 loop-less : tie.Need-loop-less Inv-loop μ-loop
 loop-less c = omega arith
 
--- src/sections.rt:151:5
 loop-again : tie.Need-loop-again Inv-loop μ-loop
 loop-again c =
     let l = c .before .before .before .before .before in
     walk-more _ _ _ (l .loop .i) (l .loop .inv) (c .before .before .before .before .loop-test .taken)
     (value-small (l .before .before .args .nodes .now) (l .loop .i) _ (c .before .is-element .ensures .0) (c .if1 .left))
 
--- src/sections.rt:146:1
 returns-2 : tie.Need-returns-2 Inv-loop μ-loop
 returns-2 c = walk-done _ _ _ (c .before .loop .i) (c .before .loop .inv) (c .loop-test .left)
 

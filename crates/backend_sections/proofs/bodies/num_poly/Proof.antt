@@ -6,27 +6,21 @@ use Rattle.backend_sections.proofs.bodies.num_poly.Reads as reads
 use Rattle.backend_sections.proofs.bodies.num_poly.Lts as lts
 use Rattle.backend_sections.proofs.bodies.num_witness.Reads as num-witness-reads
 
--- src/bodies.rt:216:9
 num-witness-requires : tie.Need-num-witness-requires
 num-witness-requires c κs = search needs
 
--- src/bodies.rt:217:5
 shared-slice-read-result : tie.Need-shared-slice-read-result
 shared-slice-read-result c = search needs
 
--- src/bodies.rt:217:18
 shared-slice-read-result-2 : tie.Need-shared-slice-read-result-2
 shared-slice-read-result-2 c = search needs
 
--- src/bodies.rt:217:5
 add-result : tie.Need-add-result
 add-result c = search needs
 
--- src/bodies.rt:217:5
 add-result-2 : tie.Need-add-result-2
 add-result-2 c = search needs
 
--- src/bodies.rt:212:1
 returns : tie.Need-returns
 returns c = polys (c .before .before .before .before .args .circuit .now) _ (c .before .before .before .before .pre .0) (c .before .before .num-witness .ensures)
 

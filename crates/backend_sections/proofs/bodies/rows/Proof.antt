@@ -1,4 +1,4 @@
--- Rows of the k of circuit words. Assumes nothing.
+-- Rows of the k of circuit words.
 use mathlib.Core.Path.{ap, _∙_}
 use Prim.Native.Nat.{ℕ, _^_}
 use borrow.Author.Needs.{needs}

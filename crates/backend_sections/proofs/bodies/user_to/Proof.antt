@@ -1,4 +1,4 @@
--- The sum of the second word of each round. Assumes nothing.
+-- The sum of the second word of each round.
 use Rattle.backend.proofs.Numbers.{user-sum}
 use borrow.Author.Needs.{needs}
 use Rattle.backend_sections.proofs.bodies.user_to.Statement.{statement}

@@ -1,4 +1,4 @@
--- The sum of the first word of each round. Assumes nothing.
+-- The sum of the first word of each round.
 use Rattle.backend.proofs.Numbers.{witness-sum}
 use borrow.Author.Needs.{needs}
 use Rattle.backend_sections.proofs.bodies.witness_to.Statement.{statement}

@@ -26,35 +26,27 @@ Inv-loop2 cells polys named cell-count i of₀ count₀ q₀ of count q = Gather
 abbrev μ-loop2 : tie.MeasureT-loop2
 μ-loop2 cells polys named cell-count i of₀ count₀ q₀ of count q = polys - q
 
--- src/copied.rt:40:5
 loop-holds : tie.Need-loop-holds Inv-loop μ-loop Inv-loop2 μ-loop2
 loop-holds c = named-none (c .args .cells .now) (replicate 72 false) refl
 
--- src/copied.rt:41:23
 mul-q : tie.Need-mul-q Inv-loop μ-loop Inv-loop2 μ-loop2
 mul-q c = search needs
 
--- src/copied.rt:41:17
 mul-q-2 : tie.Need-mul-q-2 Inv-loop μ-loop Inv-loop2 μ-loop2
 mul-q-2 c = search needs
 
--- src/copied.rt:41:17
 shared-slice-read-q : tie.Need-shared-slice-read-q Inv-loop μ-loop Inv-loop2 μ-loop2
 shared-slice-read-q c = search needs
 
--- src/copied.rt:43:13
 array-write-named : tie.Need-array-write-named Inv-loop μ-loop Inv-loop2 μ-loop2
 array-write-named c = search needs
 
--- src/copied.rt:45:9
 add-i : tie.Need-add-i Inv-loop μ-loop Inv-loop2 μ-loop2
 add-i c = search needs
 
--- src/copied.rt:40:5
 loop-less : tie.Need-loop-less Inv-loop μ-loop Inv-loop2 μ-loop2
 loop-less c = search needs
 
--- src/copied.rt:40:5
 loop-again : tie.Need-loop-again Inv-loop μ-loop Inv-loop2 μ-loop2
 loop-again c =
     let a = c .before .before .before .before .args in
@@ -63,35 +55,27 @@ loop-again c =
     (λ w. subst (λ (l : List Bool). Named (a .cells .now) l (c .before .before .before .loop .i + 1)) (sym (w .1)) (named-past (a .cells .now) (c .before .before .before .loop .named) (c .before .before .before .loop .i) (c .before .before .before .loop .inv) (c .before .before .loop-test .taken) (w .0 .left)))
     (c .if1 .came)
 
--- src/copied.rt:50:5
 loop2-holds : tie.Need-loop2-holds Inv-loop μ-loop Inv-loop2 μ-loop2
 loop2-holds c = let a = c .before .before .args in gathered-none (a .cells .now) (a .polys) (replicate 72 0) refl
 
--- src/copied.rt:51:12
 array-read-if2 : tie.Need-array-read-if2 Inv-loop μ-loop Inv-loop2 μ-loop2
 array-read-if2 c = search needs
 
--- src/copied.rt:52:13
 mul-of : tie.Need-mul-of Inv-loop μ-loop Inv-loop2 μ-loop2
 mul-of c = search needs
 
--- src/copied.rt:52:13
 array-write-of : tie.Need-array-write-of Inv-loop μ-loop Inv-loop2 μ-loop2
 array-write-of c = search needs
 
--- src/copied.rt:53:13
 add-count : tie.Need-add-count Inv-loop μ-loop Inv-loop2 μ-loop2
 add-count c = search needs
 
--- src/copied.rt:55:9
 add-q : tie.Need-add-q Inv-loop μ-loop Inv-loop2 μ-loop2
 add-q c = search needs
 
--- src/copied.rt:50:5
 loop2-less : tie.Need-loop2-less Inv-loop μ-loop Inv-loop2 μ-loop2
 loop2-less c = search needs
 
--- src/copied.rt:50:5
 loop2-again : tie.Need-loop2-again Inv-loop μ-loop Inv-loop2 μ-loop2
 loop2-again c =
     let a = c .before .before .before .before .before .args in
@@ -104,7 +88,6 @@ loop2-again c =
     (gathered-same (a .cells .now) (a .polys) (c .before .before .loop2 .of) (c .before .before .loop2 .count) (c .before .before .loop2 .q) (c .before .before .loop2 .inv) (c .before .loop2-test .taken) (sym (named-all (a .cells .now) (c .before .before .before .before .loop .named) (c .before .before .before .before .loop .i) (c .before .before .before .before .loop .inv) (c .before .before .before .loop-test .left) (c .before .before .loop2 .q) (let t = (c .before .loop2-test .taken) in let m = c .before .before .before .before .before .pre in omega arith)) ∙ w .0 .left)))
     (c .if2 .came)
 
--- src/copied.rt:33:1
 returns : tie.Need-returns Inv-loop μ-loop Inv-loop2 μ-loop2
 returns c =
     let a = c .before .before .before .before .args in

@@ -1,4 +1,4 @@
--- The part of the words between the section's start and its end is its body. Assumes nothing.
+-- The part of the words between the section's start and its end is its body.
 use borrow.Author.Needs.{needs}
 use Rattle.backend.proofs.Sections.{body-part}
 use Rattle.backend_sections.proofs.reader.section_words.Statement.{statement}

@@ -15,35 +15,27 @@ Inv-loop words limit i₀ i = Walked (λ (w : ℕ). ltb w limit) (λ (i : ℕ). 
 abbrev μ-loop : tie.MeasureT-loop
 μ-loop words limit i₀ i = length words - i
 
--- src/words.rt:14:5
 loop-holds : tie.Need-loop-holds Inv-loop μ-loop
 loop-holds c = walk-none _ _ _
 
--- src/words.rt:15:21
 mul-if1 : tie.Need-mul-if1 Inv-loop μ-loop
 mul-if1 c = omega arith
 
--- src/words.rt:15:21
 shared-slice-read-if1 : tie.Need-shared-slice-read-if1 Inv-loop μ-loop
 shared-slice-read-if1 c = omega arith
 
--- src/words.rt:16:13
 returns : tie.Need-returns Inv-loop μ-loop
 returns c = list-fails _ _ 0 (c .before .before .before .loop .i) (c .before .before .loop-test .taken) (le-ltb _ _ (c .if1 .taken))
 
--- src/words.rt:18:9
 add-i : tie.Need-add-i Inv-loop μ-loop
 add-i c = omega arith
 
--- src/words.rt:14:5
 loop-less : tie.Need-loop-less Inv-loop μ-loop
 loop-less c = omega arith
 
--- src/words.rt:14:5
 loop-again : tie.Need-loop-again Inv-loop μ-loop
 loop-again c = walk-more _ _ _ (c .before .before .before .loop .i) (c .before .before .before .loop .inv) (c .before .before .loop-test .taken) (lt-ltb _ _ (c .if1 .left))
 
--- src/words.rt:10:1
 returns-2 : tie.Need-returns-2 Inv-loop μ-loop
 returns-2 c = list-done _ _ 0 (c .before .loop .i) (c .before .loop .inv) (c .loop-test .left)
 

@@ -1,4 +1,4 @@
--- `all_elements` meets its contract. Assumes nothing.
+-- `all_elements` meets its contract.
 use native.Mathlib.Omega.{arith}
 use Prim.Native.Nat.{ℕ, _-_}
 use lib.ListN.{length, getD}

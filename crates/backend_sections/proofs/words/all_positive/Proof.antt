@@ -14,43 +14,33 @@ Inv-loop words size j n i₀ i = Walked (ltb 0) (λ (i : ℕ). getD words (i * s
 abbrev μ-loop : tie.MeasureT-loop
 μ-loop words size j n i₀ i = n - i
 
--- src/words.rt:29:5
 loop-holds : tie.Need-loop-holds Inv-loop μ-loop
 loop-holds c = walk-none _ _ _
 
--- src/words.rt:30:18
 mul-if1 : tie.Need-mul-if1 Inv-loop μ-loop
 mul-if1 c = omega (arith, (entry-inside (c .before .loop .i) (c .before .before .args .n) (c .before .before .args .j) (c .before .before .args .size) (length (c .before .before .args .words .now)) (c .loop-test .taken) (c .before .before .pre .0) (c .before .before .pre .1)))
 
--- src/words.rt:30:18
 add-if1 : tie.Need-add-if1 Inv-loop μ-loop
 add-if1 c = omega (arith, (entry-inside (c .before .loop .i) (c .before .before .args .n) (c .before .before .args .j) (c .before .before .args .size) (length (c .before .before .args .words .now)) (c .loop-test .taken) (c .before .before .pre .0) (c .before .before .pre .1)))
 
--- src/words.rt:30:12
 mul-if1-2 : tie.Need-mul-if1-2 Inv-loop μ-loop
 mul-if1-2 c = omega (arith, (entry-inside (c .before .loop .i) (c .before .before .args .n) (c .before .before .args .j) (c .before .before .args .size) (length (c .before .before .args .words .now)) (c .loop-test .taken) (c .before .before .pre .0) (c .before .before .pre .1)))
 
--- src/words.rt:30:12
 shared-slice-read-if1 : tie.Need-shared-slice-read-if1 Inv-loop μ-loop
 shared-slice-read-if1 c = omega (arith, (entry-inside (c .before .before .loop .i) (c .before .before .before .args .n) (c .before .before .before .args .j) (c .before .before .before .args .size) (length (c .before .before .before .args .words .now)) (c .before .loop-test .taken) (c .before .before .before .pre .0) (c .before .before .before .pre .1)))
 
--- src/words.rt:31:13
 returns : tie.Need-returns Inv-loop μ-loop
 returns c = walk-fails _ _ _ (c .before .before .before .loop .i) (c .before .before .loop-test .taken) (is-nought _ (c .if1 .taken))
 
--- src/words.rt:33:9
 add-i : tie.Need-add-i Inv-loop μ-loop
 add-i c = omega arith
 
--- src/words.rt:29:5
 loop-less : tie.Need-loop-less Inv-loop μ-loop
 loop-less c = omega arith
 
--- src/words.rt:29:5
 loop-again : tie.Need-loop-again Inv-loop μ-loop
 loop-again c = walk-more _ _ _ (c .before .before .before .loop .i) (c .before .before .before .loop .inv) (c .before .before .loop-test .taken) (not-nought _ (c .if1 .left))
 
--- src/words.rt:24:1
 returns-2 : tie.Need-returns-2 Inv-loop μ-loop
 returns-2 c = walk-done _ _ _ (c .before .loop .i) (c .before .loop .inv) (c .loop-test .left)
 

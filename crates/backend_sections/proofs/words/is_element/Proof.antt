@@ -1,4 +1,4 @@
--- `is_element` meets its contract. Assumes nothing.
+-- `is_element` meets its contract.
 use mathlib.Core.Path.{sym, _∙_}
 use borrow.Author.Needs.{needs}
 use Rattle.backend_sections.proofs.words.Elements.{answer-element, answer-large}

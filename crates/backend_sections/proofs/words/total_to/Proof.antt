@@ -13,51 +13,39 @@ Inv-loop words size j n limit sum₀ i₀ sum i = Summed (λ (i : ℕ). getD wor
 abbrev μ-loop : tie.MeasureT-loop
 μ-loop words size j n limit sum₀ i₀ sum i = n - i
 
--- src/words.rt:45:5
 loop-holds : tie.Need-loop-holds Inv-loop μ-loop
 loop-holds c = sum-none _ _ _
 
--- src/words.rt:46:26
 mul-word : tie.Need-mul-word Inv-loop μ-loop
 mul-word c = omega (arith, (entry-inside (c .before .loop .i) (c .before .before .args .n) (c .before .before .args .j) (c .before .before .args .size) (length (c .before .before .args .words .now)) (c .loop-test .taken) (c .before .before .pre .0) (c .before .before .pre .1)))
 
--- src/words.rt:46:26
 add-word : tie.Need-add-word Inv-loop μ-loop
 add-word c = omega (arith, (entry-inside (c .before .loop .i) (c .before .before .args .n) (c .before .before .args .j) (c .before .before .args .size) (length (c .before .before .args .words .now)) (c .loop-test .taken) (c .before .before .pre .0) (c .before .before .pre .1)))
 
--- src/words.rt:46:20
 mul-word-2 : tie.Need-mul-word-2 Inv-loop μ-loop
 mul-word-2 c = omega (arith, (entry-inside (c .before .loop .i) (c .before .before .args .n) (c .before .before .args .j) (c .before .before .args .size) (length (c .before .before .args .words .now)) (c .loop-test .taken) (c .before .before .pre .0) (c .before .before .pre .1)))
 
--- src/words.rt:46:20
 shared-slice-read-word : tie.Need-shared-slice-read-word Inv-loop μ-loop
 shared-slice-read-word c = omega (arith, (entry-inside (c .before .before .loop .i) (c .before .before .before .args .n) (c .before .before .before .args .j) (c .before .before .before .args .size) (length (c .before .before .before .args .words .now)) (c .before .loop-test .taken) (c .before .before .before .pre .0) (c .before .before .before .pre .1)))
 
--- src/words.rt:47:12
 sub-if1 : tie.Need-sub-if1 Inv-loop μ-loop
 sub-if1 c = c .before .before .loop .inv .low
 
--- src/words.rt:48:13
 returns : tie.Need-returns Inv-loop μ-loop
 returns c = sum-past _ _ _ (c .before .before .before .loop .sum) (c .before .before .before .loop .i) (c .before .before .before .loop .inv) (c .before .before .loop-test .taken) (c .if1 .taken)
 
--- src/words.rt:50:9
 add-sum : tie.Need-add-sum Inv-loop μ-loop
 add-sum c = omega arith
 
--- src/words.rt:51:9
 add-i : tie.Need-add-i Inv-loop μ-loop
 add-i c = omega arith
 
--- src/words.rt:45:5
 loop-less : tie.Need-loop-less Inv-loop μ-loop
 loop-less c = omega arith
 
--- src/words.rt:45:5
 loop-again : tie.Need-loop-again Inv-loop μ-loop
 loop-again c = sum-more _ _ _ (c .before .before .before .loop .sum) (c .before .before .before .loop .i) (c .before .before .before .loop .inv) (c .before .before .loop-test .taken) (c .if1 .left)
 
--- src/words.rt:39:1
 returns-2 : tie.Need-returns-2 Inv-loop μ-loop
 returns-2 c = sum-done _ _ _ (c .before .loop .sum) (c .before .loop .i) (c .before .loop .inv) (c .loop-test .left)
 

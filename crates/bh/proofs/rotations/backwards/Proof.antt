@@ -17,23 +17,18 @@ Inv-loop b n k row₀ i₀ row i = (i ≤ n) × (row ≡ iter (prevRow k) i b) �
 abbrev μ-loop : tie.MeasureT-loop
 μ-loop b n k row₀ i₀ row i = n - i
 
--- src/rotations.rt:70:5
 loop-holds : tie.Need-loop-holds Inv-loop μ-loop
 loop-holds c = (omega arith, sym (iter-zero (prevRow (c .args .k)) (c .args .b)), c .pre .1)
 
--- src/rotations.rt:71:9
 prev-requires : tie.Need-prev-requires Inv-loop μ-loop
 prev-requires c κs = (c .before .before .pre .0, c .before .loop .inv .2)
 
--- src/rotations.rt:72:9
 add-i : tie.Need-add-i Inv-loop μ-loop
 add-i c = search needs
 
--- src/rotations.rt:70:5
 loop-less : tie.Need-loop-less Inv-loop μ-loop
 loop-less c = omega arith
 
--- src/rotations.rt:70:5
 loop-again : tie.Need-loop-again Inv-loop μ-loop
 loop-again c =
     let a = c .before .before .before .args in
@@ -43,7 +38,6 @@ loop-again c =
       c .prev .ensures .1,
     )
 
--- src/rotations.rt:64:1
 returns : tie.Need-returns Inv-loop μ-loop
 returns c =
     let a = c .before .before .args in

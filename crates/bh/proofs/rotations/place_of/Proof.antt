@@ -1,4 +1,4 @@
-use Rattle.bh.proofs.Place.{place-nought, place-start, place-here, place-step, place-end}
+use Rattle.bh.proofs.Place.{place-zero, place-start, place-here, place-step, place-end}
 use Rattle.bh.proofs.Words.{shifted}
 use mathlib.Core.Path.{_≡_, ap, _∙_, sym, subst, subst⁻¹}
 use Prim.Native.Nat.{ℕ, suc, _+_, _-_, _*_, _%_, _^_, _≤_, _<_}
@@ -18,15 +18,12 @@ Inv-loop row k n at₀ place₀ at place =
 abbrev μ-loop : tie.MeasureT-loop
 μ-loop row k n at₀ place₀ at place = n - place
 
--- src/rotations.rt:94:9
 returns : tie.Need-returns Inv-loop μ-loop
-returns c = place-nought (c .before .args .k) (c .before .args .row) (c .if1 .taken)
+returns c = place-zero (c .before .args .k) (c .before .args .row) (c .if1 .taken)
 
--- src/rotations.rt:96:13
 shl-n : tie.Need-shl-n Inv-loop μ-loop
 shl-n c = omega arith
 
--- src/rotations.rt:99:5
 loop-holds : tie.Need-loop-holds Inv-loop μ-loop
 loop-holds c =
     let k = c .before .args .k in
@@ -40,7 +37,6 @@ loop-holds c =
       place-start k r (c .if1 .left) ∙ ap (λ (x : ℕ). 1 + seek k (x - 1) 1 r) (sym e),
     )
 
--- src/rotations.rt:101:13
 returns-2 : tie.Need-returns-2 Inv-loop μ-loop
 returns-2 c =
     let k = c .before .before .before .before .args .k in
@@ -48,19 +44,15 @@ returns-2 c =
     let l = c .before .before .loop in
     place-here k (l .place) (1 * 2 ^ k % 18446744073709551616 - l .place) (l .at) r (c .if2 .taken) (l .inv .4)
 
--- src/rotations.rt:103:9
 next-requires : tie.Need-next-requires Inv-loop μ-loop
 next-requires c κs = (c .before .before .before .before .pre .1, c .before .before .loop .inv .3)
 
--- src/rotations.rt:104:9
 add-place : tie.Need-add-place Inv-loop μ-loop
 add-place c = omega arith
 
--- src/rotations.rt:99:5
 loop-less : tie.Need-loop-less Inv-loop μ-loop
 loop-less c = omega arith
 
--- src/rotations.rt:99:5
 loop-again : tie.Need-loop-again Inv-loop μ-loop
 loop-again c =
     let k = c .before .before .before .before .before .args .k in
@@ -73,7 +65,6 @@ loop-again c =
       place-step k (1 * 2 ^ k % 18446744073709551616) (l .place) (l .at) (c .next .result) r (c .before .if2 .left) (c .before .before .loop-test .taken) (c .next .ensures .0) (l .inv .4),
     )
 
--- src/rotations.rt:89:1
 returns-3 : tie.Need-returns-3 Inv-loop μ-loop
 returns-3 c =
     let k = c .before .before .before .args .k in

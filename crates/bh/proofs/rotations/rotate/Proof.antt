@@ -11,19 +11,15 @@ use Rattle.bh.proofs.rotations.backwards.Reads as backwards-reads
 use Rattle.bh.proofs.rotations.distance.Reads as distance-reads
 use Rattle.bh.proofs.rotations.forwards.Reads as forwards-reads
 
--- src/rotations.rt:130:9
 distance-requires : tie.Need-distance-requires
 distance-requires c κs = search needs
 
--- src/rotations.rt:132:9
 backwards-requires : tie.Need-backwards-requires
 backwards-requires c κs = search needs
 
--- src/rotations.rt:134:9
 forwards-requires : tie.Need-forwards-requires
 forwards-requires c κs = search needs
 
--- src/rotations.rt:125:1
 returns : tie.Need-returns
 returns c =
     let a = c .before .before .before .before .args in
@@ -32,7 +28,6 @@ returns c =
       c .backwards .ensures .1,
     )
 
--- src/rotations.rt:125:1
 returns-2 : tie.Need-returns-2
 returns-2 c =
     let a = c .before .before .before .before .args in

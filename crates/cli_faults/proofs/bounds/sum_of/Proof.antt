@@ -1,4 +1,4 @@
--- `sum_of` is safe and ends. The measure is the words left. Assumes nothing.
+-- `sum_of` is safe and ends. The measure is the words left.
 use Prim.Native.Nat.{_-_}
 use borrow.Author.Needs.{needs}
 use Rattle.cli_faults.proofs.bounds.sum_of.Statement.{statement}

@@ -1,4 +1,4 @@
--- `cycle_of` is safe and ends. The measure is the cycles left. Assumes nothing.
+-- `cycle_of` is safe and ends. The measure is the cycles left.
 use Prim.Native.Nat.{_-_}
 use borrow.Author.Needs.{needs}
 use Rattle.cli_faults.proofs.cells.cycle_of.Statement.{statement}

@@ -1,4 +1,4 @@
--- `seen` is safe and ends. The measure is the cells left. Assumes nothing.
+-- `seen` is safe and ends. The measure is the cells left.
 use Prim.Native.Nat.{_-_}
 use borrow.Author.Needs.{needs}
 use Rattle.cli_faults.proofs.cells.seen.Statement.{statement}

@@ -1,4 +1,4 @@
--- `side_degree` is safe and ends. The measure is the pairs left. Assumes nothing.
+-- `side_degree` is safe and ends. The measure is the pairs left.
 use Prim.Native.Nat.{_-_}
 use borrow.Author.Needs.{needs}
 use Rattle.cli_faults.proofs.degrees.side_degree.Statement.{statement}

@@ -1,4 +1,4 @@
--- `begins` is safe and ends. The measure is the sections left. Assumes nothing.
+-- `begins` is safe and ends. The measure is the sections left.
 use Prim.Native.Nat.{_-_}
 use borrow.Author.Needs.{needs}
 use Rattle.cli_faults.proofs.fault.begins.Statement.{statement}

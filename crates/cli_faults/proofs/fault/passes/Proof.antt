@@ -1,4 +1,4 @@
--- `passes` is safe and ends. The measure is the words left. Assumes nothing.
+-- `passes` is safe and ends. The measure is the words left.
 use Prim.Native.Nat.{_-_}
 use borrow.Author.Needs.{needs}
 use Rattle.cli_faults.proofs.fault.passes.Statement.{statement}

@@ -1,4 +1,4 @@
--- `search` is safe and ends. The measure is the entries left. Assumes nothing.
+-- `search` is safe and ends. The measure is the entries left.
 use Prim.Native.Nat.{_-_}
 use borrow.Author.Needs.{needs}
 use Rattle.cli_faults.proofs.fault.search.Statement.{statement}

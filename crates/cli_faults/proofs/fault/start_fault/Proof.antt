@@ -1,4 +1,4 @@
--- `start_fault` is safe and ends. The measure is the sections left. Assumes nothing.
+-- `start_fault` is safe and ends. The measure is the sections left.
 use Prim.Native.Nat.{_-_}
 use borrow.Author.Needs.{needs}
 use Rattle.cli_faults.proofs.fault.start_fault.Statement.{statement}

@@ -1,4 +1,4 @@
--- `next_name` is safe and ends. The measure is the words left. Assumes nothing.
+-- `next_name` is safe and ends. The measure is the words left.
 use Prim.Native.Nat.{_-_}
 use borrow.Author.Needs.{needs}
 use Rattle.cli_faults.proofs.names.next_name.Statement.{statement}

@@ -1,4 +1,4 @@
--- `times` is safe and ends. The measure is the words left. Assumes nothing.
+-- `times` is safe and ends. The measure is the words left.
 use Prim.Native.Nat.{_-_}
 use borrow.Author.Needs.{needs}
 use Rattle.cli_faults.proofs.names.times.Statement.{statement}

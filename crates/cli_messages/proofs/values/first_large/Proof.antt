@@ -1,4 +1,4 @@
--- `first_large` is safe and ends. The measure is the words left. Assumes nothing.
+-- `first_large` is safe and ends. The measure is the words left.
 use Prim.Native.Nat.{_-_}
 use borrow.Author.Needs.{needs}
 use lib.ListN.{length}

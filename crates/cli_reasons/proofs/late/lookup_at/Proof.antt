@@ -1,4 +1,4 @@
--- `lookup_at` is safe and ends. The measure is the lookups left. Assumes nothing.
+-- `lookup_at` is safe and ends. The measure is the lookups left.
 use Prim.Native.Nat.{_-_}
 use borrow.Author.Needs.{needs}
 use Rattle.cli_reasons.proofs.late.lookup_at.Statement.{statement}

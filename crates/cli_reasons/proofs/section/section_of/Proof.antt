@@ -1,4 +1,4 @@
--- `section_of` is safe and ends. The measure is the sections left. Assumes nothing.
+-- `section_of` is safe and ends. The measure is the sections left.
 use Prim.Native.Nat.{_-_}
 use borrow.Author.Needs.{needs}
 use Rattle.cli_reasons.proofs.section.section_of.Statement.{statement}

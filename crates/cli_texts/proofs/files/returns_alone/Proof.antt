@@ -1,4 +1,4 @@
--- `returns_alone` is safe and ends. The measure is the turns left. Assumes nothing.
+-- `returns_alone` is safe and ends. The measure is the turns left.
 use borrow.Author.Needs.{needs}
 use Rattle.cli_texts.proofs.files.returns_alone.Statement.{statement}
 use Rattle.cli_texts.proofs.files.returns_alone.Tie as tie

@@ -1,4 +1,4 @@
--- `see` is safe and ends. The measure is the bytes left. Assumes nothing.
+-- `see` is safe and ends. The measure is the bytes left.
 use Prim.Native.Nat.{_-_}
 use borrow.Author.Needs.{needs}
 use lib.ListN.{length}

@@ -1,4 +1,4 @@
--- `show_bytes` is safe and ends. The measure is the places left. Assumes nothing.
+-- `show_bytes` is safe and ends. The measure is the places left.
 use Prim.Native.Nat.{_-_}
 use borrow.Author.Needs.{needs}
 use Rattle.cli_texts.proofs.token.show_bytes.Statement.{statement}

@@ -1,4 +1,4 @@
--- `lagrange` meets its contract: the place that the word names. Assumes nothing.
+-- `lagrange` meets its contract: the place that the word names.
 use mathlib.Core.Path.{_∙_, subst⁻¹}
 use Prim.Native.Nat.{ℕ, _≤_}
 use lib.Pow.{pow-pos}

@@ -1,4 +1,4 @@
--- `answer_one` meets its contract. Assumes nothing.
+-- `answer_one` meets its contract.
 use native.Mathlib.Omega.{arith}
 use Rattle.hyperplonk.proofs.Answered.{kept, one}
 use borrow.Author.Needs.{needs}

@@ -1,4 +1,4 @@
--- `answer_three` meets its contract. Assumes nothing.
+-- `answer_three` meets its contract.
 use native.Mathlib.Omega.{arith}
 use lib.ListN.{length-set}
 use Rattle.hyperplonk.proofs.Answered.{kept, three}

@@ -1,4 +1,4 @@
--- `hyperplonk_build` meets its contract. Assumes nothing.
+-- `hyperplonk_build` meets its contract.
 use Rattle.hyperplonk.proofs.Answered.{entry-built}
 use borrow.Author.Needs.{needs}
 use Rattle.hyperplonk.proofs.entry.hyperplonk_build.Statement.{statement}

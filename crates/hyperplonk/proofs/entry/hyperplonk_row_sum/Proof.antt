@@ -1,4 +1,4 @@
--- `hyperplonk_row_sum` meets its contract. Assumes nothing.
+-- `hyperplonk_row_sum` meets its contract.
 use Rattle.hyperplonk.proofs.Answered.{entry-summed}
 use borrow.Author.Needs.{needs}
 use Rattle.hyperplonk.proofs.entry.hyperplonk_row_sum.Statement.{statement}

@@ -1,4 +1,4 @@
--- `sizes` is safe and ends. The measure is the columns left. Assumes nothing.
+-- `sizes` is safe and ends. The measure is the columns left.
 use borrow.Author.Needs.{needs}
 use Rattle.hyperplonk_cli.proofs.cuts.sizes.Statement.{statement}
 use Rattle.hyperplonk_cli.proofs.cuts.sizes.Tie as tie

@@ -1,4 +1,4 @@
--- `copied` is safe and ends. The measure is the columns left. Assumes nothing.
+-- `copied` is safe and ends. The measure is the columns left.
 use Prim.Native.Nat.{_-_}
 use borrow.Author.Needs.{needs}
 use Rattle.hyperplonk_cli.proofs.explain.copied.Statement.{statement}

@@ -1,4 +1,4 @@
--- `put` is safe and ends. The measure is what is left of the text. Assumes nothing.
+-- `put` is safe and ends. The measure is what is left of the text.
 use Prim.Native.Nat.{_-_}
 use borrow.Author.Needs.{needs}
 use lib.ListN.{length}

@@ -1,4 +1,4 @@
--- `put_words` is safe and ends. The measure is the words left. Assumes nothing.
+-- `put_words` is safe and ends. The measure is the words left.
 use Prim.Native.Nat.{_-_}
 use borrow.Author.Needs.{needs}
 use lib.ListN.{length}

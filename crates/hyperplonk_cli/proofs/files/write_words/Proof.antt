@@ -1,4 +1,4 @@
--- `write_words` is safe and ends. The measure is the words left. Assumes nothing.
+-- `write_words` is safe and ends. The measure is the words left.
 use borrow.Author.Needs.{needs}
 use Rattle.hyperplonk_cli.proofs.files.write_words.Statement.{statement}
 use Rattle.hyperplonk_cli.proofs.files.write_words.Tie as tie

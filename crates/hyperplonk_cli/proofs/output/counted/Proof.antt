@@ -1,4 +1,4 @@
--- `counted` is safe. Assumes nothing.
+-- `counted` is safe.
 use borrow.Author.Needs.{needs}
 use Rattle.bh.proofs.Signs.{plus-casts}
 use Rattle.hyperplonk_cli.proofs.output.counted.Statement.{statement}

@@ -1,4 +1,4 @@
--- `values` is safe and ends. The measure is the values left. Assumes nothing.
+-- `values` is safe and ends. The measure is the values left.
 use Prim.Native.Nat.{_-_}
 use borrow.Author.Needs.{needs}
 use Rattle.hyperplonk_cli.proofs.readings.values.Statement.{statement}

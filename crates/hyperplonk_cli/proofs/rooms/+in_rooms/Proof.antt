@@ -1,4 +1,4 @@
--- `in_rooms` is safe and ends. The measure is the sizes left. Assumes nothing.
+-- `in_rooms` is safe and ends. The measure is the sizes left.
 use borrow.Author.Needs.{needs}
 use Prim.Native.Nat.{ℕ, _<_}
 use borrow.Fn.Kinds.{In}

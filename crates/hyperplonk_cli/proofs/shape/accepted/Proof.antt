@@ -1,4 +1,4 @@
--- `accepted` meets what the numbers require: the copied columns are as many as counted. Assumes nothing.
+-- `accepted` meets what the numbers require: the copied columns are as many as counted.
 use mathlib.Core.Path.{_≡_, sym, ap, _∙_}
 use mathlib.Core.List.{List}
 use Prim.Native.Nat.{ℕ, _≤_}

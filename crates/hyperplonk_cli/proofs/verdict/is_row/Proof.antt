@@ -1,4 +1,4 @@
--- `is_row` is safe and ends. The measure is the values left. Assumes nothing.
+-- `is_row` is safe and ends. The measure is the values left.
 use Prim.Native.Nat.{_-_}
 use lib.ListN.{length}
 use borrow.Author.Needs.{needs}

@@ -1,4 +1,4 @@
--- `write_columns` is safe and ends. The measure is the words left. Assumes nothing.
+-- `write_columns` is safe and ends. The measure is the words left.
 use borrow.Author.Needs.{needs}
 use Rattle.hyperplonk_cli.proofs.write_out.write_columns.Statement.{statement}
 use Rattle.hyperplonk_cli.proofs.write_out.write_columns.Tie as tie

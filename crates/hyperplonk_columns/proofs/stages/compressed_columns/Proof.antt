@@ -1,4 +1,4 @@
--- `compressed_columns` meets its contract. Assumes nothing.
+-- `compressed_columns` meets its contract.
 use mathlib.Core.Path.{_∙_}
 use native.Mathlib.Omega.{arith}
 use Rattle.hyperplonk_prepare.proofs.Accepted as accepted

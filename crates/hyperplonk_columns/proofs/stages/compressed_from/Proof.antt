@@ -1,4 +1,4 @@
--- `compressed_from` meets its contract. Assumes nothing.
+-- `compressed_from` meets its contract.
 use Rattle.hyperplonk_prepare.proofs.Accepted as accepted
 use Rattle.hyperplonk_columns.proofs.stages.Stages.{compressed-asks, compressed-written}
 use borrow.Author.Needs.{needs}

@@ -1,4 +1,4 @@
--- `instance_columns` meets its contract. Assumes nothing.
+-- `instance_columns` meets its contract.
 use mathlib.Core.Path.{_∙_}
 use Rattle.hyperplonk_prepare.proofs.Accepted as accepted
 use Rattle.hyperplonk_columns.proofs.stages.Stages.{instance-asks, instance-written}

@@ -1,4 +1,4 @@
--- `layout_of` meets its contract. Assumes nothing.
+-- `layout_of` meets its contract.
 use mathlib.Core.Path.{_∙_}
 use Rattle.hyperplonk_prepare.proofs.Accepted as accepted
 use Rattle.hyperplonk_columns.proofs.stages.Stages.{layout-is}

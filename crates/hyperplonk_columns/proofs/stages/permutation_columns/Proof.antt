@@ -1,4 +1,4 @@
--- `permutation_columns` meets its contract. Assumes nothing.
+-- `permutation_columns` meets its contract.
 use native.Mathlib.Omega.{arith}
 use Rattle.hyperplonk_prepare.proofs.Accepted as accepted
 use Rattle.hyperplonk_columns.proofs.stages.Stages.{permutations-fit, permutation-asks, permutation-written}

@@ -1,4 +1,4 @@
--- `z_columns` meets its contract. Assumes nothing.
+-- `z_columns` meets its contract.
 use mathlib.Core.Path.{ap, _∙_}
 use native.Mathlib.Omega.{arith}
 use lib.ListN.{length}

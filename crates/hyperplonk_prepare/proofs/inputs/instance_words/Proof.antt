@@ -1,4 +1,4 @@
--- `instance_words` meets its contract. Assumes nothing.
+-- `instance_words` meets its contract.
 use Rattle.hyperplonk_prepare.proofs.Accepted.{laid-of}
 use Rattle.hyperplonk_prepare.proofs.Computed.{instances-from}
 use borrow.Author.Needs.{needs}

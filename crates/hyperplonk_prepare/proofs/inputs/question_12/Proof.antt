@@ -11,31 +11,24 @@ use Rattle.backend_sections.proofs.bodies.num_witness.Reads as num-witness-read
 use Rattle.backend_sections.proofs.bodies.rows.Reads as rows-reads
 use Rattle.hyperplonk_prepare.proofs.inputs.instance_words.Reads as instance-words-reads
 
--- src/inputs.rt:149:9
 instance-words-requires : tie.Need-instance-words-requires
 instance-words-requires c κs = search needs
 
--- src/inputs.rt:150:9
 num-witness-requires : tie.Need-num-witness-requires
 num-witness-requires c κs = laid-counted (c .before .before .before .before .before .args .circuit .now) (c .before .before .before .before .before .pre)
 
--- src/inputs.rt:151:9
 rows-requires : tie.Need-rows-requires
 rows-requires c κs = laid-of (c .before .before .before .before .before .before .args .circuit .now) (c .before .before .before .before .before .before .pre)
 
--- src/inputs.rt:152:9
 num-user-requires : tie.Need-num-user-requires
 num-user-requires c κs = laid-counted (c .before .before .before .before .before .before .before .args .circuit .now) (c .before .before .before .before .before .before .before .pre)
 
--- src/inputs.rt:153:17
 mul-words : tie.Need-mul-words
 mul-words c = omega (arith, witness-fit (c .before .before .before .before .before .before .before .before .args .circuit .now) (c .before .before .before .before .before .before .before .before .pre) _ _ (c .before .before .num-witness .ensures) (c .before .rows .ensures))
 
--- src/inputs.rt:156:39
 add-result : tie.Need-add-result
 add-result c = omega (arith, few-user (c .before .before .before .before .before .before .before .before .args .circuit .now) (c .before .before .before .before .before .before .before .before .pre), c .num-user .ensures)
 
--- src/inputs.rt:145:1
 returns : tie.Need-returns
 returns c = twelve (c .before .before .before .before .before .before .before .before .args .circuit .now) (c .before .before .before .before .before .before .before .before .pre) (c .before .before .before .before .before .before .before .before .args .instance .now) (c .before .before .before .before .before .before .before .before .args .witness .now) (c .before .before .before .before .before .before .before .before .args .challenges .now) _ _ _ _ (c .before .before .before .instance-words .ensures) (c .before .before .num-witness .ensures) (c .before .rows .ensures) (c .num-user .ensures)
 

@@ -6,19 +6,15 @@ use Rattle.hyperplonk_prepare.proofs.inputs.question_13.Reads as reads
 use Rattle.hyperplonk_prepare.proofs.inputs.question_13.Lts as lts
 use Rattle.backend_sections.proofs.words.all_elements.Reads as all-elements-reads
 
--- src/inputs.rt:163:9
 all-elements-requires : tie.Need-all-elements-requires
 all-elements-requires c κs = search needs
 
--- src/inputs.rt:164:9
 all-elements-requires-2 : tie.Need-all-elements-requires-2
 all-elements-requires-2 c κs = search needs
 
--- src/inputs.rt:165:9
 all-elements-requires-3 : tie.Need-all-elements-requires-3
 all-elements-requires-3 c κs = search needs
 
--- src/inputs.rt:160:1
 returns : tie.Need-returns
 returns c = thirteen (c .before .before .before .before .before .before .args .instance .now) (c .before .before .before .before .before .before .args .witness .now) (c .before .before .before .before .before .before .args .challenges .now) _ _ _ (c .before .before .all-elements .ensures .0) (c .before .all-elements2 .ensures .0) (c .all-elements3 .ensures .0)
 

@@ -6,31 +6,24 @@ use Rattle.hyperplonk_prepare.proofs.needed.column_words.Tie as tie
 use Rattle.hyperplonk_prepare.proofs.needed.column_words.Reads as reads
 use Rattle.hyperplonk_prepare.proofs.needed.column_words.Lts as lts
 
--- src/needed.rt:103:21
 shared-slice-read-instances : tie.Need-shared-slice-read-instances
 shared-slice-read-instances c = omega (arith, laid-of (c .before .args .circuit .now) (c .before .pre .0) .long)
 
--- src/needed.rt:104:6
 add-result : tie.Need-add-result
 add-result c = omega (arith, columns-low (c .before .before .args .circuit .now) (c .before .before .pre .0) (c .before .before .args .params) (c .before .before .pre .1) .0)
 
--- src/needed.rt:104:29
 mul-result : tie.Need-mul-result
 mul-result c = omega (arith, columns-low (c .before .before .before .args .circuit .now) (c .before .before .before .pre .0) (c .before .before .before .args .params) (c .before .before .before .pre .1) .0)
 
--- src/needed.rt:104:6
 add-result-2 : tie.Need-add-result-2
 add-result-2 c = omega (arith, columns-low (c .before .before .before .args .circuit .now) (c .before .before .before .pre .0) (c .before .before .before .args .params) (c .before .before .before .pre .1) .0)
 
--- src/needed.rt:104:6
 add-result-3 : tie.Need-add-result-3
 add-result-3 c = omega (arith, columns-low (c .before .before .before .before .args .circuit .now) (c .before .before .before .before .pre .0) (c .before .before .before .before .args .params) (c .before .before .before .before .pre .1) .0)
 
--- src/needed.rt:104:5
 mul-result-2 : tie.Need-mul-result-2
 mul-result-2 c = omega (arith, columns-fit (c .before .before .before .before .before .args .circuit .now) (c .before .before .before .before .before .pre .0) (c .before .before .before .before .before .args .params) (c .before .before .before .before .before .pre .1))
 
--- src/needed.rt:99:1
 returns : tie.Need-returns
 returns c = columns-from (c .before .before .before .before .before .args .circuit .now) (c .before .before .before .before .before .pre .0) (c .before .before .before .before .before .args .params) (c .before .before .before .before .before .pre .1)
 

@@ -1,4 +1,4 @@
--- `composed_nodes` meets its contract. Assumes nothing.
+-- `composed_nodes` meets its contract.
 use Rattle.hyperplonk_prepare.proofs.Accepted.{laid-of}
 use Rattle.hyperplonk_prepare.proofs.Computed.{words-from, decoded-from}
 use Rattle.hyperplonk_prepare.proofs.needed.composed_nodes.Statement.{statement}

@@ -7,19 +7,15 @@ use Rattle.hyperplonk_prepare.proofs.needed.question_14.Lts as lts
 use Rattle.hyperplonk_prepare.proofs.needed.column_words.Reads as column-words-reads
 use Rattle.hyperplonk_prepare.proofs.needed.composed_nodes.Reads as composed-nodes-reads
 
--- src/needed.rt:174:9
 column-words-requires : tie.Need-column-words-requires
 column-words-requires c κs = search needs
 
--- src/needed.rt:175:9
 composed-nodes-requires : tie.Need-composed-nodes-requires
 composed-nodes-requires c κs = search needs
 
--- src/needed.rt:176:27
 mul-result : tie.Need-mul-result
 mul-result c = search needs
 
--- src/needed.rt:170:1
 returns : tie.Need-returns
 returns c = fourteen (c .before .before .before .args .circuit .now) (c .before .before .before .pre .0) _ _ (c .before .before .before .args .columns) (c .before .before .before .args .nodes) (c .before .column-words .ensures) (c .composed-nodes .ensures) (c .before .before .before .pre .1 .1)
 

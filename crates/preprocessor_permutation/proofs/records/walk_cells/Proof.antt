@@ -3,7 +3,6 @@
 --     more, ends       a turn that takes one cell, and the turn that leaves the loop, with the rest of the body.        loops      the loop, by `loop-rule`, with the number of cells left for the variant.        walk      the MIR up to the loop
 -- columns is lent again for each call (`Again.antt`): as `&[u64]` to `cell_label`, and as `&mut [u64]` to `exchange`. starts and cells are Copy, and are kept for the exit.
 -- The context begins with what columns owns, the three tokens, what starts and what cells own; local i then stands at 46 − 2 · i.
--- Assumes nothing.
 use mathlib.Core.Path.{_≡_, refl, sym, ap, subst}
 use mathlib.Core.Bool.{Bool, true, false}
 use Prim.Native.Nat.{ℕ, _+_, _-_, _*_, _≤_, _<_, _^_}

@@ -1,4 +1,4 @@
--- `clear` meets its contract: the words are written one after another. Assumes nothing.
+-- `clear` meets its contract: the words are written one after another.
 use borrow.Author.Needs.{needs}
 use mathlib.Core.Path.{refl}
 use Prim.Native.Nat.{_-_}
@@ -16,40 +16,31 @@ Inv-loop columns₀ at rows i₀ columns i = Filled rows (λ _. 0) columns₀ at
 abbrev μ-loop : tie.MeasureT-loop
 μ-loop columns₀ at rows i₀ columns i = rows - i
 
--- src/blank_column.rt:23:5
 loop-holds : tie.Need-loop-holds Inv-loop μ-loop
 loop-holds c = fill-start _ _ _ _
 
--- src/blank_column.rt:24:17
 add-columns : tie.Need-add-columns Inv-loop μ-loop
 add-columns c = omega arith
 
--- src/blank_column.rt:24:9
 mul-columns : tie.Need-mul-columns Inv-loop μ-loop
 mul-columns c = omega arith
 
--- src/blank_column.rt:24:9
 slice-write-columns : tie.Need-slice-write-columns Inv-loop μ-loop
 slice-write-columns c = omega arith
 
--- src/blank_column.rt:25:9
 add-i : tie.Need-add-i Inv-loop μ-loop
 add-i c = omega arith
 
--- src/blank_column.rt:23:5
 loop-less : tie.Need-loop-less Inv-loop μ-loop
 loop-less c = omega arith
 
--- src/blank_column.rt:23:5
 loop-again : tie.Need-loop-again Inv-loop μ-loop
 loop-again c =
     fill-more _ _ _ _ _ _ (c .before .loop .inv) (c .before .before .pre) (c .loop-test .taken) 0 refl
 
--- src/blank_column.rt:18:1
 same-length : tie.Need-same-length Inv-loop μ-loop
 same-length c = c .before .loop .inv .size
 
--- src/blank_column.rt:18:1
 returns : tie.Need-returns Inv-loop μ-loop
 returns c = fill-zero _ _ _ _ (fill-end _ _ _ _ _ _ (c .before .loop .inv) (c .loop-test .left))
 

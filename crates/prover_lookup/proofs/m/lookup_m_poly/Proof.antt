@@ -1,5 +1,5 @@
 -- `lookup_m_poly` meets its contract: as `m_column`, in the one buffer, where the input and the table stand before the counts and
--- so stay as they are. Assumes nothing.
+-- so stay as they are.
 use borrow.Author.Needs.{needs}
 use mathlib.Core.Logic.{⊎-elim}
 use mathlib.Core.Path.{_≡_, refl, sym, _∙_}
@@ -98,54 +98,42 @@ at-below : (c : tie.After-found Inv-search μ-search Inv-loop μ-loop)
     → c .found .given .0 .0 < c .before .before .before .before .before .before .before .before .before .before .before .before .args .rows
 at-below c = row-below _ _ _ _ (at-is c)
 
--- src/m.rt:67:5
 clear-requires : tie.Need-clear-requires Inv-search μ-search Inv-loop μ-loop
 clear-requires c κs = search needs
 
--- src/m.rt:69:5
 loop-holds : tie.Need-loop-holds Inv-search μ-search Inv-loop μ-loop
 loop-holds c = (refl, omega arith, λ d h e. counted-start _ _ d _ h _ e)
 
--- src/m.rt:70:25
 add-v : tie.Need-add-v Inv-search μ-search Inv-loop μ-loop
 add-v c = search needs
 
--- src/m.rt:70:17
 mul-v : tie.Need-mul-v Inv-search μ-search Inv-loop μ-loop
 mul-v c = search needs
 
--- src/m.rt:70:17
 slice-read-v : tie.Need-slice-read-v Inv-search μ-search Inv-loop μ-loop
 slice-read-v c = search needs
 
--- src/m.rt:72:13
 search-holds : tie.Need-search-holds Inv-search μ-search Inv-loop μ-loop
 search-holds c = (omega arith, none-seen _ _ _)
 
--- src/m.rt:76:13
 add-seen : tie.Need-add-seen Inv-search μ-search Inv-loop μ-loop
 add-seen c = search needs
 
 sub-row : tie.Need-sub-row Inv-search μ-search Inv-loop μ-loop
 sub-row c = search needs
 
--- src/m.rt:77:24
 add-if2 : tie.Need-add-if2 Inv-search μ-search Inv-loop μ-loop
 add-if2 c = search needs
 
--- src/m.rt:77:16
 mul-if2 : tie.Need-mul-if2 Inv-search μ-search Inv-loop μ-loop
 mul-if2 c = search needs
 
--- src/m.rt:77:16
 slice-read-if2 : tie.Need-slice-read-if2 Inv-search μ-search Inv-loop μ-loop
 slice-read-if2 c = search needs
 
--- src/m.rt:72:13
 search-less : tie.Need-search-less Inv-search μ-search Inv-loop μ-loop
 search-less c = search needs
 
--- src/m.rt:72:13
 search-again : tie.Need-search-again Inv-search μ-search Inv-loop μ-loop
 search-again c =
     let s = c .before .before .before .before .before .before .before .before .before .before .before .before in
@@ -162,23 +150,18 @@ search-again c =
           (c .if2 .left),
     )
 
--- src/m.rt:82:23
 enum-known-found : tie.Need-enum-known-found Inv-search μ-search Inv-loop μ-loop
 enum-known-found c = search needs
 
--- src/m.rt:83:25
 add-columns : tie.Need-add-columns Inv-search μ-search Inv-loop μ-loop
 add-columns c = omega (arith, at-below (c .before), c .before .before .before .before .before .before .before .before .before .before .before .before .before .pre .2, c .before .before .before .before .before .before .before .before .before .before .before .before .before .good)
 
--- src/m.rt:83:17
 mul-columns : tie.Need-mul-columns Inv-search μ-search Inv-loop μ-loop
 mul-columns c = omega (arith, at-below (c .before), c .before .before .before .before .before .before .before .before .before .before .before .before .before .pre .2, c .before .before .before .before .before .before .before .before .before .before .before .before .before .good)
 
--- src/m.rt:83:17
 slice-read-columns : tie.Need-slice-read-columns Inv-search μ-search Inv-loop μ-loop
 slice-read-columns c = omega (arith, at-below (c .before .before), c .before .before .before .before .before .before .before .before .before .before .before .before .before .before .pre .2, c .before .before .before .before .before .before .before .before .loop .inv .0, c .before .before .before .before .before .before .before .before .before .before .before .clear .kept .0)
 
--- src/m.rt:83:17
 add-columns-2 : tie.Need-add-columns-2 Inv-search μ-search Inv-loop μ-loop
 add-columns-2 c =
     omega (
@@ -188,23 +171,18 @@ add-columns-2 c =
       c .before .before .before .before .before .before .before .before .before .before .before .before .before .before .fits .rows,
     )
 
--- src/m.rt:83:17
 slice-write-columns : tie.Need-slice-write-columns Inv-search μ-search Inv-loop μ-loop
 slice-write-columns c = omega (arith, at-below (c .before .before), c .before .before .before .before .before .before .before .before .before .before .before .before .before .before .pre .2, c .before .before .before .before .before .before .before .before .loop .inv .0, c .before .before .before .before .before .before .before .before .before .before .before .clear .kept .0)
 
--- src/m.rt:86:23
 enum-told : tie.Need-enum-told Inv-search μ-search Inv-loop μ-loop
 enum-told c = search needs
 
--- src/m.rt:86:17
 clear-requires-2 : tie.Need-clear-requires-2 Inv-search μ-search Inv-loop μ-loop
 clear-requires-2 c κs = search needs
 
--- src/m.rt:87:17
 same-length : tie.Need-same-length Inv-search μ-search Inv-loop μ-loop
 same-length c = search needs
 
--- src/m.rt:87:17
 returns : tie.Need-returns Inv-search μ-search Inv-loop μ-loop
 returns c =
     let s = c .before .before .before .before .before .before .before .before .before .before .before .before .before .before .before .before in
@@ -214,15 +192,12 @@ returns c =
     (row-is (c .before .before .before .before .before .before .before .before .before) _ (s .pre .2) (counted l) ∙ found-nothing 𝔾 _ _ _ (sym (found-is (c .before .before .before .before .before .before)) ∙ c .before .before .before .before .enum-told .given .1))
     (counted-cleared _ _ _ _ (s .pre .2) _ _ (counted l) _ (c .before .before .clear2 .ensures)))
 
--- src/m.rt:90:9
 add-i : tie.Need-add-i Inv-search μ-search Inv-loop μ-loop
 add-i c = search needs
 
--- src/m.rt:69:5
 loop-less : tie.Need-loop-less Inv-search μ-search Inv-loop μ-loop
 loop-less c = search needs
 
--- src/m.rt:69:5
 loop-again : tie.Need-loop-again Inv-search μ-search Inv-loop μ-loop
 loop-again c =
     let l = c .before .before .before .before .before .before .before .before in (
@@ -234,11 +209,9 @@ loop-again c =
           (row-is (c .before .before .before .before .before .before .before) d h (l .loop .inv .2 d h e) ∙ at-is (c .before .before)),
     )
 
--- src/m.rt:63:1
 same-length-2 : tie.Need-same-length-2 Inv-search μ-search Inv-loop μ-loop
 same-length-2 c = search needs
 
--- src/m.rt:63:1
 returns-2 : tie.Need-returns-2 Inv-search μ-search Inv-loop μ-loop
 returns-2 c = by-search _ _ _ _ _ _ _ (answer-true _ _ _ _ _ _ _ (counted (c .before)) (c .loop-test .left))
 

@@ -1,5 +1,4 @@
 -- `m_column` meets its contract: the search from the last row down finds the last equal row, and each input found is counted.
--- Assumes nothing.
 use borrow.Author.Needs.{needs}
 use mathlib.Core.Logic.{⊎-elim}
 use mathlib.Core.Path.{_≡_, refl, sym, _∙_}
@@ -85,46 +84,36 @@ at-below : (c : tie.After-found Inv-search μ-search Inv-loop μ-loop)
     → c .found .given .0 .0 < c .before .before .before .before .before .before .before .before .before .before .before .before .before .before .args .rows
 at-below c = row-below _ _ _ _ (at-is c)
 
--- src/m.rt:34:5
 clear-requires : tie.Need-clear-requires Inv-search μ-search Inv-loop μ-loop
 clear-requires c κs = search needs
 
--- src/m.rt:36:5
 loop-holds : tie.Need-loop-holds Inv-search μ-search Inv-loop μ-loop
 loop-holds c = (refl, omega arith, λ d h e. counted-start _ _ d 0 h _ e)
 
--- src/m.rt:37:17
 mul-v : tie.Need-mul-v Inv-search μ-search Inv-loop μ-loop
 mul-v c = search needs
 
--- src/m.rt:37:17
 shared-slice-read-v : tie.Need-shared-slice-read-v Inv-search μ-search Inv-loop μ-loop
 shared-slice-read-v c = search needs
 
--- src/m.rt:39:13
 search-holds : tie.Need-search-holds Inv-search μ-search Inv-loop μ-loop
 search-holds c = (omega arith, none-seen _ _ _)
 
--- src/m.rt:43:13
 add-seen : tie.Need-add-seen Inv-search μ-search Inv-loop μ-loop
 add-seen c = search needs
 
 sub-j : tie.Need-sub-j Inv-search μ-search Inv-loop μ-loop
 sub-j c = search needs
 
--- src/m.rt:44:16
 mul-if2 : tie.Need-mul-if2 Inv-search μ-search Inv-loop μ-loop
 mul-if2 c = search needs
 
--- src/m.rt:44:16
 shared-slice-read-if2 : tie.Need-shared-slice-read-if2 Inv-search μ-search Inv-loop μ-loop
 shared-slice-read-if2 c = search needs
 
--- src/m.rt:39:13
 search-less : tie.Need-search-less Inv-search μ-search Inv-loop μ-loop
 search-less c = search needs
 
--- src/m.rt:39:13
 search-again : tie.Need-search-again Inv-search μ-search Inv-loop μ-loop
 search-again c =
     let l = c .before .before .before .search in
@@ -135,19 +124,15 @@ search-again c =
           (s .pre .3 (c .before .before .before .before .before .before .loop .i) (c .before .before .before .before .before .loop-test .taken)) (c .if2 .left),
     )
 
--- src/m.rt:49:23
 enum-known-found : tie.Need-enum-known-found Inv-search μ-search Inv-loop μ-loop
 enum-known-found c = search needs
 
--- src/m.rt:50:17
 mul-m : tie.Need-mul-m Inv-search μ-search Inv-loop μ-loop
 mul-m c = omega (arith, at-below (c .before), c .before .before .before .before .before .before .before .before .before .before .before .before .before .before .before .pre .2, c .before .before .before .before .before .before .before .before .before .before .before .before .before .before .before .good)
 
--- src/m.rt:50:17
 slice-read-m : tie.Need-slice-read-m Inv-search μ-search Inv-loop μ-loop
 slice-read-m c = omega (arith, at-below (c .before .before), c .before .before .before .before .before .before .before .before .before .before .before .before .before .before .before .before .pre .2, c .before .before .before .before .before .before .before .before .loop .inv .0, c .before .before .before .before .before .before .before .before .before .before .before .clear .kept .0)
 
--- src/m.rt:50:17
 add-m : tie.Need-add-m Inv-search μ-search Inv-loop μ-loop
 add-m c =
     let l = c .before .before .before .before .before .before .before .before in
@@ -158,23 +143,18 @@ add-m c =
       c .before .before .before .before .before .before .before .before .before .before .before .before .before .before .before .before .fits .rows,
     )
 
--- src/m.rt:50:17
 slice-write-m : tie.Need-slice-write-m Inv-search μ-search Inv-loop μ-loop
 slice-write-m c = omega (arith, at-below (c .before .before), c .before .before .before .before .before .before .before .before .before .before .before .before .before .before .before .before .pre .2, c .before .before .before .before .before .before .before .before .loop .inv .0, c .before .before .before .before .before .before .before .before .before .before .before .clear .kept .0)
 
--- src/m.rt:53:23
 enum-told : tie.Need-enum-told Inv-search μ-search Inv-loop μ-loop
 enum-told c = search needs
 
--- src/m.rt:53:17
 clear-requires-2 : tie.Need-clear-requires-2 Inv-search μ-search Inv-loop μ-loop
 clear-requires-2 c κs = search needs
 
--- src/m.rt:54:17
 same-length : tie.Need-same-length Inv-search μ-search Inv-loop μ-loop
 same-length c = search needs
 
--- src/m.rt:54:17
 returns : tie.Need-returns Inv-search μ-search Inv-loop μ-loop
 returns c =
     let l = c .before .before .before .before .before .before .before .before .before .before in
@@ -184,15 +164,12 @@ returns c =
     (found-nothing 𝔾 _ _ _ (sym (found-is (c .before .before .before .before .before .before)) ∙ c .before .before .before .before .enum-told .given .1))
     (counted-cleared _ _ _ _ (omega (arith, s .pre .2)) _ _ (counted l) _ (c .before .before .clear2 .ensures)))
 
--- src/m.rt:57:9
 add-i : tie.Need-add-i Inv-search μ-search Inv-loop μ-loop
 add-i c = search needs
 
--- src/m.rt:36:5
 loop-less : tie.Need-loop-less Inv-search μ-search Inv-loop μ-loop
 loop-less c = search needs
 
--- src/m.rt:36:5
 loop-again : tie.Need-loop-again Inv-search μ-search Inv-loop μ-loop
 loop-again c =
     let l = c .before .before .before .before .before .before .before .before in
@@ -204,11 +181,9 @@ loop-again c =
           (c .before .before .before .before .before .before .before .loop-test .taken) (at-is (c .before .before)),
     )
 
--- src/m.rt:30:1
 same-length-2 : tie.Need-same-length-2 Inv-search μ-search Inv-loop μ-loop
 same-length-2 c = search needs
 
--- src/m.rt:30:1
 returns-2 : tie.Need-returns-2 Inv-search μ-search Inv-loop μ-loop
 returns-2 c = by-search _ _ _ _ _ _ _ (answer-true _ _ _ _ 0 _ _ (counted (c .before)) (c .loop-test .left))
 

@@ -1,4 +1,4 @@
--- `fill` is safe and ends. The count stays within the slice's length. Assumes nothing.
+-- `fill` is safe and ends. The count stays within the slice's length.
 use mathlib.Core.Path.{_≡_}
 use Prim.Native.Nat.{_≤_, _-_}
 use lib.ListN.{length}

@@ -1,4 +1,4 @@
--- `kept` is safe and ends. Assumes nothing.
+-- `kept` is safe and ends.
 use Prim.Native.Nat.{_-_}
 use lib.ListN.{length}
 use borrow.Author.Needs.{needs}

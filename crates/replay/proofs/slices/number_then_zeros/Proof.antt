@@ -1,4 +1,4 @@
--- `number_then_zeros` is safe and ends. Assumes nothing.
+-- `number_then_zeros` is safe and ends.
 use Prim.Native.Nat.{_-_}
 use lib.ListN.{length}
 use borrow.Author.Needs.{needs}

@@ -1,4 +1,4 @@
--- `read_block` is safe and ends. The words keep their length; the measure is what is left. Assumes nothing.
+-- `read_block` is safe and ends. The words keep their length; the measure is what is left.
 use mathlib.Core.Path.{_≡_}
 use Prim.Native.Nat.{_-_}
 use lib.ListN.{length}

@@ -1,6 +1,5 @@
 -- `Circuit::new` meets its contract: a walk of its MIR, by hand. A `Circuit` is made of the words passed, in the result's local.
 -- A `&[u64]` is Copy, so what it owns is had twice: once for the words at exit, and once inside the result.
--- Assumes nothing.
 use mathlib.Core.Path.{refl}
 use Prim.Native.Nat.{ℕ}
 use mathlib.Core.List.{List, [], _∷_}

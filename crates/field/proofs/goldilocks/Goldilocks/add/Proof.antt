@@ -1,4 +1,4 @@
--- A sum. Assumes nothing.
+-- A sum.
 use borrow.Author.Needs.{needs}
 use mathlib.Core.Path.{sym, ap, _∙_}
 use Rattle.field.specs.Field.{el, el-add}

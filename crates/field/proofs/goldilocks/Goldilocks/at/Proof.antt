@@ -1,4 +1,4 @@
--- The element of a word of a slice. Assumes nothing.
+-- The element of a word of a slice.
 use borrow.Author.Needs.{needs}
 use mathlib.Core.Path.{refl}
 use Rattle.field.proofs.goldilocks.Goldilocks.at.Statement.{statement}

@@ -1,4 +1,4 @@
--- The element of a word. Assumes nothing.
+-- The element of a word.
 use mathlib.Core.Path.{refl}
 use Rattle.field.proofs.goldilocks.Goldilocks.from_u64.Statement.{statement}
 use Rattle.field.proofs.goldilocks.Goldilocks.from_u64.Tie as tie

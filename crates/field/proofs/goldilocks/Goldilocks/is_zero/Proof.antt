@@ -1,4 +1,4 @@
--- Zero has the number 0. Assumes nothing.
+-- Zero has the number 0.
 use borrow.Author.Needs.{needs}
 use Rattle.field.proofs.goldilocks.Zero.{zero-word}
 use Rattle.field.proofs.goldilocks.Goldilocks.is_zero.Statement.{statement}

@@ -1,4 +1,4 @@
--- A product. Assumes nothing.
+-- A product.
 use borrow.Author.Needs.{needs}
 use mathlib.Core.Path.{sym, ap, _∙_}
 use Rattle.field.specs.Field.{el, el-mul}

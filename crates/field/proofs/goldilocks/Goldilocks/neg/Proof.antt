@@ -1,4 +1,4 @@
--- The negative. Assumes nothing.
+-- The negative.
 use borrow.Author.Needs.{needs}
 use mathlib.Core.Path.{ap, _∙_}
 use Rattle.field.specs.Field.{el, el-neg}

@@ -1,4 +1,4 @@
--- Which numbers are elements. Assumes nothing.
+-- Which numbers are elements.
 use borrow.Author.Tests.{lt-ltb, le-ltb}
 use Rattle.field.proofs.goldilocks.Goldilocks.new.Statement.{statement}
 use Rattle.field.proofs.goldilocks.Goldilocks.new.Tie as tie

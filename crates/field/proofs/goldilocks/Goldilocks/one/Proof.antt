@@ -1,4 +1,4 @@
--- The constant is one. Assumes nothing.
+-- The constant is one.
 use Rattle.field.specs.Field.{el-one}
 use Rattle.field.proofs.goldilocks.Goldilocks.one.Statement.{statement}
 use Rattle.field.proofs.goldilocks.Goldilocks.one.Tie as tie

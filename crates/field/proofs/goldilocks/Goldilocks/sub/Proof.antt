@@ -1,4 +1,4 @@
--- A difference. Assumes nothing.
+-- A difference.
 use borrow.Author.Needs.{needs}
 use mathlib.Core.Path.{ap, _∙_}
 use Rattle.field.specs.Field.{el, el-sub}

@@ -1,4 +1,4 @@
--- An element's number. Assumes nothing.
+-- An element's number.
 use borrow.Author.Needs.{needs}
 use mathlib.Core.Path.{sym, _∙_}
 use Rattle.field.proofs.Elements.{val-el-mod}

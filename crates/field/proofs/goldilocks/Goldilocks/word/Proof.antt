@@ -1,4 +1,4 @@
--- A word of the element. Assumes nothing.
+-- A word of the element.
 use mathlib.Core.Path.{refl}
 use Rattle.field.proofs.goldilocks.Goldilocks.word.Statement.{statement}
 use Rattle.field.proofs.goldilocks.Goldilocks.word.Tie as tie

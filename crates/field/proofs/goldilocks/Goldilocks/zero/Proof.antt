@@ -1,4 +1,4 @@
--- The constant is zero. Assumes nothing.
+-- The constant is zero.
 use Rattle.field.specs.Field.{el-zero}
 use Rattle.field.proofs.goldilocks.Goldilocks.zero.Statement.{statement}
 use Rattle.field.proofs.goldilocks.Goldilocks.zero.Tie as tie
