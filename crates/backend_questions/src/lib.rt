@@ -31,7 +31,7 @@ ghost use Rattle.backend.specs.Questions.{layoutQuestions, bodyQuestions, circu
 ghost use Rattle.backend.specs.Laid.{ContentsValid, BodiesValid};
 
 // "3 and then 4 are put to the contents, then 3 and then 4 to the bodies": the first no of these, 0 if there is none.
-pub fn layout_no(circuit: &[u64]) -> u64
+fn layout_no(circuit: &[u64]) -> u64
     ensures { λ r. ⌜ r ≡ firstNo layoutQuestions (now (circuit .entry)) ⌝ }
 {
     if !question_1(circuit) {

@@ -57,7 +57,7 @@ pub const LENGTHS: usize = 7;
 pub const CELLS: usize = 8;
 
 // The section at a place of the contents.
-pub fn section(circuit: &[u64], s: usize) -> Part
+pub(crate) fn section(circuit: &[u64], s: usize) -> Part
     requires { ⌜ ContentsValid (now circuit) × (s < 9) ⌝ }
     ensures { λ r. ⌜ r ≡ boundsOf (now (circuit .entry)) (sectionAt s) ⌝ }
     ensures { λ r. ⌜ (r .start ≤ r .end) × (r .end ≤ length (now (circuit .entry))) ⌝ }

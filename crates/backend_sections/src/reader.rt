@@ -18,7 +18,7 @@ ghost use Rattle.backend.specs.Circuit.{Section, sectionAt, bodyOf, wordK};
 ghost use Rattle.backend.specs.Laid.{ContentsValid};
 
 // The words of the section at a place of the contents.
-pub fn section_words<'a>(circuit: &'a [u64], s: usize) -> &'a [u64]
+fn section_words<'a>(circuit: &'a [u64], s: usize) -> &'a [u64]
     requires { ⌜ ContentsValid (now circuit) × (s < 9) ⌝ }
     ensures { λ r. ⌜ now r ≡ bodyOf (now (circuit .entry)) (sectionAt s) ⌝ }
 {
@@ -33,28 +33,28 @@ pub struct Circuit<'a> {
 }
 
 impl<'a> Circuit<'a> {
-    pub fn new(words: &'a [u64]) -> Circuit<'a>
+    fn new(words: &'a [u64]) -> Circuit<'a>
         ensures { λ r. ⌜ r .words ≡ words .entry ⌝ }
     {
         Circuit { words: words }
     }
 
     // "Word 0 is k."
-    pub fn k(self) -> u64
+    fn k(self) -> u64
         ensures { λ r. ⌜ r ≡ wordK (now (self .entry .words)) ⌝ }
     {
         word_at(self.words, 0)
     }
 
     // "Word 1 is 0 for no maximum degree, else that degree + 1."
-    pub fn stated(self) -> u64
+    fn stated(self) -> u64
         ensures { λ r. ⌜ r ≡ getD (now (self .entry .words)) 1 0 ⌝ }
     {
         word_at(self.words, 1)
     }
 
     // "instance lengths"
-    pub fn instances(self) -> &'a [u64]
+    fn instances(self) -> &'a [u64]
         requires { ⌜ ContentsValid (now (self .words)) ⌝ }
         ensures { λ r. ⌜ now r ≡ bodyOf (now (self .entry .words)) Section.instances ⌝ }
     {
@@ -62,7 +62,7 @@ impl<'a> Circuit<'a> {
     }
 
     // "preprocess columns (2^k words each)"
-    pub fn preprocess(self) -> &'a [u64]
+    fn preprocess(self) -> &'a [u64]
         requires { ⌜ ContentsValid (now (self .words)) ⌝ }
         ensures { λ r. ⌜ now r ≡ bodyOf (now (self .entry .words)) Section.preprocess ⌝ }
     {
@@ -70,7 +70,7 @@ impl<'a> Circuit<'a> {
     }
 
     // "rounds (witness columns, challenges)"
-    pub fn rounds(self) -> &'a [u64]
+    fn rounds(self) -> &'a [u64]
         requires { ⌜ ContentsValid (now (self .words)) ⌝ }
         ensures { λ r. ⌜ now r ≡ bodyOf (now (self .entry .words)) Section.rounds ⌝ }
     {
@@ -78,7 +78,7 @@ impl<'a> Circuit<'a> {
     }
 
     // "nodes (4 words)"
-    pub fn nodes(self) -> &'a [u64]
+    fn nodes(self) -> &'a [u64]
         requires { ⌜ ContentsValid (now (self .words)) ⌝ }
         ensures { λ r. ⌜ now r ≡ bodyOf (now (self .entry .words)) Section.nodes ⌝ }
     {
@@ -86,7 +86,7 @@ impl<'a> Circuit<'a> {
     }
 
     // "constraint roots"
-    pub fn constraints(self) -> &'a [u64]
+    fn constraints(self) -> &'a [u64]
         requires { ⌜ ContentsValid (now (self .words)) ⌝ }
         ensures { λ r. ⌜ now r ≡ bodyOf (now (self .entry .words)) Section.constraints ⌝ }
     {
@@ -94,7 +94,7 @@ impl<'a> Circuit<'a> {
     }
 
     // "lookup widths"
-    pub fn widths(self) -> &'a [u64]
+    fn widths(self) -> &'a [u64]
         requires { ⌜ ContentsValid (now (self .words)) ⌝ }
         ensures { λ r. ⌜ now r ≡ bodyOf (now (self .entry .words)) Section.widths ⌝ }
     {
@@ -102,7 +102,7 @@ impl<'a> Circuit<'a> {
     }
 
     // "lookup pairs (input root, table root)"
-    pub fn pairs(self) -> &'a [u64]
+    fn pairs(self) -> &'a [u64]
         requires { ⌜ ContentsValid (now (self .words)) ⌝ }
         ensures { λ r. ⌜ now r ≡ bodyOf (now (self .entry .words)) Section.pairs ⌝ }
     {
@@ -110,7 +110,7 @@ impl<'a> Circuit<'a> {
     }
 
     // "cycle lengths"
-    pub fn lengths(self) -> &'a [u64]
+    fn lengths(self) -> &'a [u64]
         requires { ⌜ ContentsValid (now (self .words)) ⌝ }
         ensures { λ r. ⌜ now r ≡ bodyOf (now (self .entry .words)) Section.lengths ⌝ }
     {
@@ -118,7 +118,7 @@ impl<'a> Circuit<'a> {
     }
 
     // "cells (polynomial, row)"
-    pub fn cells(self) -> &'a [u64]
+    fn cells(self) -> &'a [u64]
         requires { ⌜ ContentsValid (now (self .words)) ⌝ }
         ensures { λ r. ⌜ now r ≡ bodyOf (now (self .entry .words)) Section.cells ⌝ }
     {

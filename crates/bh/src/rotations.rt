@@ -8,7 +8,7 @@ ghost use lib.IntN.{natAbs};
 ghost use Rattle.bh.specs.Rows.{nextRow, prevRow, iter, placeOf, rotated};
 
 // n rows on.
-pub fn forwards(b: usize, n: usize, k: usize) -> usize
+fn forwards(b: usize, n: usize, k: usize) -> usize
     requires { ⌜ (k < 32) × (b < 2 ^ k) ⌝ }
     ensures { λ r. ⌜ (r ≡ iter (nextRow k) n b) × (r < 2 ^ k) ⌝ }
 {
@@ -22,7 +22,7 @@ pub fn forwards(b: usize, n: usize, k: usize) -> usize
 }
 
 // n rows back.
-pub fn backwards(b: usize, n: usize, k: usize) -> usize
+fn backwards(b: usize, n: usize, k: usize) -> usize
     requires { ⌜ (k < 32) × (b < 2 ^ k) ⌝ }
     ensures { λ r. ⌜ (r ≡ iter (prevRow k) n b) × (r < 2 ^ k) ⌝ }
 {

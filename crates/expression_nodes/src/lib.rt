@@ -66,7 +66,7 @@ fn mod_period(d: u64, n: u64) -> u64
 
 // The rotation that a word keeps. A number from −k to k is kept as it is; a longer one is cut by rounds of the order, and
 // leads from each row to the row that the word's number leads to.
-pub fn rotation_of(word: u64, k: usize) -> Rotation
+fn rotation_of(word: u64, k: usize) -> Rotation
     requires { ⌜ (0 < k) × (k < 21) ⌝ }
     ensures leads { λ r. ⌜ ((b : ℕ) → b < 2 ^ k → rotated k b (r .0) ≡ rotated k b (decodeSigned word)) ⌝ }
     ensures number { λ r. ⌜ (natAbs (decodeSigned word) ≤ k → r .0 ≡ decodeSigned word) ⌝ }

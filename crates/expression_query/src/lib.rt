@@ -116,7 +116,7 @@ fn items_uses(
 }
 
 // How many queries are used at node n, with a polynomial below `polys` and a rotation from -k to k.
-pub fn count_queries(ws: &[u64], n: usize, polys: usize, k: usize) -> usize
+fn count_queries(ws: &[u64], n: usize, polys: usize, k: usize) -> usize
     requires { ⌜ (n * 4 + 4 ≤ length (now ws)) × ((polys ≤ 1048576) × (k ≤ 1048576)) ⌝ }
     ensures { λ r. ⌜ r ≡ length (usedQueries (exprOf (now (ws .entry)) n) polys k) ⌝ }
 {

@@ -66,7 +66,7 @@ pub fn instance_columns(circuit: &[u64], instance: &[u64], columns: &mut [u64])
 }
 
 // The permutation columns, behind the instance columns. `copied` are the copied columns.
-pub fn permutation_columns(circuit: &[u64], copied: &[u64], columns: &mut [u64])
+pub(crate) fn permutation_columns(circuit: &[u64], copied: &[u64], columns: &mut [u64])
     requires { ⌜ Accepted (now circuit) × (now copied ≡ copiedOf (circuitOf (now circuit))) × (compressedOffset (circuitOf (now circuit)) ≤ length (now columns)) ⌝ }
     ensures { λ _. ⌜ now (columns .exit) ≡ writeAt (now (columns .entry)) (permutationOffset (circuitOf (now (circuit .entry)))) (permutationWords (now (circuit .entry))) ⌝ }
 {

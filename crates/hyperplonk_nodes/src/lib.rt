@@ -37,7 +37,7 @@ pub fn compose_nodes(
 }
 
 // Are the words the same?
-pub fn same_words(a: &[u64], b: &[u64]) -> bool
+fn same_words(a: &[u64], b: &[u64]) -> bool
     requires { ⌜ length (now a) ≡ length (now b) ⌝ }
     ensures { λ r. ⌜ r ≡ sameWords (now (a .entry)) (now (b .entry)) ⌝ }
 {

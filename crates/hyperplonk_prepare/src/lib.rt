@@ -34,7 +34,7 @@ pub fn copied_of(circuit: &[u64]) -> Copied
 }
 
 // Rust `max_degree`, D.
-pub fn degree_of(circuit: &[u64]) -> usize
+fn degree_of(circuit: &[u64]) -> usize
     requires { ⌜ Accepted (now circuit) ⌝ }
     ensures { λ r. ⌜ r ≡ maxDegree (circuitOf (now (circuit .entry))) ⌝ }
 {

@@ -31,7 +31,7 @@ ghost use Rattle.hyperplonk_row_sum.specs.Sum.{lengthsRight, lentSmall, 
 ghost use Rattle.hyperplonk_spec.specs.RowSumClaim.{RowSumClaim};
 
 // Where the polynomials stand that the row sum reads.
-pub fn sum_layout(circuit: &[u64], params: CircuitParams) -> Layout
+fn sum_layout(circuit: &[u64], params: CircuitParams) -> Layout
     requires { ⌜ Accepted (now circuit) × (params ≡ paramsOf (circuitOf (now circuit))) ⌝ }
     ensures { λ r. ⌜ r ≡ sumLayout (now (circuit .entry)) ⌝ }
 {
@@ -86,7 +86,7 @@ fn values_small(witness: &[u64], columns: &[u64], challenges: &[u64], y: &[u64])
 }
 
 // Question 16.
-pub fn question_16(
+fn question_16(
     circuit: &[u64],
     witness: &[u64],
     columns: &[u64],

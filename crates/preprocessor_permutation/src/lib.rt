@@ -36,7 +36,7 @@ fn column_starts(copied: &[u64], rows: usize, at: usize) -> [u64; 72]
 }
 
 // The label that a cell holds.
-pub fn cell_label(columns: &[u64], starts: &[u64; 72], polynomial: u64, row: u64) -> u64
+fn cell_label(columns: &[u64], starts: &[u64; 72], polynomial: u64, row: u64) -> u64
     requires { ⌜ (polynomial < 72) × (cellWord (now starts) (record { polynomial = polynomial; row = row }) < length (now columns)) ⌝ }
     ensures { λ r. ⌜ r ≡ getD (now (columns .entry)) (cellWord (now (starts .entry)) (record { polynomial = polynomial; row = row })) 0 ⌝ }
 {
@@ -46,7 +46,7 @@ pub fn cell_label(columns: &[u64], starts: &[u64; 72], polynomial: u64, row: u64
 }
 
 // A cell takes `label`; the label that it held.
-pub fn exchange(
+fn exchange(
     columns: &mut [u64],
     starts: &[u64; 72],
     polynomial: u64,
@@ -68,7 +68,7 @@ pub fn exchange(
 
 // Along a cycle each cell takes the label that the cell before held when the cycle began, the first that of the last.
 // The cells stand in columns that begin where `starts` says, none of them twice; every word of the columns is told.
-pub fn walk_cycle(columns: &mut [u64], starts: &[u64; 72], cells: &[u64])
+fn walk_cycle(columns: &mut [u64], starts: &[u64; 72], cells: &[u64])
     requires { ⌜ 0 < length (now cells) / 2 ⌝ }
     requires { ⌜ All (λ (x : Cell). (x .polynomial < 72) × (cellWord (now starts) x < length (now columns))) (cellsOf (now cells)) ⌝ }
     requires { ⌜ CycleIn (now starts) (cellsOf (now cells)) (length (now columns)) ⌝ }

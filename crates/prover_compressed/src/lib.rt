@@ -96,7 +96,7 @@ fn compressed_at<'a>(
 }
 
 // One compressed column, through the row order once.
-pub fn lookup_compressed_poly<'a>(
+fn lookup_compressed_poly<'a>(
     nodes: &'a [u64],
     circuit: &'a [u64],
     witness: &'a [u64],

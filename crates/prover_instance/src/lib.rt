@@ -14,7 +14,7 @@ ghost use Rattle.prover.specs.Columns.{instanceAt};
 ghost use Rattle.prover.specs.Words.{wordsOf};
 
 // One instance column, from word `at` on: value t of the `count` values from `from` on stands at place t + 1 of the row order.
-pub fn instance_column(
+fn instance_column(
     k: usize,
     instance: &[u64],
     from: usize,
