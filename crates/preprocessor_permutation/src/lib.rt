@@ -46,13 +46,7 @@ fn cell_label(columns: &[u64], starts: &[u64; 72], polynomial: u64, row: u64) ->
 }
 
 // A cell takes `label`; the label that it held.
-fn exchange(
-    columns: &mut [u64],
-    starts: &[u64; 72],
-    polynomial: u64,
-    row: u64,
-    label: u64,
-) -> u64
+fn exchange(columns: &mut [u64], starts: &[u64; 72], polynomial: u64, row: u64, label: u64) -> u64
     requires { ⌜ (polynomial < 72) × (cellWord (now starts) (record { polynomial = polynomial; row = row }) < length (now columns)) ⌝ }
     ensures { λ r. ⌜ r
         ≡ getD (now (columns .entry)) (cellWord (now (starts .entry)) (record { polynomial = polynomial; row = row })) 0 ⌝ }
