@@ -139,7 +139,7 @@ module _ (ws instances witness challenges columns nodes : List ℕ) (z : buildOf
       val-el (firstLabel c (σ c (copiedCell c i b)))
       (labels-small log ad (firstLabel c (σ c (copiedCell c i b)))
       (labels c .label-in (σ c (copiedCell c i b))
-      (permutes c (eleven-yes 𝔾 log ad) .into (copiedCell c i b) (record { tabulate = i; column-in = l; row-in = m; is = refl }))))
+      (permutes c (eleven-yes 𝔾 log ad) .into (copiedCell c i b) (record { column = i; column-in = l; row-in = m; is = refl }))))
 
   closed : ProductCloses log left
   unfolding logOf rowAt

@@ -46,10 +46,10 @@ copiedCell c i b = record { polynomial = getD (copied c) i 0; row = b }
 
 -- x is one of the n × 2^k cells of the copied columns
 pub record IsCopied (c : Circuit) (x : Cell) : Type 0 where
-  pub tabulate : ℕ
-  pub column-in : tabulate < numCopied c
+  pub column : ℕ
+  pub column-in : column < numCopied c
   pub row-in : x .row < rowsOf c
-  pub is : x ≡ copiedCell c tabulate (x .row)
+  pub is : x ≡ copiedCell c column (x .row)
 
 -- no cycle names x
 abbrev pub Unnamed : Circuit → Cell → Type 0

@@ -1,4 +1,5 @@
 // The composed constraints: user, lookup and permutation constraints by powers of alpha, written as node words into a lent buffer.
+use expression::kind;
 use expression_nodes::index;
 use expression_write::copy_expr;
 use expression_write::operations::Listed;
@@ -139,7 +140,7 @@ pub fn constraint_powers(
 {
     let n = num_constraints(roots.len(), params);
     if n == 0 {
-        return push(out, place.from, place.at, 1, 0, 0, 0);
+        return push(out, place.from, place.at, kind::CONSTANT, 0, 0, 0);
     }
     let first = ItemPlace {
         i: 0,

@@ -1,5 +1,6 @@
 // How many nodes `compose` writes, counted beforehand from the sizes of the user's expressions; 2^60 where there are more.
 use crate::constraints::num_constraints;
+use expression_degree::LARGEST_SIZE;
 use expression_degree::size_of;
 use expression_nodes::index;
 use preprocessor::CircuitParams;
@@ -20,14 +21,14 @@ ghost use Rattle.preprocessor.specs.Count.{nodesIn, listNodes, most};
 fn plus(a: u64, b: u64) -> u64
     ensures { λ r. ⌜ r ≡ min most (a + b) ⌝ }
 {
-    if 1152921504606846976 <= a {
-        return 1152921504606846976;
+    if LARGEST_SIZE <= a {
+        return LARGEST_SIZE;
     }
-    if 1152921504606846976 <= b {
-        return 1152921504606846976;
+    if LARGEST_SIZE <= b {
+        return LARGEST_SIZE;
     }
-    if 1152921504606846976 <= a + b {
-        return 1152921504606846976;
+    if LARGEST_SIZE <= a + b {
+        return LARGEST_SIZE;
     }
     a + b
 }

@@ -5,6 +5,7 @@ pub mod count;
 use crate::constraints::ItemPlace;
 use crate::constraints::Place;
 use crate::constraints::constraint_powers;
+use expression::kind;
 use expression_write::operations::Listed;
 use expression_write::operations::item;
 use expression_write::operations::list_end;
@@ -37,7 +38,7 @@ fn zero_check(
     ensures { λ r. ⌜ ExprWritten (place .from) (zeroTree params (constraintsFromWords params (now (copied .entry)) (now (user .entry)) (now (roots .entry)) (now (widths .entry)) (now (pairs .entry)))) (place .at) (now (out .entry)) (now (out .exit)) r ⌝ }
 {
     let x = constraint_powers(copied, user, roots, widths, pairs, out, params, place);
-    let y = push(out, place.from, x, 4, 0, 0, 0);
+    let y = push(out, place.from, x, kind::EQ_XY, 0, 0, 0);
     product(out, place.from, x, y)
 }
 

@@ -1,4 +1,5 @@
 // The identity and permutation factors of the permutation constraints, and their products, written as node words into a lent buffer.
+use expression::kind;
 use expression_write::operations::challenge;
 use expression_write::operations::product;
 use expression_write::operations::query;
@@ -21,8 +22,8 @@ fn beta_label(out: &mut [u64], from: usize, at: usize, user: u64, label: u64) ->
     ensures { λ r. ⌜ ExprWritten from (Expr.product (Expr.challenge user) (Expr.sum (Expr.constant label) Expr.identity)) at (now (out .entry)) (now (out .exit)) r ⌝ }
 {
     let beta = challenge(out, from, at, user);
-    let x = push(out, from, beta, 1, 0, 0, label);
-    let id = push(out, from, x, 2, 0, 0, 0);
+    let x = push(out, from, beta, kind::CONSTANT, 0, 0, label);
+    let id = push(out, from, x, kind::IDENTITY, 0, 0, 0);
     let s = sum(out, from, x, id);
     product(out, from, beta, s)
 }

@@ -1,4 +1,5 @@
 // Rust `lookup_constraints`: a lookup's constraint, written as node words into a lent buffer.
+use expression::kind;
 use expression_nodes::index;
 use expression_write::copy_expr;
 use expression_write::operations::Listed;
@@ -68,7 +69,7 @@ fn side_powers(
     ensures { λ r. ⌜ ExprWritten from (distributePowers (sideExprs (now (user .entry)) (now (pairs .entry)) (run .start) (run .count)) (Expr.challenge beta)) at (now (out .entry)) (now (out .exit)) r ⌝ }
 {
     if run.count == 0 {
-        return push(out, from, at, 1, 0, 0, 0);
+        return push(out, from, at, kind::CONSTANT, 0, 0, 0);
     }
     if run.count == 1 {
         let start = run.start;

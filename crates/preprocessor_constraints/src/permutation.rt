@@ -1,6 +1,8 @@
 // Rust `permutation_constraints`: the start's constraint and each part's, written as node words into a lent buffer.
 use crate::factors::identity_product;
 use crate::factors::permutation_product;
+use expression::kind;
+use expression::node::SIGNED_ONE;
 use expression_write::operations::negated;
 use expression_write::operations::product;
 use expression_write::operations::query;
@@ -26,7 +28,7 @@ fn next_z(out: &mut [u64], from: usize, params: CircuitParams, i: usize, at: usi
     if i + 1 < params.num_chunks {
         return query(out, from, at, (z + (i + 1)) as u64);
     }
-    push(out, from, at, 5, z as u64, 0, 2147483649)
+    push(out, from, at, kind::POLYNOMIAL, z as u64, 0, SIGNED_ONE)
 }
 
 // How many copied columns part i has.
@@ -109,14 +111,14 @@ pub fn start_constraint(out: &mut [u64], from: usize, params: CircuitParams, at:
     requires { ⌜ Limits params × ((at + 6) * 4 ≤ mostWords) ⌝ }
     ensures { λ r. ⌜ ExprWritten from (startTree params) at (now (out .entry)) (now (out .exit)) r ⌝ }
 {
-    let l = push(out, from, at, 3, 0, 0, 2147483649);
+    let l = push(out, from, at, kind::LAGRANGE, 0, 0, SIGNED_ONE);
     let z = query(
         out,
         from,
         l,
         (params.num_poly + params.num_permutation_polys + params.num_lookups * 2) as u64,
     );
-    let one = push(out, from, z, 1, 0, 0, 1);
+    let one = push(out, from, z, kind::CONSTANT, 0, 0, 1);
     let n = negated(out, from, one);
     let s = sum(out, from, z, n);
     product(out, from, l, s)
