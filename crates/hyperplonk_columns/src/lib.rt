@@ -74,7 +74,7 @@ fn columns_after_m(
     params: CircuitParams,
 )
     requires { ⌜ Prepared (now circuit) (now copied) params × (length (now challenges) ≡ numChallenges (circuitOf (now circuit)) + 2) × (columnWords (circuitOf (now circuit)) ≤ length (now columns)) ⌝ }
-    ensures { λ _. ⌜ ((instances : List ℕ) → take (hOffset (circuitOf (now (circuit .entry)))) (now (columns .entry)) ≡ wordsOf (rowsOf (circuitOf (now (circuit .entry)))) (polysThroughM 𝔾 (logOf (now (circuit .entry)) instances (now (witness .entry)) (now (challenges .entry)))) → now (columns .exit) ≡ writeAt (now (columns .entry)) (hOffset (circuitOf (now (circuit .entry)))) (wordsOf (rowsOf (circuitOf (now (circuit .entry)))) (lastPolys 𝔾 (logOf (now (circuit .entry)) instances (now (witness .entry)) (now (challenges .entry)))))) ⌝ }
+    ensures { λ _. ⌜ ((instances : List ℕ) → take (hOffset (circuitOf (now (circuit .entry)))) (now (columns .entry)) ≡ wordsOf (rowsOf (circuitOf (now (circuit .entry)))) (polysThroughM 𝔾 (logOf (now (circuit .entry)) instances (now (witness .entry)) (now (challenges .entry)))) → now (columns .exit) ≡ writeAt (now (columns .entry)) (hOffset (circuitOf (now (circuit .entry)))) (wordsOf (rowsOf (circuitOf (now (circuit .entry)))) (polysAfterM 𝔾 (logOf (now (circuit .entry)) instances (now (witness .entry)) (now (challenges .entry)))))) ⌝ }
 {
     let at = places_of(circuit, params);
     let user = params.num_challenges;
