@@ -1,15 +1,15 @@
 // build and check over files, of circuit words that were read and accepted. Each function reads one file and hands its words on.
-use crate::cuts::cuts_of;
-use crate::output;
 use crate::readings::tell;
-use crate::shape::Shape;
-use crate::verdict::notes;
-use crate::verdict::verdict;
 use cli_messages::question;
 use cli_messages::say;
 use cli_messages::values::Needed;
 use cli_messages::values::build_values;
 use cli_messages::values::sum_values;
+use cli_report::cuts::cuts_of;
+use cli_report::output;
+use cli_report::shape::Shape;
+use cli_report::verdict::notes;
+use cli_report::verdict::verdict;
 use cli_texts::files::read;
 use cli_unlisted::find;
 ghost use Prim.Native.Nat.{_≤_};

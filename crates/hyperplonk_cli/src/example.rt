@@ -1,10 +1,10 @@
 // A small log of its own, k = 3: readings looked up in an approved table that lists a row twice, and two settings copied from
 // the wearer's sheet to the knee.
-use crate::cuts::cuts_of;
 use crate::readings::tell;
-use crate::shape::shape_of;
-use crate::verdict::verdict;
 use cli_messages::say;
+use cli_report::cuts::cuts_of;
+use cli_report::shape::shape_of;
+use cli_report::verdict::verdict;
 use cli_unlisted::find;
 use lists::word_at;
 

@@ -2,17 +2,10 @@
 // built, gives its verdict, and says in words what a circuit has, or why it is refused. With no argument it runs on a small log
 // of its own. A message goes to standard error; run, beside src/, makes an exit status of it.
 mod commands;
-mod cuts;
 mod example;
-mod explain;
-mod files;
-mod output;
 mod readings;
 mod rooms;
-mod shape;
 mod usage;
-mod verdict;
-mod write_out;
 
 use check::same;
 use rooms::BUILD;

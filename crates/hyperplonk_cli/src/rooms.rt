@@ -2,11 +2,12 @@
 // and for all. The sizes are those of document 01's limits: 8 instance columns of 1023 values and 32 witness columns of 1024; 184
 // columns of 1024 words and 4,190 nodes; a file of what was built has both.
 use crate::commands;
-use crate::explain;
-use crate::shape::Shape;
-use crate::shape::shape_of;
 use cli_messages::refusal::refusal;
 use cli_messages::say;
+use cli_report::explain;
+use cli_report::shape::HALF;
+use cli_report::shape::Shape;
+use cli_report::shape::shape_of;
 use cli_texts::files::read;
 
 // The commands over files.
@@ -15,9 +16,6 @@ pub const EXPLAIN: u64 = 1;
 pub const BUILD: u64 = 2;
 
 pub const CHECK: u64 = 3;
-
-// The column words up to which the smaller rooms do.
-pub const HALF: usize = 98304;
 
 fn circuit_room() -> [u64; 60000] {
     [0; 60000]

@@ -1,0 +1,82 @@
+// What circuit words ask for, once questions 1 to 11 have been put to them.
+use backend_questions::first_no;
+use hyperplonk_prepare::circuit_params;
+use hyperplonk_prepare::copied_of;
+use hyperplonk_prepare::needed::column_words;
+use hyperplonk_prepare::needed::composed_nodes;
+ghost use mathlib.Core.Path.{_≡_};
+ghost use mathlib.Core.List.{List};
+ghost use Prim.Native.Nat.{_≤_};
+ghost use lib.ListN.{take};
+ghost use Rattle.backend.specs.Circuit.{circuitOf, copied};
+ghost use Rattle.hyperplonk_prepare.specs.Prepared.{Accepted};
+
+// The column words up to which the smaller rooms of the program do.
+pub const HALF: usize = 98304;
+
+// The number of the first no, 0 for none; the rest is 0 for refused circuit words. `of` has the copied columns' polynomials;
+// `part` is D - 1, and `parts` is N.
+pub struct Shape {
+    pub no: u64,
+    pub instances: usize,
+    pub copied: usize,
+    pub of: [u64; 72],
+    pub lookups: usize,
+    pub polys: usize,
+    pub user: usize,
+    pub rows: usize,
+    pub part: usize,
+    pub parts: usize,
+    pub column_words: usize,
+    pub nodes: u64,
+}
+
+fn refused(no: u64) -> Shape {
+    Shape {
+        no: no,
+        instances: 0,
+        copied: 0,
+        of: [0; 72],
+        lookups: 0,
+        polys: 0,
+        user: 0,
+        rows: 0,
+        part: 0,
+        parts: 0,
+        column_words: 0,
+        nodes: 0,
+    }
+}
+
+fn accepted(circuit: &[u64], count: usize, of: [u64; 72]) -> Shape
+    requires { ⌜ Accepted (now circuit) × ((count ≤ 72) × (take count of ≡ copied (circuitOf (now circuit)))) ⌝ }
+{
+    let params = circuit_params(circuit, count);
+    let words = column_words(circuit, params);
+    let nodes = composed_nodes(circuit, params);
+    let instances = lists::word_at(circuit, 3);
+    Shape {
+        no: 0,
+        instances: instances as usize,
+        copied: count,
+        of: of,
+        lookups: params.num_lookups,
+        polys: params.num_poly,
+        user: params.num_challenges,
+        rows: params.rows,
+        part: params.chunk_size,
+        parts: params.num_chunks,
+        column_words: words,
+        nodes: nodes,
+    }
+}
+
+pub fn shape_of(circuit: &[u64]) -> Shape {
+    let no = first_no(circuit);
+    if no != 0 {
+        return refused(no);
+    }
+    let copied = copied_of(circuit);
+    let of = copied.of;
+    accepted(circuit, copied.count, of)
+}
