@@ -17,23 +17,39 @@ pub const FIRST_COUNT: usize = 3;
 
 pub const NEXT_START: usize = 4;
 
+pub const INSTANCE_START: usize = 2;
+
 pub const INSTANCE_COUNT: usize = 3;
 
 pub const PREPROCESS_START: usize = 4;
 
 pub const PREPROCESS_COUNT: usize = 5;
 
+pub const ROUND_START: usize = 6;
+
 pub const ROUND_COUNT: usize = 7;
+
+pub const NODE_START: usize = 8;
 
 pub const NODE_COUNT: usize = 9;
 
+pub const CONSTRAINT_START: usize = 10;
+
 pub const CONSTRAINT_COUNT: usize = 11;
+
+pub const WIDTH_START: usize = 12;
 
 pub const WIDTH_COUNT: usize = 13;
 
+pub const PAIR_START: usize = 14;
+
 pub const PAIR_COUNT: usize = 15;
 
+pub const LENGTH_START: usize = 16;
+
 pub const LENGTH_COUNT: usize = 17;
+
+pub const CELL_START: usize = 18;
 
 pub const CELL_COUNT: usize = 19;
 

@@ -1,5 +1,23 @@
 // The contents of circuit words as they stand, read with no question asked: a word past the last is 0.
+use backend_sections::contents::CELL_COUNT;
+use backend_sections::contents::CELL_START;
+use backend_sections::contents::CONSTRAINT_COUNT;
+use backend_sections::contents::CONSTRAINT_START;
+use backend_sections::contents::INSTANCE_COUNT;
+use backend_sections::contents::K_WORD;
+use backend_sections::contents::LENGTH_COUNT;
+use backend_sections::contents::LENGTH_START;
+use backend_sections::contents::NODE_COUNT;
+use backend_sections::contents::NODE_START;
+use backend_sections::contents::PAIR_COUNT;
+use backend_sections::contents::PAIR_START;
+use backend_sections::contents::PREPROCESS_COUNT;
+use backend_sections::contents::ROUND_COUNT;
+use backend_sections::contents::ROUND_START;
 use lists::word_at;
+
+// The place after the last section's.
+pub const NO_SECTION: usize = 9;
 
 // No place.
 pub const NONE: usize = 18446744073709551615;
@@ -66,12 +84,15 @@ pub fn rows_of(k: u64) -> u64 {
 }
 
 pub fn bounds_of(circuit: &[u64]) -> Bounds {
-    let k = word_at(circuit, 0);
-    let rounds_start = word_at(circuit, 6) as usize;
-    let rounds = word_at(circuit, 7);
+    let k = word_at(circuit, K_WORD);
+    let rounds_start = word_at(circuit, ROUND_START) as usize;
+    let rounds = word_at(circuit, ROUND_COUNT);
     let witness = sum_of(circuit, rounds_start, 2, rounds);
     let user = sum_of(circuit, after(rounds_start, 1), 2, rounds);
-    let given = std::num::wrapping_add_u64(word_at(circuit, 3), word_at(circuit, 5));
+    let given = std::num::wrapping_add_u64(
+        word_at(circuit, INSTANCE_COUNT),
+        word_at(circuit, PREPROCESS_COUNT),
+    );
     Bounds {
         k: k,
         rows: rows_of(k),
@@ -79,15 +100,15 @@ pub fn bounds_of(circuit: &[u64]) -> Bounds {
         witness: witness,
         user: user,
         rounds: rounds,
-        nodes_start: word_at(circuit, 8) as usize,
-        nodes: word_at(circuit, 9),
-        constraints_start: word_at(circuit, 10) as usize,
-        constraints: word_at(circuit, 11),
-        pairs_start: word_at(circuit, 14) as usize,
-        pair_words: word_at(circuit, 15) << 1,
-        lengths_start: word_at(circuit, 16) as usize,
-        lengths: word_at(circuit, 17),
-        cells_start: word_at(circuit, 18) as usize,
-        cells: word_at(circuit, 19),
+        nodes_start: word_at(circuit, NODE_START) as usize,
+        nodes: word_at(circuit, NODE_COUNT),
+        constraints_start: word_at(circuit, CONSTRAINT_START) as usize,
+        constraints: word_at(circuit, CONSTRAINT_COUNT),
+        pairs_start: word_at(circuit, PAIR_START) as usize,
+        pair_words: word_at(circuit, PAIR_COUNT) << 1,
+        lengths_start: word_at(circuit, LENGTH_START) as usize,
+        lengths: word_at(circuit, LENGTH_COUNT),
+        cells_start: word_at(circuit, CELL_START) as usize,
+        cells: word_at(circuit, CELL_COUNT),
     }
 }

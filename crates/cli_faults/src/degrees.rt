@@ -2,6 +2,8 @@
 use crate::bounds::Bounds;
 use crate::bounds::NONE;
 use crate::bounds::after;
+use backend_sections::contents::STATED_WORD;
+use backend_sections::contents::WIDTH_START;
 use lists::word_at;
 
 // The degree of a lookup, where that of a root is known only to be above 1024.
@@ -26,7 +28,7 @@ pub fn degree_of(circuit: &[u64], b: Bounds, root: u64) -> u64 {
 // A constraint's root whose degree is too large.
 pub fn degree_fault(circuit: &[u64], b: Bounds, at: usize) -> usize {
     let degree = degree_of(circuit, b, word_at(circuit, at));
-    let stated = word_at(circuit, 1);
+    let stated = word_at(circuit, STATED_WORD);
     if (1024 < degree) | ((stated != 0) & (stated <= degree)) {
         return at;
     }
@@ -61,7 +63,7 @@ pub fn lookup_degree(circuit: &[u64], b: Bounds, at: usize, width: u64) -> u64 {
 
 // Where the pairs of lookup i begin.
 pub fn lookup_start(circuit: &[u64], b: Bounds, i: u64) -> usize {
-    let pairs = crate::bounds::sum_of(circuit, word_at(circuit, 12) as usize, 1, i);
+    let pairs = crate::bounds::sum_of(circuit, word_at(circuit, WIDTH_START) as usize, 1, i);
     after(b.pairs_start, (pairs << 1) as usize)
 }
 

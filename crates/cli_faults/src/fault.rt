@@ -1,5 +1,6 @@
 // Where the first offending word of refused circuit words stands.
 use crate::bounds::Bounds;
+use crate::bounds::NO_SECTION;
 use crate::bounds::NONE;
 use crate::bounds::after;
 use crate::bounds::at_most_all;
@@ -14,6 +15,28 @@ use crate::nodes::layout_fault;
 use crate::nodes::name_why;
 use crate::nodes::range_fault;
 use crate::nodes::value_fault;
+use backend_sections::contents::CELL_COUNT;
+use backend_sections::contents::CELLS;
+use backend_sections::contents::CONSTRAINT_COUNT;
+use backend_sections::contents::FIRST_COUNT;
+use backend_sections::contents::FIRST_START;
+use backend_sections::contents::INSTANCE_COUNT;
+use backend_sections::contents::INSTANCE_START;
+use backend_sections::contents::K_WORD;
+use backend_sections::contents::LENGTH_COUNT;
+use backend_sections::contents::NODE_COUNT;
+use backend_sections::contents::NODES;
+use backend_sections::contents::PAIR_COUNT;
+use backend_sections::contents::PAIRS;
+use backend_sections::contents::PREPROCESS;
+use backend_sections::contents::PREPROCESS_COUNT;
+use backend_sections::contents::PREPROCESS_START;
+use backend_sections::contents::ROUND_COUNT;
+use backend_sections::contents::ROUND_START;
+use backend_sections::contents::ROUNDS;
+use backend_sections::contents::STATED_WORD;
+use backend_sections::contents::WIDTH_COUNT;
+use backend_sections::contents::WIDTH_START;
 use backend_sections::words::is_element;
 use lists::word_at;
 
@@ -49,22 +72,22 @@ const CELL: u64 = 13;
 // The limit of a count of the contents; word 1 is the maximum degree + 1, and the pairs have none.
 pub fn limit_of(at: usize) -> u64 {
     match at {
-        1 => 33,
-        3 => 8,
-        5 => 32,
-        7 => 4,
-        9 => 1024,
-        11 => 32,
-        13 => 8,
-        17 => 1024,
-        19 => 4096,
+        STATED_WORD => 33,
+        INSTANCE_COUNT => 8,
+        PREPROCESS_COUNT => 32,
+        ROUND_COUNT => 4,
+        NODE_COUNT => 1024,
+        CONSTRAINT_COUNT => 32,
+        WIDTH_COUNT => 8,
+        LENGTH_COUNT => 1024,
+        CELL_COUNT => 4096,
         _ => 18446744073709551615,
     }
 }
 
 fn count_fault(circuit: &[u64], at: usize) -> usize {
     let count = word_at(circuit, at);
-    if (limit_of(at) < count) | ((at == 7) & (count == 0)) {
+    if (limit_of(at) < count) | ((at == ROUND_COUNT) & (count == 0)) {
         return at;
     }
     NONE
@@ -160,43 +183,43 @@ fn lower(first: usize, second: usize) -> usize {
 
 // 3 at the contents, then at the bodies.
 fn fault_3(circuit: &[u64], b: Bounds) -> usize {
-    let contents = search(circuit, COUNT_LIMIT, b, 1, 2, 10);
+    let contents = search(circuit, COUNT_LIMIT, b, STATED_WORD, 2, 10);
     if contents != NONE {
         return contents;
     }
-    let rounds = word_at(circuit, 6) as usize;
+    let rounds = word_at(circuit, ROUND_START) as usize;
     let witness = passes(circuit, rounds, 2, b.rounds, 32);
     let user = passes(circuit, after(rounds, 1), 2, b.rounds, 16);
     let widths = search(
         circuit,
         WIDTH,
         b,
-        word_at(circuit, 12) as usize,
+        word_at(circuit, WIDTH_START) as usize,
         1,
-        word_at(circuit, 13),
+        word_at(circuit, WIDTH_COUNT),
     );
     let lengths = passes(circuit, b.lengths_start, 1, b.lengths, 4096);
     or_else(lower(witness, user), or_else(widths, lengths))
 }
 
 // The words of a section, by its place in the contents.
-fn words_in(k: u64, s: u64, count: u64) -> u64 {
+fn words_in(k: u64, s: usize, count: u64) -> u64 {
     match s {
-        1 => if k < 64 { count << k } else { 0 },
-        2 => count << 1,
-        3 => count << 2,
-        6 => count << 1,
-        8 => count << 1,
+        PREPROCESS => if k < 64 { count << k } else { 0 },
+        ROUNDS => count << 1,
+        NODES => count << 2,
+        PAIRS => count << 1,
+        CELLS => count << 1,
         _ => count,
     }
 }
 
 // Where section s begins by the counts of those before it; the ninth, which is none, where the contents end.
-pub fn begins(circuit: &[u64], s: u64) -> u64 {
-    let k = word_at(circuit, 0);
+pub fn begins(circuit: &[u64], s: usize) -> u64 {
+    let k = word_at(circuit, K_WORD);
     let mut right: u64 = 20;
-    let mut at: usize = 3;
-    let mut i: u64 = 0;
+    let mut at = FIRST_COUNT;
+    let mut i: usize = 0;
     while i < s {
         let words = words_in(k, i, word_at(circuit, at));
         right = std::num::wrapping_add_u64(right, words);
@@ -208,9 +231,9 @@ pub fn begins(circuit: &[u64], s: u64) -> u64 {
 
 // The first start that is not where the section before it ends.
 fn start_fault(circuit: &[u64]) -> usize {
-    let mut at: usize = 2;
-    let mut s: u64 = 0;
-    while s < 9 {
+    let mut at = FIRST_START;
+    let mut s: usize = 0;
+    while s < NO_SECTION {
         if word_at(circuit, at) != begins(circuit, s) {
             return at;
         }
@@ -222,16 +245,19 @@ fn start_fault(circuit: &[u64]) -> usize {
 
 // The lookup pairs, of which there can be no more than words: their count has no limit of its own.
 fn pairs_fault(circuit: &[u64]) -> usize {
-    there(15, (circuit.len() as u64) < word_at(circuit, 15))
+    there(
+        PAIR_COUNT,
+        (circuit.len() as u64) < word_at(circuit, PAIR_COUNT),
+    )
 }
 
 // The sum of the lookup widths.
 pub fn widths_sum(circuit: &[u64]) -> u64 {
     sum_of(
         circuit,
-        word_at(circuit, 12) as usize,
+        word_at(circuit, WIDTH_START) as usize,
         1,
-        word_at(circuit, 13),
+        word_at(circuit, WIDTH_COUNT),
     )
 }
 
@@ -242,10 +268,16 @@ fn fault_4(circuit: &[u64]) -> usize {
     if start != NONE {
         return start;
     }
-    if begins(circuit, 9) != circuit.len() as u64 {
+    if begins(circuit, NO_SECTION) != circuit.len() as u64 {
         return NONE;
     }
-    or_else(there(15, widths_sum(circuit) != word_at(circuit, 15)), 19)
+    or_else(
+        there(
+            PAIR_COUNT,
+            widths_sum(circuit) != word_at(circuit, PAIR_COUNT),
+        ),
+        CELL_COUNT,
+    )
 }
 
 fn fault_5(circuit: &[u64], b: Bounds) -> usize {
@@ -253,17 +285,24 @@ fn fault_5(circuit: &[u64], b: Bounds) -> usize {
         circuit,
         INSTANCE,
         b,
-        word_at(circuit, 2) as usize,
+        word_at(circuit, INSTANCE_START) as usize,
         1,
-        word_at(circuit, 3),
+        word_at(circuit, INSTANCE_COUNT),
     );
-    let rounds = search(circuit, ROUND, b, word_at(circuit, 6) as usize, 2, b.rounds);
+    let rounds = search(
+        circuit,
+        ROUND,
+        b,
+        word_at(circuit, ROUND_START) as usize,
+        2,
+        b.rounds,
+    );
     or_else(instances, rounds)
 }
 
 fn fault_6(circuit: &[u64], b: Bounds) -> usize {
-    let start = word_at(circuit, 4);
-    let words = std::num::wrapping_sub_u64(word_at(circuit, 6), start);
+    let start = word_at(circuit, PREPROCESS_START);
+    let words = std::num::wrapping_sub_u64(word_at(circuit, ROUND_START), start);
     let preprocess = search(circuit, VALUE, b, start as usize, 1, words);
     or_else(
         preprocess,
@@ -291,11 +330,11 @@ fn fault_9(circuit: &[u64], b: Bounds) -> usize {
         circuit,
         ZERO,
         b,
-        word_at(circuit, 12) as usize,
+        word_at(circuit, WIDTH_START) as usize,
         1,
-        word_at(circuit, 13),
+        word_at(circuit, WIDTH_COUNT),
     );
-    or_else(width, 11)
+    or_else(width, CONSTRAINT_COUNT)
 }
 
 // A constraint's root, else the first pair of a lookup.
@@ -304,8 +343,8 @@ fn fault_10(circuit: &[u64], b: Bounds) -> usize {
     if user != NONE {
         return user;
     }
-    let widths = word_at(circuit, 12) as usize;
-    search(circuit, LOOKUP, b, widths, 1, word_at(circuit, 13))
+    let widths = word_at(circuit, WIDTH_START) as usize;
+    search(circuit, LOOKUP, b, widths, 1, word_at(circuit, WIDTH_COUNT))
 }
 
 fn fault_11(circuit: &[u64], b: Bounds) -> usize {
@@ -317,7 +356,7 @@ fn fault_11(circuit: &[u64], b: Bounds) -> usize {
 pub fn place_of(circuit: &[u64], question: u64) -> usize {
     let b = bounds_of(circuit);
     match question {
-        2 => 0,
+        2 => K_WORD,
         3 => fault_3(circuit, b),
         4 => fault_4(circuit),
         5 => fault_5(circuit, b),

@@ -3,6 +3,18 @@ use crate::bounds::Bounds;
 use crate::bounds::NONE;
 use crate::bounds::after;
 use backend_sections::words::is_element;
+use expression::kind;
+use expression::kind::CHALLENGE;
+use expression::kind::CONSTANT;
+use expression::kind::DISTRIBUTE_POWERS;
+use expression::kind::EQ_XY;
+use expression::kind::LAGRANGE;
+use expression::kind::NEGATED;
+use expression::kind::POLYNOMIAL;
+use expression::kind::PRODUCT;
+use expression::kind::SCALED;
+use expression::kind::SUM;
+use expression::node::SIGNED_OFFSET;
 use lists::word_at;
 
 // What is wrong with a word of a node: nothing; it is not used, and not 0; it is above the largest value; it names a node that
@@ -24,7 +36,7 @@ pub const LAST_ITEM: u64 = 6;
 // Question 6: Constants and scalars below p.
 pub fn value_fault(circuit: &[u64], at: usize) -> usize {
     let kind = word_at(circuit, at);
-    let held = (kind == 1) | (kind == 10);
+    let held = (kind == CONSTANT) | (kind == SCALED);
     let value = after(at, 3);
     if held & !is_element(word_at(circuit, value)) {
         return value;
@@ -34,28 +46,34 @@ pub fn value_fault(circuit: &[u64], at: usize) -> usize {
 
 // Is it one of the kinds?
 pub fn is_kind(kind: u64) -> bool {
-    (1 <= kind) & (kind <= 12)
+    (CONSTANT <= kind) & (kind <= kind::ITEM)
 }
 
 // The words that a kind uses: does it name a node, a polynomial or a challenge first, a node second, and hold a value?
 fn uses_first(kind: u64) -> bool {
-    (5 <= kind) & (kind <= 12)
+    (POLYNOMIAL <= kind) & (kind <= kind::ITEM)
 }
 
 pub fn uses_second(kind: u64, value: u64) -> bool {
-    (kind == 8) | (kind == 9) | (kind == 11) | ((kind == 12) & (value == 1))
+    (kind == SUM)
+        | (kind == PRODUCT)
+        | (kind == DISTRIBUTE_POWERS)
+        | ((kind == kind::ITEM) & (value == 1))
 }
 
 fn uses_value(kind: u64) -> bool {
-    (kind == 1) | (3 <= kind) & (kind <= 5) | (kind == 10) | (kind == 12)
+    (kind == CONSTANT)
+        | (LAGRANGE <= kind) & (kind <= POLYNOMIAL)
+        | (kind == SCALED)
+        | (kind == kind::ITEM)
 }
 
 // The largest value that a kind may hold.
 pub fn largest(kind: u64) -> u64 {
     match kind {
-        3 => 4294967295,
-        5 => 4294967295,
-        12 => 1,
+        LAGRANGE => 4294967295,
+        POLYNOMIAL => 4294967295,
+        kind::ITEM => 1,
         _ => 18446744073709551615,
     }
 }
@@ -70,7 +88,7 @@ pub fn name_why(circuit: &[u64], start: usize, limit: u64, n: u64, item: bool) -
     if limit <= n {
         return HIGH;
     }
-    let is_item = word_at(circuit, node_at(start, n)) == 12;
+    let is_item = word_at(circuit, node_at(start, n)) == kind::ITEM;
     if is_item == item {
         return RIGHT;
     }
@@ -79,7 +97,7 @@ pub fn name_why(circuit: &[u64], start: usize, limit: u64, n: u64, item: bool) -
 
 // Does the kind name a node first?
 pub fn names_first(kind: u64) -> bool {
-    (7 <= kind) & (kind <= 12)
+    (NEGATED <= kind) & (kind <= kind::ITEM)
 }
 
 // What is wrong with the first word of node n, which begins at a place: "an unused word is 0", "A node names lower nodes only",
@@ -107,7 +125,7 @@ fn item_why(circuit: &[u64], start: usize, limit: u64, kind: u64, n: u64) -> u64
     if why != RIGHT {
         return why;
     }
-    if (kind == 11) & is_last(circuit, start, n) {
+    if (kind == DISTRIBUTE_POWERS) & is_last(circuit, start, n) {
         return LAST_ITEM;
     }
     RIGHT
@@ -119,13 +137,13 @@ pub fn second_why(circuit: &[u64], start: usize, at: usize, n: u64) -> u64 {
     let second = word_at(circuit, after(at, 2));
     let value = word_at(circuit, after(at, 3));
     if !uses_second(kind, value) {
-        let known = (kind != 12) | (value == 0);
+        let known = (kind != kind::ITEM) | (value == 0);
         if known & (second != 0) {
             return UNUSED;
         }
         return RIGHT;
     }
-    if kind < 11 {
+    if kind < DISTRIBUTE_POWERS {
         return name_why(circuit, start, n, second, false);
     }
     item_why(circuit, start, n, kind, second)
@@ -163,10 +181,10 @@ pub fn layout_fault(circuit: &[u64], start: usize, at: usize, n: u64) -> usize {
 
 // Is a kept rotation from -k to k?
 fn is_near(kept: u64, k: u64) -> bool {
-    if kept < 2147483648 {
-        2147483648 - kept <= k
+    if kept < SIGNED_OFFSET {
+        SIGNED_OFFSET - kept <= k
     } else {
-        kept - 2147483648 <= k
+        kept - SIGNED_OFFSET <= k
     }
 }
 
@@ -175,16 +193,16 @@ pub fn range_fault(circuit: &[u64], b: Bounds, at: usize) -> usize {
     let kind = word_at(circuit, at);
     let first = after(at, 1);
     let value = after(at, 3);
-    if kind == 4 {
+    if kind == EQ_XY {
         return at;
     }
-    if (kind == 5) & (b.polys <= word_at(circuit, first)) {
+    if (kind == POLYNOMIAL) & (b.polys <= word_at(circuit, first)) {
         return first;
     }
-    if (kind == 5) & !is_near(word_at(circuit, value), b.k) {
+    if (kind == POLYNOMIAL) & !is_near(word_at(circuit, value), b.k) {
         return value;
     }
-    if (kind == 6) & (b.user <= word_at(circuit, first)) {
+    if (kind == CHALLENGE) & (b.user <= word_at(circuit, first)) {
         return first;
     }
     NONE

@@ -1,5 +1,7 @@
 // Which question was answered no, where the first offending word stands, and what is wrong with it.
 use crate::question;
+use backend_sections::contents::CONSTRAINT_START;
+use backend_sections::contents::NODE_START;
 use cli_faults::bounds::NONE;
 use cli_faults::fault::place_of;
 use cli_reasons::late;
@@ -25,8 +27,8 @@ fn node_word(part: u64) {
 }
 
 fn node_of(circuit: &[u64], at: u64) {
-    let start = word_at(circuit, 8);
-    if (start <= at) & (at < word_at(circuit, 10)) {
+    let start = word_at(circuit, NODE_START);
+    if (start <= at) & (at < word_at(circuit, CONSTRAINT_START)) {
         let part = std::num::wrapping_sub_u64(at, start);
         say::error_count(b", node ", part / 4);
         node_word(part % 4);

@@ -1,4 +1,10 @@
 // What circuit words have, section by section.
+use backend_sections::contents::INSTANCE_COUNT;
+use backend_sections::contents::INSTANCE_START;
+use backend_sections::contents::PAIR_COUNT;
+use backend_sections::contents::PREPROCESS_COUNT;
+use backend_sections::contents::STATED_WORD;
+use backend_sections::contents::WIDTH_COUNT;
 use cli_faults::bounds::Bounds;
 use cli_faults::bounds::bounds_of;
 use cli_faults::bounds::sum_of;
@@ -24,15 +30,20 @@ fn two(first: &[u8], n: u64, second: &[u8], m: u64) {
 }
 
 fn columns(circuit: &[u64], b: Bounds) {
-    let instances = word_at(circuit, 3);
-    let values = sum_of(circuit, word_at(circuit, 2) as usize, 1, instances);
+    let instances = word_at(circuit, INSTANCE_COUNT);
+    let values = sum_of(
+        circuit,
+        word_at(circuit, INSTANCE_START) as usize,
+        1,
+        instances,
+    );
     two(
         b"instance columns: ",
         instances,
         b", values in all: ",
         values,
     );
-    say::line(b"preprocess columns: ", word_at(circuit, 5));
+    say::line(b"preprocess columns: ", word_at(circuit, PREPROCESS_COUNT));
     say::out(b"rounds: ");
     say::number(b.rounds);
     two(
@@ -48,9 +59,9 @@ fn expressions(circuit: &[u64], b: Bounds) {
     say::line(b"constraints: ", b.constraints);
     two(
         b"lookups: ",
-        word_at(circuit, 13),
+        word_at(circuit, WIDTH_COUNT),
         b", pairs in all: ",
-        word_at(circuit, 15),
+        word_at(circuit, PAIR_COUNT),
     );
     two(b"cycles: ", b.lengths, b", cells in all: ", b.cells);
 }
@@ -58,7 +69,7 @@ fn expressions(circuit: &[u64], b: Bounds) {
 // The sections with their counts.
 pub fn sections(circuit: &[u64]) {
     let b = bounds_of(circuit);
-    size(b, word_at(circuit, 1));
+    size(b, word_at(circuit, STATED_WORD));
     columns(circuit, b);
     expressions(circuit, b);
 }

@@ -1,4 +1,7 @@
 // What questions 12, 13 and 16 found: lengths that are not the exact ones, values that are not below p.
+use backend_sections::contents::INSTANCE_COUNT;
+use backend_sections::contents::INSTANCE_START;
+use backend_sections::contents::K_WORD;
 use backend_sections::words::is_element;
 use cli_faults::bounds::NONE;
 use cli_faults::bounds::bounds_of;
@@ -91,9 +94,9 @@ fn witness_words(circuit: &[u64]) -> u64 {
 fn instance_words(circuit: &[u64]) -> u64 {
     sum_of(
         circuit,
-        word_at(circuit, 2) as usize,
+        word_at(circuit, INSTANCE_START) as usize,
         1,
-        word_at(circuit, 3),
+        word_at(circuit, INSTANCE_COUNT),
     )
 }
 
@@ -170,7 +173,7 @@ pub fn sum_values(
     let second = lengths(CHECK_OUT, b"column", columns.len(), s.columns as u64);
     let third = lengths(CHECK_OUT, b"node", nodes.len(), s.nodes << 2);
     let fourth = lengths(CHECK_CHALLENGES, b"challenge", challenges.len(), user);
-    let fifth = lengths(CHECK_Y, b"y", y.len(), word_at(circuit, 0));
+    let fifth = lengths(CHECK_Y, b"y", y.len(), word_at(circuit, K_WORD));
     if first | second | third | fourth | fifth {
         return;
     }

@@ -1,4 +1,10 @@
 // What is said of questions 5, 6 and 8 to 11.
+use backend_sections::contents::CONSTRAINT_COUNT;
+use backend_sections::contents::INSTANCE_START;
+use backend_sections::contents::PREPROCESS_START;
+use backend_sections::contents::ROUND_START;
+use backend_sections::contents::STATED_WORD;
+use backend_sections::contents::WIDTH_START;
 use cli_faults::bounds::Bounds;
 use cli_faults::bounds::NONE;
 use cli_faults::bounds::after;
@@ -9,6 +15,8 @@ use cli_faults::degrees::degree_of;
 use cli_faults::degrees::lookup_degree;
 use cli_faults::degrees::lookup_start;
 use cli_texts::say;
+use expression::kind::POLYNOMIAL;
+use expression::node::SIGNED_OFFSET;
 use field::MODULUS;
 use lists::word_at;
 
@@ -34,14 +42,17 @@ fn round_why(part: u64) {
 // Question 5.
 pub fn columns_why(circuit: &[u64], place: usize) {
     let b = bounds_of(circuit);
-    if (place as u64) < word_at(circuit, 4) {
-        say::error_count(b"instance column ", behind(place, word_at(circuit, 2)));
+    if (place as u64) < word_at(circuit, PREPROCESS_START) {
+        say::error_count(
+            b"instance column ",
+            behind(place, word_at(circuit, INSTANCE_START)),
+        );
         say::error_count(b" has ", word_at(circuit, place));
         say::error_count(b" values, at most ", last(b.rows));
         say::error(b"\n");
         return;
     }
-    round_why(behind(place, word_at(circuit, 6)));
+    round_why(behind(place, word_at(circuit, ROUND_START)));
 }
 
 // The column of a word of the preprocess columns.
@@ -55,8 +66,8 @@ fn column_of(part: u64, k: u64) -> u64 {
 // Question 6.
 pub fn value_why(circuit: &[u64], place: usize) {
     let b = bounds_of(circuit);
-    if (place as u64) < word_at(circuit, 6) {
-        let part = behind(place, word_at(circuit, 4));
+    if (place as u64) < word_at(circuit, ROUND_START) {
+        let part = behind(place, word_at(circuit, PREPROCESS_START));
         say::error_count(b"preprocess column ", column_of(part, b.k));
         say::error_count(b", row ", part & last(b.rows));
     } else {
@@ -83,10 +94,16 @@ fn user_why(b: Bounds, n: u64) {
 
 // A kept rotation out of range.
 fn rotation_why(kept: u64, k: u64) {
-    if kept < 2147483648 {
-        say::error_count(b"rotation -", std::num::wrapping_sub_u64(2147483648, kept));
+    if kept < SIGNED_OFFSET {
+        say::error_count(
+            b"rotation -",
+            std::num::wrapping_sub_u64(SIGNED_OFFSET, kept),
+        );
     } else {
-        say::error_count(b"rotation ", std::num::wrapping_sub_u64(kept, 2147483648));
+        say::error_count(
+            b"rotation ",
+            std::num::wrapping_sub_u64(kept, SIGNED_OFFSET),
+        );
     }
     say::error_two(b", from -", k, b" to ", k);
 }
@@ -105,7 +122,7 @@ pub fn range_why(circuit: &[u64], place: usize) {
         rotation_why(held, b.k);
         return;
     }
-    if kind == 5 {
+    if kind == POLYNOMIAL {
         poly_why(b, held);
     } else {
         user_why(b, held);
@@ -114,11 +131,11 @@ pub fn range_why(circuit: &[u64], place: usize) {
 
 // Question 9.
 pub fn width_why(circuit: &[u64], place: usize) {
-    if place == 11 {
+    if place == CONSTRAINT_COUNT {
         say::error(b"there is no constraint, no lookup and no cycle, at least one is asked\n");
         return;
     }
-    say::error_count(b"lookup ", behind(place, word_at(circuit, 12)));
+    say::error_count(b"lookup ", behind(place, word_at(circuit, WIDTH_START)));
     say::error(b" has width 0, at least 1 is asked\n");
 }
 
@@ -146,7 +163,7 @@ fn lookup_at(circuit: &[u64], b: Bounds, place: usize) -> u64 {
 // A lookup of too large a degree.
 fn lookup_why(circuit: &[u64], b: Bounds, place: usize) {
     let i = lookup_at(circuit, b, place);
-    let at = after(word_at(circuit, 12) as usize, i as usize);
+    let at = after(word_at(circuit, WIDTH_START) as usize, i as usize);
     let n = lookup_degree(circuit, b, place, word_at(circuit, at));
     say::error_count(b"lookup ", i);
     degree(n, last(ABOVE));
@@ -156,7 +173,7 @@ fn lookup_why(circuit: &[u64], b: Bounds, place: usize) {
 // Question 10.
 pub fn degree_why(circuit: &[u64], place: usize) {
     let b = bounds_of(circuit);
-    let stated = word_at(circuit, 1);
+    let stated = word_at(circuit, STATED_WORD);
     if b.pairs_start <= place {
         lookup_why(circuit, b, place);
         return;

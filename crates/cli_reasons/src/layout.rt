@@ -15,6 +15,7 @@ use cli_faults::nodes::largest;
 use cli_faults::nodes::second_why;
 use cli_faults::nodes::value_why;
 use cli_texts::say;
+use expression::kind;
 use lists::word_at;
 
 // A root, by its place.
@@ -90,7 +91,7 @@ fn names_why(circuit: &[u64], b: Bounds, n: u64) {
 // A word that the kind does not use.
 fn unused_why(kind: u64, part: usize) {
     say::error_count(b"kind ", kind);
-    if kind == 12 {
+    if kind == kind::ITEM {
         say::error(b" of value 0, the last Item,");
     }
     match part {
@@ -129,7 +130,7 @@ fn kind_why(circuit: &[u64], b: Bounds, n: u64, kind: u64) {
     if is_kind(kind) {
         names_why(circuit, b, n);
     } else {
-        say::error_range(b"kind ", kind, 1, 12);
+        say::error_range(b"kind ", kind, kind::CONSTANT, kind::ITEM);
     }
 }
 

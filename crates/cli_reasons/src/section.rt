@@ -1,50 +1,60 @@
 // The section that a word of the circuit stands in, and its name.
+use backend_sections::contents::CELLS;
+use backend_sections::contents::INSTANCES;
+use backend_sections::contents::LENGTHS;
+use backend_sections::contents::NEXT_START;
+use backend_sections::contents::NODES;
+use backend_sections::contents::PAIRS;
+use backend_sections::contents::PREPROCESS;
+use backend_sections::contents::ROUNDS;
+use backend_sections::contents::WIDTHS;
+use cli_faults::bounds::NO_SECTION;
 use cli_faults::bounds::after;
 use cli_texts::say;
 use lists::word_at;
 
-// The section that a word past the contents stands in, by the starts; 9 for the contents.
-pub fn section_of(circuit: &[u64], at: u64) -> u64 {
+// The section that a word past the contents stands in, by the starts; none for a word of the contents.
+pub fn section_of(circuit: &[u64], at: u64) -> usize {
     if at < 20 {
-        return 9;
+        return NO_SECTION;
     }
-    let mut next: usize = 4;
-    let mut s: u64 = 0;
-    while s < 8 {
+    let mut next = NEXT_START;
+    let mut s: usize = 0;
+    while s < CELLS {
         if at < word_at(circuit, next) {
             return s;
         }
         next = after(next, 2);
         s += 1;
     }
-    8
+    CELLS
 }
 
 // Its name.
-pub fn section_name(s: u64) {
-    if s < 5 {
+pub fn section_name(s: usize) {
+    if s < WIDTHS {
         early_name(s);
     } else {
         late_name(s);
     }
 }
 
-fn early_name(s: u64) {
+fn early_name(s: usize) {
     match s {
-        0 => say::error(b"the instance lengths"),
-        1 => say::error(b"the preprocess columns"),
-        2 => say::error(b"the rounds"),
-        3 => say::error(b"the nodes"),
+        INSTANCES => say::error(b"the instance lengths"),
+        PREPROCESS => say::error(b"the preprocess columns"),
+        ROUNDS => say::error(b"the rounds"),
+        NODES => say::error(b"the nodes"),
         _ => say::error(b"the constraint roots"),
     }
 }
 
-fn late_name(s: u64) {
+fn late_name(s: usize) {
     match s {
-        5 => say::error(b"the lookup widths"),
-        6 => say::error(b"the lookup pairs"),
-        7 => say::error(b"the cycle lengths"),
-        8 => say::error(b"the cells"),
+        WIDTHS => say::error(b"the lookup widths"),
+        PAIRS => say::error(b"the lookup pairs"),
+        LENGTHS => say::error(b"the cycle lengths"),
+        CELLS => say::error(b"the cells"),
         _ => say::error(b"the table of contents"),
     }
 }

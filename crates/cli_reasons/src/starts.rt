@@ -1,7 +1,24 @@
 // What is said of questions 2 to 4: k, counts and sums with their limits, starts and lengths.
 use crate::section::section_name;
 use crate::section::section_of;
+use backend_sections::contents::CELL_COUNT;
+use backend_sections::contents::CONSTRAINT_COUNT;
+use backend_sections::contents::CONSTRAINT_START;
+use backend_sections::contents::FIRST_START;
+use backend_sections::contents::INSTANCE_COUNT;
+use backend_sections::contents::K_WORD;
+use backend_sections::contents::LENGTH_COUNT;
+use backend_sections::contents::PAIR_COUNT;
+use backend_sections::contents::PREPROCESS_COUNT;
+use backend_sections::contents::ROUND_COUNT;
+use backend_sections::contents::ROUND_START;
+use backend_sections::contents::ROUNDS;
+use backend_sections::contents::STATED_WORD;
+use backend_sections::contents::WIDTH_COUNT;
+use backend_sections::contents::WIDTH_START;
+use backend_sections::contents::WIDTHS;
 use cli_faults::bounds::Bounds;
+use cli_faults::bounds::NO_SECTION;
 use cli_faults::bounds::bounds_of;
 use cli_faults::bounds::sum_of;
 use cli_faults::fault::begins;
@@ -12,41 +29,41 @@ use lists::word_at;
 
 // Question 2.
 pub fn size_why(circuit: &[u64]) {
-    say::error_range(b"k: ", word_at(circuit, 0), 1, 10);
+    say::error_range(b"k: ", word_at(circuit, K_WORD), 1, 10);
 }
 
 // What a word of the contents counts.
 fn early_count(at: usize) {
     match at {
-        1 => say::error(b"maximum degree"),
-        3 => say::error(b"instance columns"),
-        5 => say::error(b"preprocess columns"),
-        7 => say::error(b"rounds"),
+        STATED_WORD => say::error(b"maximum degree"),
+        INSTANCE_COUNT => say::error(b"instance columns"),
+        PREPROCESS_COUNT => say::error(b"preprocess columns"),
+        ROUND_COUNT => say::error(b"rounds"),
         _ => say::error(b"nodes"),
     }
 }
 
 fn late_count(at: usize) {
     match at {
-        11 => say::error(b"constraints"),
-        13 => say::error(b"lookups"),
-        17 => say::error(b"cycles"),
+        CONSTRAINT_COUNT => say::error(b"constraints"),
+        WIDTH_COUNT => say::error(b"lookups"),
+        LENGTH_COUNT => say::error(b"cycles"),
         _ => say::error(b"cells"),
     }
 }
 
 // A count, or the maximum degree, which word 1 is one more than.
 fn count_why(circuit: &[u64], at: usize) {
-    if at < 10 {
+    if at < CONSTRAINT_START {
         early_count(at);
     } else {
         late_count(at);
     }
-    if at == 7 {
+    if at == ROUND_COUNT {
         say::error_range(b": ", word_at(circuit, at), 1, 4);
         return;
     }
-    let more = (at == 1) as u64;
+    let more = (at == STATED_WORD) as u64;
     let count = std::num::wrapping_sub_u64(word_at(circuit, at), more);
     let limit = std::num::wrapping_sub_u64(limit_of(at), more);
     say::error_two(b": ", count, b", at most ", limit);
@@ -63,7 +80,7 @@ fn sum_why(name: &[u8], sum: u64, limit: u64) {
 }
 
 fn rounds_why(circuit: &[u64], b: Bounds, place: usize) {
-    let part = std::num::wrapping_sub_u64(place as u64, word_at(circuit, 6));
+    let part = std::num::wrapping_sub_u64(place as u64, word_at(circuit, ROUND_START));
     if part % 2 == 0 {
         sum_why(b"witness columns in all: ", b.witness, 32);
     } else {
@@ -75,16 +92,16 @@ fn rounds_why(circuit: &[u64], b: Bounds, place: usize) {
 pub fn limit_why(circuit: &[u64], place: usize) {
     let b = bounds_of(circuit);
     let s = section_of(circuit, place as u64);
-    if s == 9 {
+    if s == NO_SECTION {
         count_why(circuit, place);
         return;
     }
-    if s == 2 {
+    if s == ROUNDS {
         rounds_why(circuit, b, place);
         return;
     }
-    if s == 5 {
-        let lookup = std::num::wrapping_sub_u64(place as u64, word_at(circuit, 12));
+    if s == WIDTHS {
+        let lookup = std::num::wrapping_sub_u64(place as u64, word_at(circuit, WIDTH_START));
         say::error_count(b"width of lookup ", lookup);
         say::error_two(b": ", word_at(circuit, place), b", at most ", 8);
         return;
@@ -95,7 +112,7 @@ pub fn limit_why(circuit: &[u64], place: usize) {
 
 // Lookup pairs that are not as many as the widths say, or more than there are words.
 fn pairs_why(circuit: &[u64]) {
-    let pairs = word_at(circuit, 15);
+    let pairs = word_at(circuit, PAIR_COUNT);
     if (circuit.len() as u64) < pairs {
         say::error_count(b"lookup pairs: ", pairs);
         say::error(b", more than the circuit has words\n");
@@ -111,17 +128,17 @@ fn pairs_why(circuit: &[u64]) {
 
 // Question 4, at a word of the contents.
 pub fn start_why(circuit: &[u64], place: usize) {
-    if place == 15 {
+    if place == PAIR_COUNT {
         pairs_why(circuit);
         return;
     }
-    if place == 19 {
+    if place == CELL_COUNT {
         let b = bounds_of(circuit);
         let sum = sum_of(circuit, b.lengths_start, 1, b.lengths);
         say::error_two(b"cells: ", b.cells, b", the cycle lengths sum to ", sum);
         return;
     }
-    let s = std::num::wrapping_sub_u64(place as u64, 2) / 2;
+    let s = std::num::wrapping_sub_usize(place, FIRST_START) / 2;
     say::error_count(b"word ", place as u64);
     say::error_count(b" is ", word_at(circuit, place));
     say::error_count(b", expected ", begins(circuit, s));
@@ -134,6 +151,6 @@ pub fn start_why(circuit: &[u64], place: usize) {
 pub fn length_why(circuit: &[u64]) {
     let words = circuit.len() as u64;
     say::error_count(b": the circuit has ", words);
-    say::error_count(b" words, the contents end at ", begins(circuit, 9));
+    say::error_count(b" words, the contents end at ", begins(circuit, NO_SECTION));
     say::error(b"\n");
 }

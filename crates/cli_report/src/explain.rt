@@ -4,6 +4,7 @@ use crate::cuts::cuts_of;
 use crate::shape::HALF;
 use crate::shape::Shape;
 use crate::shape::shape_of;
+use backend::MAX_POLYS;
 use cli_messages::refusal::refusal;
 use cli_messages::say;
 use cli_messages::sections::sections;
@@ -18,7 +19,7 @@ fn copied(s: Shape) {
     }
     let mut i: usize = 0;
     while i < count {
-        if i < 72 {
+        if i < MAX_POLYS {
             say::out(b" ");
             say::number(of[i]);
         }

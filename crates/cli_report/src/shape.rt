@@ -1,4 +1,5 @@
 // What circuit words ask for, once questions 1 to 11 have been put to them.
+use backend::MAX_POLYS;
 use backend_questions::first_no;
 use hyperplonk_prepare::circuit_params;
 use hyperplonk_prepare::copied_of;
@@ -8,7 +9,7 @@ ghost use mathlib.Core.Path.{_≡_};
 ghost use mathlib.Core.List.{List};
 ghost use Prim.Native.Nat.{_≤_};
 ghost use lib.ListN.{take};
-ghost use Rattle.backend.specs.Circuit.{circuitOf, copied};
+ghost use Rattle.backend.specs.Circuit.{circuitOf, copied, maxPolys};
 ghost use Rattle.hyperplonk_prepare.specs.Prepared.{Accepted};
 
 // The column words up to which the smaller rooms of the program do.
@@ -20,7 +21,7 @@ pub struct Shape {
     pub no: u64,
     pub instances: usize,
     pub copied: usize,
-    pub of: [u64; 72],
+    pub of: [u64; MAX_POLYS],
     pub lookups: usize,
     pub polys: usize,
     pub user: usize,
@@ -36,7 +37,7 @@ fn refused(no: u64) -> Shape {
         no: no,
         instances: 0,
         copied: 0,
-        of: [0; 72],
+        of: [0; MAX_POLYS],
         lookups: 0,
         polys: 0,
         user: 0,
@@ -48,8 +49,8 @@ fn refused(no: u64) -> Shape {
     }
 }
 
-fn accepted(circuit: &[u64], count: usize, of: [u64; 72]) -> Shape
-    requires { ⌜ Accepted (now circuit) × ((count ≤ 72) × (take count of ≡ copied (circuitOf (now circuit)))) ⌝ }
+fn accepted(circuit: &[u64], count: usize, of: [u64; MAX_POLYS]) -> Shape
+    requires { ⌜ Accepted (now circuit) × ((count ≤ maxPolys) × (take count of ≡ copied (circuitOf (now circuit)))) ⌝ }
 {
     let params = circuit_params(circuit, count);
     let words = column_words(circuit, params);

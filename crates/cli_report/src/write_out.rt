@@ -1,6 +1,7 @@
 // The columns and the nodes that a build wrote, as a file.
 use crate::files::write_words;
 use crate::shape::Shape;
+use backend::MAX_POLYS;
 
 // A text, a number and the line's end.
 fn title(fd: i32, name: &[u8], n: u64) -> bool {
@@ -37,7 +38,7 @@ fn column_title(fd: i32, c: usize, s: Shape) -> bool {
     let p = c - s.instances;
     if p < s.copied {
         let of = s.of;
-        if p < 72 {
+        if p < MAX_POLYS {
             return title(fd, b"# permutation column of polynomial ", of[p]);
         }
         return false;

@@ -1,5 +1,6 @@
 // Which readings question 15 finds in no row of their table: how many there are, and of the first the lookup, the row, its place in
 // the row order, and the values of the lookup's input expressions. For messages: proved safe and ending.
+use backend::MAX_POLYS;
 use backend_questions::first_no;
 use bh::rotations::place_of;
 use expression::poly::Layout;
@@ -20,7 +21,7 @@ ghost use Prim.Native.Nat.{ℕ, _+_, _≤_, _<_};
 ghost use lib.ListN.{length, getD, take};
 ghost use Rattle.expression.specs.Reader.{LayoutSmall};
 ghost use Rattle.expression.specs.Point.{PointInOrder};
-ghost use Rattle.backend.specs.Circuit.{circuitOf, numCopied, copied as copiedOf};
+ghost use Rattle.backend.specs.Circuit.{circuitOf, numCopied, copied as copiedOf, maxPolys};
 ghost use Rattle.hyperplonk_spec.specs.Build.{columnWords, q12};
 ghost use Rattle.hyperplonk_prepare.specs.Prepared.{Accepted};
 ghost use Rattle.cli_unlisted.specs.Missing.{Missing};
@@ -342,9 +343,9 @@ fn filled<'a>(
     challenges: &'a [u64],
     columns: &mut [u64],
     count: usize,
-    of: [u64; 72],
+    of: [u64; MAX_POLYS],
 ) -> Unlisted
-    requires { ⌜ Accepted (now circuit) × (q12 (circuitOf (now circuit)) (now instance) (now witness) (now challenges) ≡ true) × (count ≤ 72) × (take count of ≡ copiedOf (circuitOf (now circuit))) ⌝ }
+    requires { ⌜ Accepted (now circuit) × (q12 (circuitOf (now circuit)) (now instance) (now witness) (now challenges) ≡ true) × (count ≤ maxPolys) × (take count of ≡ copiedOf (circuitOf (now circuit))) ⌝ }
 {
     let params = circuit_params(circuit, count);
     if column_words(circuit, params) > columns.len() {

@@ -8,12 +8,12 @@ use Rattle.expression.specs.declared.node.Node.{Node}
 use Rattle.expression.specs.Expr.{Expr, Exprs}
 use Rattle.expression.specs.Nodes.{nodeOf, kindOf, under, noExpr, noExprs, exprOf, itemsOf}
 use Rattle.expression.specs.Read.{nodeAt}
-use Rattle.expression.specs.Flat.{body, sizes, extra, size}
+use Rattle.expression.specs.Flat.{body, sizes, extra, size, largestSize}
 use Rattle.expression.specs.Walks.{listed}
 use Rattle.expression.proofs.Step.{under-yes, under-no, by-kind, low, lowItems, node-read, of-kind, items-last, items-more}
 
 abbrev cap : ℕ → ℕ
-cap x = min 1152921504606846976 x
+cap x = min largestSize x
 
 -- one more, and two sums, with every sum capped
 one-more : (x s r : ℕ) → x ≡ cap s → r ≡ cap (1 + x) → r ≡ cap (suc s)

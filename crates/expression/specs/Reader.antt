@@ -16,12 +16,16 @@ polysOf l circuit witness columns =
     ++ (tabulate (λ i b. el (getD columns ((l .instances + i) * l .rows + b) 0)) (l .permutations)
     ++ tabulate (λ i b. el (getD columns ((l .instances + l .permutations + l .skipped + i) * l .rows + b) 0)) (l .rest))))
 
+-- a slice of words has no more than these
+abbrev pub sliceWords : ℕ
+sliceWords = 1152921504606846976
+
 -- no place of a word that is read is a number that wraps
 pub record LayoutSmall (l : Layout) : Type 0 where
   pub rows : l .rows ≤ 1048576
   pub instances : l .instances ≤ 1048576
   pub preprocess : l .preprocess ≤ 1048576
-  pub start : l .start ≤ 1152921504606846976
+  pub start : l .start ≤ sliceWords
   pub witness : l .witness ≤ 1048576
   pub permutations : l .permutations ≤ 1048576
   pub skipped : l .skipped ≤ 1048576

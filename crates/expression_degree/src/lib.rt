@@ -8,11 +8,11 @@ ghost use Prim.Native.Nat.{suc, _+_, _*_, _≤_, _<_, min, max};
 ghost use lib.ListN.{length};
 ghost use Rattle.expression.specs.Expr.{evaluate, powersFirst, powersRest, degree};
 ghost use Rattle.expression.specs.Nodes.{exprOf, itemsOf, under, noExpr, noExprs};
-ghost use Rattle.expression.specs.Flat.{size};
+ghost use Rattle.expression.specs.Flat.{size, largestSize};
 ghost use Rattle.expression.specs.Walks.{capSum, capOps, listed};
 
 // No more nodes than these are counted: 2^60.
-pub const LARGEST_SIZE: u64 = 1152921504606846976;
+const LARGEST_SIZE: u64 = 1152921504606846976;
 
 // The larger of two degrees.
 fn most(a: u64, b: u64) -> u64
@@ -132,8 +132,8 @@ fn items_degree(ws: &[u64], n: usize, base: u64, power: u64, acc: u64) -> u64
 }
 
 // The sum of two sizes, 2^60 where it is more.
-fn both(a: u64, b: u64) -> u64
-    ensures { λ r. ⌜ r ≡ min 1152921504606846976 (a + b) ⌝ }
+pub fn add_sizes(a: u64, b: u64) -> u64
+    ensures { λ r. ⌜ r ≡ min largestSize (a + b) ⌝ }
 {
     if LARGEST_SIZE <= a {
         return LARGEST_SIZE;
@@ -150,27 +150,27 @@ fn both(a: u64, b: u64) -> u64
 // How many nodes the tree of node n takes when it is written, 2^60 where it is more.
 pub fn size_of(ws: &[u64], n: usize) -> u64
     requires { ⌜ n * 4 + 4 ≤ length (now ws) ⌝ }
-    ensures { λ r. ⌜ r ≡ min 1152921504606846976 (size (exprOf (now (ws .entry)) n)) ⌝ }
+    ensures { λ r. ⌜ r ≡ min largestSize (size (exprOf (now (ws .entry)) n)) ⌝ }
 {
     let d = read_node(ws, n);
     let kind = d.kind;
     match kind {
-        kind::NEGATED => both(1, lower_size(ws, n, d.first)),
+        kind::NEGATED => add_sizes(1, lower_size(ws, n, d.first)),
         kind::SUM => {
             let x = lower_size(ws, n, d.first);
             let y = lower_size(ws, n, d.second);
-            both(1, both(x, y))
+            add_sizes(1, add_sizes(x, y))
         }
         kind::PRODUCT => {
             let x = lower_size(ws, n, d.first);
             let y = lower_size(ws, n, d.second);
-            both(1, both(x, y))
+            add_sizes(1, add_sizes(x, y))
         }
-        kind::SCALED => both(1, lower_size(ws, n, d.first)),
+        kind::SCALED => add_sizes(1, lower_size(ws, n, d.first)),
         kind::DISTRIBUTE_POWERS => {
             let base = lower_size(ws, n, d.first);
             let items = lower_items_size(ws, n, d.second);
-            both(1, both(items, base))
+            add_sizes(1, add_sizes(items, base))
         }
         _ => 1,
     }
@@ -178,7 +178,7 @@ pub fn size_of(ws: &[u64], n: usize) -> u64
 
 fn lower_size(ws: &[u64], n: usize, a: u64) -> u64
     requires { ⌜ n * 4 + 4 ≤ length (now ws) ⌝ }
-    ensures { λ r. ⌜ r ≡ min 1152921504606846976 (size (under n noExpr (exprOf (now (ws .entry))) a)) ⌝ }
+    ensures { λ r. ⌜ r ≡ min largestSize (size (under n noExpr (exprOf (now (ws .entry))) a)) ⌝ }
 {
     let b = index(a);
     if b < n {
@@ -190,20 +190,20 @@ fn lower_size(ws: &[u64], n: usize, a: u64) -> u64
 // How many nodes the Items from n on take, with their expressions.
 fn items_size(ws: &[u64], n: usize) -> u64
     requires { ⌜ n * 4 + 4 ≤ length (now ws) ⌝ }
-    ensures { λ r. ⌜ r ≡ min 1152921504606846976 (listed (itemsOf (now (ws .entry)) n)) ⌝ }
+    ensures { λ r. ⌜ r ≡ min largestSize (listed (itemsOf (now (ws .entry)) n)) ⌝ }
 {
     let d = read_node(ws, n);
     let x = lower_size(ws, n, d.first);
     if d.value == 0 {
-        return both(1, x);
+        return add_sizes(1, x);
     }
     let y = lower_items_size(ws, n, d.second);
-    both(1, both(x, y))
+    add_sizes(1, add_sizes(x, y))
 }
 
 fn lower_items_size(ws: &[u64], n: usize, a: u64) -> u64
     requires { ⌜ n * 4 + 4 ≤ length (now ws) ⌝ }
-    ensures { λ r. ⌜ r ≡ min 1152921504606846976 (listed (under n noExprs (itemsOf (now (ws .entry))) a)) ⌝ }
+    ensures { λ r. ⌜ r ≡ min largestSize (listed (under n noExprs (itemsOf (now (ws .entry))) a)) ⌝ }
 {
     let b = index(a);
     if b < n {

@@ -30,7 +30,7 @@ ghost use Rattle.expression.specs.Expr.{evaluate, powersFirst, powersRest};
 ghost use Rattle.expression.specs.Nodes.{exprOf, itemsOf, under, noExpr, decodeSigned};
 ghost use Rattle.expression.specs.Read.{nodeAt};
 ghost use Rattle.expression.specs.Value.{valueAt, polyOf};
-ghost use Rattle.expression.specs.Reader.{LayoutSmall, polysOf};
+ghost use Rattle.expression.specs.Reader.{LayoutSmall, polysOf, sliceWords};
 ghost use Rattle.expression.specs.Point.{PointInOrder, ContextReady, environmentOf, opsOf, polyValue};
 ghost use Rattle.expression_evaluate.specs.Lent.{lent};
 ghost use lib.ListN.{getD};
@@ -192,7 +192,7 @@ fn witness_cell<'a>(s: &[&'a [u64]; 5], i: usize, rows: usize, row: usize) -> u6
 }
 
 fn circuit_cell<'a>(s: &[&'a [u64]; 5], start: usize, i: usize, rows: usize, row: usize) -> u64
-    requires { ⌜ ((start ≤ 1152921504606846976) × (i ≤ 4194304)) × ((rows ≤ 1048576) × (row < 1048576)) ⌝ }
+    requires { ⌜ ((start ≤ sliceWords) × (i ≤ 4194304)) × ((rows ≤ 1048576) × (row < 1048576)) ⌝ }
     ensures { λ r. ⌜ r ≡ getD (lent (now (s .entry)) 1) (start + i * rows + row) 0 ⌝ }
 {
     cell(s[1], start, i, rows, row)

@@ -7,11 +7,11 @@ ghost use Prim.Native.Nat.{_+_, _*_, _≤_, _<_};
 ghost use lib.ListN.{getD};
 ghost use Rattle.field.specs.Field.{𝔾, el};
 ghost use Rattle.expression.specs.Value.{polyOf};
-ghost use Rattle.expression.specs.Reader.{polysOf, LayoutSmall};
+ghost use Rattle.expression.specs.Reader.{polysOf, LayoutSmall, sliceWords};
 
 // Column i of columns that begin at a word, at a row; 0 where there is none.
 pub fn cell(ws: &[u64], start: usize, i: usize, rows: usize, row: usize) -> u64
-    requires { ⌜ ((start ≤ 1152921504606846976) × (i ≤ 4194304)) × ((rows ≤ 1048576) × (row < 1048576)) ⌝ }
+    requires { ⌜ ((start ≤ sliceWords) × (i ≤ 4194304)) × ((rows ≤ 1048576) × (row < 1048576)) ⌝ }
     ensures { λ r. ⌜ r ≡ getD (now (ws .entry)) (start + i * rows + row) 0 ⌝ }
 {
     word_at(ws, start + i * rows + row)

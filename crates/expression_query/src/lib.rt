@@ -1,5 +1,6 @@
 // The queries of an expression (Rust `used_query`), from its node words.
 use expression::kind;
+use expression::node::SIGNED_OFFSET;
 use expression_nodes::index;
 use expression_nodes::read_node;
 ghost use mathlib.Core.Path.{_≡_};
@@ -12,9 +13,6 @@ ghost use Rattle.expression.specs.Expr.{evaluate, powersFirst, powersRest};
 ghost use Rattle.expression.specs.Nodes.{exprOf, itemsOf, under, noExpr};
 ghost use Rattle.expression.specs.Walks.{usedOps};
 ghost use Rattle.expression.specs.Queries.{queryOf, usedQueries, queriesInto};
-
-// The word that keeps rotation 0, as a place.
-const SIGNED_OFFSET: usize = 2147483648;
 
 fn either(a: bool, b: bool) -> bool
     ensures { λ r. ⌜ r ≡ (a || b) ⌝ }
@@ -121,7 +119,7 @@ fn count_queries(ws: &[u64], n: usize, polys: usize, k: usize) -> usize
     ensures { λ r. ⌜ r ≡ length (usedQueries (exprOf (now (ws .entry)) n) polys k) ⌝ }
 {
     let wide = k + k + 1;
-    let low = SIGNED_OFFSET - k;
+    let low = SIGNED_OFFSET as usize - k;
     let end = polys * wide;
     let mut count: usize = 0;
     let mut i: usize = 0;
@@ -145,7 +143,7 @@ pub fn used_queries(ws: &[u64], n: usize, polys: usize, k: usize, out: &mut [u64
         return count;
     }
     let wide = k + k + 1;
-    let low = SIGNED_OFFSET - k;
+    let low = SIGNED_OFFSET as usize - k;
     let end = polys * wide;
     let mut at: usize = 0;
     let mut i: usize = 0;

@@ -1,4 +1,5 @@
 // The building call: the questions in their order, then the columns and the nodes.
+use backend::MAX_POLYS;
 use backend_questions::first_no;
 use hyperplonk_columns::write_columns;
 use hyperplonk_nodes::compose_nodes;
@@ -14,7 +15,7 @@ ghost use mathlib.Core.Path.{_≡_};
 ghost use mathlib.Core.Bool.{true};
 ghost use Prim.Native.Nat.{_≤_};
 ghost use lib.ListN.{take};
-ghost use Rattle.backend.specs.Circuit.{circuitOf, copied};
+ghost use Rattle.backend.specs.Circuit.{circuitOf, copied, maxPolys};
 ghost use Rattle.hyperplonk_prepare.specs.Prepared.{Accepted, Prepared};
 ghost use Rattle.hyperplonk_spec.specs.Build.{Output, logOf, q12, q13, q14, refused as refusedBy, buildLog, buildOf, lentBuild};
 ghost use Rattle.hyperplonk_spec.specs.Demand.{DemandThreeAt};
@@ -75,10 +76,10 @@ fn build_named<'a>(
     challenges: &'a [u64],
     columns: &mut [u64],
     nodes: &mut [u64],
-    names: &[u64; 72],
+    names: &[u64; MAX_POLYS],
     count: usize,
 ) -> Built
-    requires { ⌜ Accepted (now circuit) × (q12 (circuitOf (now circuit)) (now instance) (now witness) (now challenges) ≡ true) × (q13 (now instance) (now witness) (now challenges) ≡ true) × (count ≤ 72) × (take count (now names) ≡ copied (circuitOf (now circuit))) ⌝ }
+    requires { ⌜ Accepted (now circuit) × (q12 (circuitOf (now circuit)) (now instance) (now witness) (now challenges) ≡ true) × (q13 (now instance) (now witness) (now challenges) ≡ true) × (count ≤ maxPolys) × (take count (now names) ≡ copied (circuitOf (now circuit))) ⌝ }
     ensures { λ r. ⌜ record { answer = r; columns = now (columns .exit); nodes = now (nodes .exit) } ≡ buildOf (lentBuild (now (circuit .entry)) (now (instance .entry)) (now (witness .entry)) (now (challenges .entry)) (now (columns .entry)) (now (nodes .entry))) ⌝ }
 {
     let all = &names[..];

@@ -3,9 +3,10 @@ use mathlib.Core.Path.{_≡_}
 use mathlib.Core.List.{List, map}
 use Prim.Native.Nat.{ℕ, _+_, _≤_, min}
 use Rattle.lists.specs.Lists.{total}
+use Rattle.expression.specs.Flat.{largestSize}
 use Rattle.backend.specs.Circuit.{Section, entries, circuitOf}
 use Rattle.preprocessor.specs.Compose.{composedNodes}
-use Rattle.preprocessor.specs.Count.{nodesIn, most}
+use Rattle.preprocessor.specs.Count.{nodesIn}
 use Rattle.preprocessor.proofs.Bound as bound
 use Rattle.preprocessor.proofs.Bound.{pairNodes}
 use Rattle.hyperplonk_prepare.specs.Prepared.{Accepted}
@@ -20,5 +21,5 @@ module _ (ws : List ℕ) (a : Accepted ws) where
   composed-most = bound.composed-most ws (laid-of ws a) (counted-of ws a) (answers ws a .seven) (limits ws a)
 
   -- a count that stops at 2^60 is the number itself
-  pub composed-exact : min most (composedNodes (circuitOf ws)) ≡ composedNodes (circuitOf ws)
+  pub composed-exact : min largestSize (composedNodes (circuitOf ws)) ≡ composedNodes (circuitOf ws)
   composed-exact = bound.composed-exact ws (laid-of ws a) (counted-of ws a) (answers ws a .seven) (limits ws a)

@@ -15,13 +15,13 @@ use Rattle.lists.proofs.All.{all-from}
 use Rattle.lists.proofs.Columns.{tabulate-length}
 use Rattle.lists.proofs.Once.{same-tests}
 use Rattle.lists.proofs.Parts.{concat-split}
+use Rattle.expression.specs.Flat.{largestSize}
 use Rattle.backend.specs.Circuit.{Section, wordK, bodyOf, wordEach, cellAt, cellsOf, statedOf, circuitOf, rowsOf, numWitness, numChallenges, numPoly, numLookups, copiedIn, copied, numCopied}
 use Rattle.backend.specs.Constraints.{maxDegree}
 use Rattle.backend.specs.Degrees.{largestDegree, degreesFit}
 use Rattle.backend.proofs.Numbers.{each-one, not-past}
 use Rattle.backend.proofs.Degree.{ten-is, d-is}
 use Rattle.preprocessor.specs.Compose.{numZ, composedNodes, paramsOf}
-use Rattle.preprocessor.specs.Count.{most}
 use Rattle.preprocessor.specs.ComposeWords.{Words, DecodedFrom}
 use Rattle.preprocessor.specs.declared.CircuitParams.{CircuitParams}
 use Rattle.hyperplonk_spec.specs.Build.{columnWords, q12, q13, q14}
@@ -37,7 +37,7 @@ total-most m [] a = omega arith
 total-most m (n ∷ ns) a = let h = total-most m ns (a .1) in let b = a .0 in omega arith
 
 -- a count that stops at 2^60 against room for fewer than 2^62 words
-room-for : (n r room : ℕ) → r ≡ min most n → room < 2 ^ 62 → leb (r * 4) room ≡ leb (n * 4) room
+room-for : (n r room : ℕ) → r ≡ min largestSize n → room < 2 ^ 62 → leb (r * 4) room ≡ leb (n * 4) room
 room-for n r room e h =
     same-tests (leb (r * 4) room) (leb (n * 4) room)
     (λ t. let q = leb-true (r * 4) room t in le-leb (n * 4) room (omega arith))
@@ -162,7 +162,7 @@ module _ (ws : List ℕ) (a : Accepted ws) where
   twelve is ss cs values columns rows user v c r u = rw (v, c, r ∙ sym (known.rows-is ws a), u)
 
   -- ---- 14
-  pub fourteen : (words composed columns room : ℕ) → words ≡ columnWords (circuitOf ws) → composed ≡ min most (composedNodes (circuitOf ws))
+  pub fourteen : (words composed columns room : ℕ) → words ≡ columnWords (circuitOf ws) → composed ≡ min largestSize (composedNodes (circuitOf ws))
       → room < 2 ^ 62
       → (cs ns : List ℕ) → length cs ≡ columns → length ns ≡ room
       → (leb words columns && leb (composed * 4) room) ≡ q14 (circuitOf ws) cs ns

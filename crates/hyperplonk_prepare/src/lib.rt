@@ -17,7 +17,7 @@ ghost use mathlib.Core.Path.{_≡_};
 ghost use mathlib.Core.List.{_++_};
 ghost use Prim.Native.Nat.{_-_, _≤_};
 ghost use lib.ListN.{take, replicate};
-ghost use Rattle.backend.specs.Circuit.{circuitOf, numCopied};
+ghost use Rattle.backend.specs.Circuit.{circuitOf, numCopied, maxPolys};
 ghost use Rattle.backend.specs.Circuit as def;
 ghost use Rattle.backend.specs.Constraints.{maxDegree};
 ghost use Rattle.preprocessor.specs.Compose.{paramsOf};
@@ -26,7 +26,7 @@ ghost use Rattle.hyperplonk_prepare.specs.Prepared.{Accepted};
 // The copied columns of the circuit, and zeros after them.
 pub fn copied_of(circuit: &[u64]) -> Copied
     requires { ⌜ Accepted (now circuit) ⌝ }
-    ensures { λ r. ⌜ (r .count ≤ 72) × (take (r .count) (r .of) ≡ def.copied (circuitOf (now (circuit .entry)))) × (r .count ≡ numCopied (circuitOf (now (circuit .entry)))) × (r .of ≡ def.copied (circuitOf (now (circuit .entry))) ++ replicate (72 - r .count) 0) ⌝ }
+    ensures { λ r. ⌜ (r .count ≤ maxPolys) × (take (r .count) (r .of) ≡ def.copied (circuitOf (now (circuit .entry)))) × (r .count ≡ numCopied (circuitOf (now (circuit .entry)))) × (r .of ≡ def.copied (circuitOf (now (circuit .entry))) ++ replicate (maxPolys - r .count) 0) ⌝ }
 {
     let polys = num_poly(circuit);
     let cells = cells_of(circuit);

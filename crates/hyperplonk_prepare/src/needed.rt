@@ -9,9 +9,9 @@ ghost use mathlib.Core.Path.{_≡_};
 ghost use mathlib.Core.List.{List};
 ghost use Prim.Native.Nat.{ℕ, _<_, _^_, min};
 ghost use lib.ListN.{length};
+ghost use Rattle.expression.specs.Flat.{largestSize};
 ghost use Rattle.backend.specs.Circuit.{circuitOf};
 ghost use Rattle.preprocessor.specs.Compose.{composedNodes, paramsOf};
-ghost use Rattle.preprocessor.specs.Count.{most};
 ghost use Rattle.hyperplonk_spec.specs.Build.{columnWords, q14};
 ghost use Rattle.hyperplonk_prepare.specs.Prepared.{Accepted};
 
@@ -28,7 +28,7 @@ pub fn column_words(circuit: &[u64], params: CircuitParams) -> usize
 // The nodes that the composed expression takes, 2^60 where they are more.
 pub fn composed_nodes(circuit: &[u64], params: CircuitParams) -> u64
     requires { ⌜ Accepted (now circuit) × (params ≡ paramsOf (circuitOf (now circuit))) ⌝ }
-    ensures { λ r. ⌜ r ≡ min most (composedNodes (circuitOf (now (circuit .entry)))) ⌝ }
+    ensures { λ r. ⌜ r ≡ min largestSize (composedNodes (circuitOf (now (circuit .entry)))) ⌝ }
 {
     let user = nodes_of(circuit);
     let roots = constraints_of(circuit);

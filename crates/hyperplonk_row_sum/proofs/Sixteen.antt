@@ -14,12 +14,12 @@ use Rattle.lists.proofs.Tests.{false-true, by-test, and-left, and-right}
 use Rattle.lists.proofs.Same.{words-same}
 use Rattle.expression.specs.declared.poly.Layout.{Layout}
 use Rattle.expression.proofs.FlatLength.{flat-length}
+use Rattle.expression.specs.Flat.{largestSize}
 use Rattle.backend.specs.Circuit.{Circuit, wordK, circuitOf, rowsOf, numWitness, numChallenges}
 use Rattle.backend.specs.Questions.{small}
 use Rattle.backend.proofs.Answers.{says-no, says-yes}
 use Rattle.backend.proofs.Numbers.{polys}
 use Rattle.preprocessor.specs.Compose.{compose, composedWords, composedNodes, paramsOf}
-use Rattle.preprocessor.specs.Count.{most}
 use Rattle.preprocessor.specs.declared.CircuitParams.{CircuitParams}
 use Rattle.hyperplonk_spec.specs.Build.{columnWords}
 use Rattle.hyperplonk_spec.specs.RowSum.{q16}
@@ -118,10 +118,10 @@ module _ (c : Circuit) (witness columns nodes challenges y : List ℕ) where
 -- ---- the lengths, from numbers
 
 -- fewer than 2^62 words are as many as the nodes take, whether or not the count stops at 2^60
-counted-nodes : (n composed nodes : ℕ) → composed ≡ min most n → nodes < 2 ^ 62 → eqb nodes (composed * 4) ≡ eqb nodes (n * 4)
-counted-nodes n composed nodes e h = go (decLt n most)
+counted-nodes : (n composed nodes : ℕ) → composed ≡ min largestSize n → nodes < 2 ^ 62 → eqb nodes (composed * 4) ≡ eqb nodes (n * 4)
+counted-nodes n composed nodes e h = go (decLt n largestSize)
   where
-    go : Dec (n < most) → eqb nodes (composed * 4) ≡ eqb nodes (n * 4)
+    go : Dec (n < largestSize) → eqb nodes (composed * 4) ≡ eqb nodes (n * 4)
     go (yes l) = ap (λ (m : ℕ). eqb nodes (m * 4)) (let q : composed ≡ n = omega arith in q)
     go (no l) = ne-eqb nodes (composed * 4) (λ w. omega arith) ∙ sym (ne-eqb nodes (n * 4) (λ w. omega arith))
 
@@ -172,7 +172,7 @@ module _ (ws : List ℕ) (a : Accepted ws) (v : CircuitParams) (e : v ≡ params
 
   pub lengths-are : (witness columns nodes challenges y : ℕ) (l : Layout) (words composed k : ℕ) → l ≡ sumLayout ws
       → words ≡ columnWords (circuitOf ws)
-      → composed ≡ min most (composedNodes (circuitOf ws))
+      → composed ≡ min largestSize (composedNodes (circuitOf ws))
       → k ≡ wordK ws
       → nodes < 2 ^ 62
       → (eqb witness (l .witness * l .rows) && eqb columns words && eqb challenges (v .«num_challenges» + 3) && eqb y k && eqb nodes (composed * 4))

@@ -1,4 +1,5 @@
 // The row sum: question 16, and the sum of the composed expression over the rows.
+use backend::MAX_POLYS;
 use backend_questions::first_no;
 use backend_sections::contents::INSTANCE_COUNT;
 use backend_sections::contents::PREPROCESS_COUNT;
@@ -23,7 +24,7 @@ ghost use mathlib.Core.Path.{_≡_};
 ghost use Prim.Native.Nat.{_-_, _^_, _≤_, _<_};
 ghost use lib.ListN.{take};
 ghost use Rattle.field.specs.Element.{elem};
-ghost use Rattle.backend.specs.Circuit.{circuitOf, copied};
+ghost use Rattle.backend.specs.Circuit.{circuitOf, copied, maxPolys};
 ghost use Rattle.preprocessor.specs.Compose.{paramsOf};
 ghost use Rattle.hyperplonk_spec.specs.RowSum.{q16, sumOf, rowSumOf, lentSum};
 ghost use Rattle.hyperplonk_prepare.specs.Prepared.{Accepted, Prepared};
@@ -202,10 +203,10 @@ fn sum_named<'a>(
     nodes: &'a [u64],
     challenges: &'a [u64],
     y: &[u64],
-    of: &[u64; 72],
+    of: &[u64; MAX_POLYS],
     count: usize,
 ) -> RowSum
-    requires { ⌜ Accepted (now circuit) × ((count ≤ 72) × (take count (now of) ≡ copied (circuitOf (now circuit)))) ⌝ }
+    requires { ⌜ Accepted (now circuit) × ((count ≤ maxPolys) × (take count (now of) ≡ copied (circuitOf (now circuit)))) ⌝ }
     ensures { λ r. ⌜ r ≡ rowSumOf (lentSum (now (circuit .entry)) (now (witness .entry)) (now (columns .entry)) (now (nodes .entry)) (now (challenges .entry)) (now (y .entry))) ⌝ }
 {
     let all = &of[..];

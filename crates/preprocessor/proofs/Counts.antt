@@ -12,18 +12,18 @@ use Rattle.lists.specs.Lists.{tabulate, total, All}
 use Rattle.lists.proofs.Columns.{tabulate-suc, tabulate-cong, tabulate-of, map-tabulate}
 use Rattle.expression.specs.Expr.{Expr, distributePowers}
 use Rattle.expression.specs.Nodes.{exprOf}
-use Rattle.expression.specs.Flat.{size}
+use Rattle.expression.specs.Flat.{size, largestSize}
 use Rattle.backend.specs.Circuit.{Circuit}
 use Rattle.preprocessor.specs.Compose.{compose, composedNodes, numberOfM, numberOfH, lookupTreeOf, composeTree}
 use Rattle.preprocessor.specs.ComposeWords.{Limits, Words, sideExprs, sideTree, lookupsOf, constraintsFromWords, numConstraints, permutationNodes, DecodedFrom}
-use Rattle.preprocessor.specs.Count.{nodesIn, listNodes, most}
+use Rattle.preprocessor.specs.Count.{nodesIn, listNodes}
 use Rattle.preprocessor.specs.declared.CircuitParams.{CircuitParams}
 use Rattle.preprocessor.proofs.ComposeWords.{constraints-length, lookup-tree, lookup-size, side-length, side-size}
 use Rattle.preprocessor.proofs.Composed.{composed-is}
 use Rattle.preprocessor.proofs.Nodes.{nodes-append, nodes-one, list-size, challenge-size, compose-size, constraints-nodes}
 
 -- the capped sum of two capped counts
-pub capped : (r a b A B : ℕ) → r ≡ min most (a + b) → a ≡ min most A → b ≡ min most B → r ≡ min most (A + B)
+pub capped : (r a b A B : ℕ) → r ≡ min largestSize (a + b) → a ≡ min largestSize A → b ≡ min largestSize B → r ≡ min largestSize (A + B)
 capped r a b A B h p q = omega arith
 
 -- root i of w, which stand `step` words apart from s on
@@ -39,79 +39,79 @@ nodes-more f i =
     ap (λ (n : ℕ). nodesIn (tabulate f n)) (add-one i) ∙ ap nodesIn (tabulate-suc f i) ∙ nodes-append (tabulate f i) (f i ∷ [])
     ∙ ap (λ (n : ℕ). nodesIn (tabulate f i) + n) (nodes-one (f i))
 
-pub count-more : (f : ℕ → Expr) (i r sum x : ℕ) → r ≡ min most (sum + x) → sum ≡ min most (nodesIn (tabulate f i))
-    → x ≡ min most (size (f i))
-    → r ≡ min most (nodesIn (tabulate f (i + 1)))
+pub count-more : (f : ℕ → Expr) (i r sum x : ℕ) → r ≡ min largestSize (sum + x) → sum ≡ min largestSize (nodesIn (tabulate f i))
+    → x ≡ min largestSize (size (f i))
+    → r ≡ min largestSize (nodesIn (tabulate f (i + 1)))
 count-more f i r sum x h p q =
-    capped r sum x (nodesIn (tabulate f i)) (size (f i)) h p q ∙ ap (min most) (sym (nodes-more f i))
+    capped r sum x (nodesIn (tabulate f i)) (size (f i)) h p q ∙ ap (min largestSize) (sym (nodes-more f i))
 
-pub count-none : (f : ℕ → Expr) → 0 ≡ min most (nodesIn (tabulate f 0))
+pub count-none : (f : ℕ → Expr) → 0 ≡ min largestSize (nodesIn (tabulate f 0))
 unfolding tabulate nodesIn
 count-none f = refl
 
-pub count-all : (f : ℕ → Expr) (sum i n : ℕ) → i ≡ n → sum ≡ min most (nodesIn (tabulate f i)) → sum ≡ min most (nodesIn (tabulate f n))
-count-all f sum i n e h = h ∙ ap (λ (m : ℕ). min most (nodesIn (tabulate f m))) e
+pub count-all : (f : ℕ → Expr) (sum i n : ℕ) → i ≡ n → sum ≡ min largestSize (nodesIn (tabulate f i)) → sum ≡ min largestSize (nodesIn (tabulate f n))
+count-all f sum i n e h = h ∙ ap (λ (m : ℕ). min largestSize (nodesIn (tabulate f m))) e
 
 -- what a list adds
-pub list-none : 1 ≡ min most (listNodes 0)
+pub list-none : 1 ≡ min largestSize (listNodes 0)
 unfolding listNodes
 list-none = refl
 
-pub list-one : 0 ≡ min most (listNodes 1)
+pub list-one : 0 ≡ min largestSize (listNodes 1)
 unfolding listNodes
 list-one = refl
 
-pub list-many : (n r : ℕ) → (n ≡ 0 → ⊥) → (n ≡ 1 → ⊥) → r ≡ min most (n + 2) → r ≡ min most (listNodes n)
+pub list-many : (n r : ℕ) → (n ≡ 0 → ⊥) → (n ≡ 1 → ⊥) → r ≡ min largestSize (n + 2) → r ≡ min largestSize (listNodes n)
 unfolding listNodes
 list-many zero r h k e = absurd (h refl)
 list-many (suc zero) r h k e = absurd (k refl)
 list-many (suc (suc n)) r h k e = omega arith
 
 -- a side, a lookup
-pub side-counted : (nodes pairs : List ℕ) (beta s w r x y : ℕ) → r ≡ min most (x + y)
-    → x ≡ min most (nodesIn (tabulate (λ i. exprOf nodes (getD pairs (s + i * 2) 0)) w))
-    → y ≡ min most (listNodes w)
-    → r ≡ min most (size (distributePowers (sideExprs nodes pairs s w) (Expr.challenge beta)))
+pub side-counted : (nodes pairs : List ℕ) (beta s w r x y : ℕ) → r ≡ min largestSize (x + y)
+    → x ≡ min largestSize (nodesIn (tabulate (λ i. exprOf nodes (getD pairs (s + i * 2) 0)) w))
+    → y ≡ min largestSize (listNodes w)
+    → r ≡ min largestSize (size (distributePowers (sideExprs nodes pairs s w) (Expr.challenge beta)))
 unfolding sideExprs
 side-counted nodes pairs beta s w r x y h p q =
     let es : List Expr = tabulate (λ i. exprOf nodes (getD pairs (s + i * 2) 0)) w in
     capped r x y (nodesIn es) (listNodes w) h p q
-    ∙ ap (min most)
+    ∙ ap (min largestSize)
     (ap (λ (n : ℕ). nodesIn es + listNodes n) (sym (side-length nodes pairs s w))
     ∙ sym (list-size (Expr.challenge beta) (challenge-size beta) es))
 
-pub lookup-counted : (nodes pairs : List ℕ) (beta s w r a b x y : ℕ) → r ≡ min most (y + 16) → y ≡ min most (x + x)
-    → x ≡ min most (a + b)
-    → a ≡ min most (size (distributePowers (sideExprs nodes pairs s w) (Expr.challenge beta)))
-    → b ≡ min most (size (distributePowers (sideExprs nodes pairs (s + 1) w) (Expr.challenge beta)))
-    → r ≡ min most (size (sideTree nodes pairs beta s w) * 2 + size (sideTree nodes pairs beta (s + 1) w) * 2 + 8)
+pub lookup-counted : (nodes pairs : List ℕ) (beta s w r a b x y : ℕ) → r ≡ min largestSize (y + 16) → y ≡ min largestSize (x + x)
+    → x ≡ min largestSize (a + b)
+    → a ≡ min largestSize (size (distributePowers (sideExprs nodes pairs s w) (Expr.challenge beta)))
+    → b ≡ min largestSize (size (distributePowers (sideExprs nodes pairs (s + 1) w) (Expr.challenge beta)))
+    → r ≡ min largestSize (size (sideTree nodes pairs beta s w) * 2 + size (sideTree nodes pairs beta (s + 1) w) * 2 + 8)
 lookup-counted nodes pairs beta s w r a b x y h p q ea eb =
     let A : ℕ = size (distributePowers (sideExprs nodes pairs s w) (Expr.challenge beta)) in
     let B : ℕ = size (distributePowers (sideExprs nodes pairs (s + 1) w) (Expr.challenge beta)) in
-    let e : x ≡ min most (A + B) = capped x a b A B q ea eb in
-    let f : y ≡ min most (A + B + (A + B)) = capped y x x (A + B) (A + B) p e e in
+    let e : x ≡ min largestSize (A + B) = capped x a b A B q ea eb in
+    let f : y ≡ min largestSize (A + B + (A + B)) = capped y x x (A + B) (A + B) p e e in
     let u = side-size nodes pairs beta s w in
     let t = side-size nodes pairs beta (s + 1) w in
     plain r y A B (size (sideTree nodes pairs beta s w)) (size (sideTree nodes pairs beta (s + 1) w)) h f u t
   where
-    plain : (r y A B S T : ℕ) → r ≡ min most (y + 16) → y ≡ min most (A + B + (A + B)) → S ≡ A + 2 → T ≡ B + 2
-        → r ≡ min most (S * 2 + T * 2 + 8)
+    plain : (r y A B S T : ℕ) → r ≡ min largestSize (y + 16) → y ≡ min largestSize (A + B + (A + B)) → S ≡ A + 2 → T ≡ B + 2
+        → r ≡ min largestSize (S * 2 + T * 2 + 8)
     plain r y A B S T h f u t = omega arith
 
 -- the constraint of lookup j, whose pairs begin at s
 pub lookup-is : (v : CircuitParams) (nodes widths pairs : List ℕ) (j s w r : ℕ) → total widths * 2 ≤ length pairs → j < length widths
     → s ≡ total (take j widths)
     → w ≡ getD widths j 0
-    → r ≡ min most (size (sideTree nodes pairs (v .«num_challenges») (s * 2) w) * 2 + size (sideTree nodes pairs (v .«num_challenges») (s * 2 + 1) w) * 2 + 8)
-    → r ≡ min most (size (lookupTreeOf v (lookupsOf nodes widths pairs) j))
+    → r ≡ min largestSize (size (sideTree nodes pairs (v .«num_challenges») (s * 2) w) * 2 + size (sideTree nodes pairs (v .«num_challenges») (s * 2 + 1) w) * 2 + 8)
+    → r ≡ min largestSize (size (lookupTreeOf v (lookupsOf nodes widths pairs) j))
 lookup-is v nodes widths pairs j s w r enough h es ew e =
     e
     ∙ ap₂
     (λ (s w : ℕ).
-    min most (size (sideTree nodes pairs (v .«num_challenges») (s * 2) w) * 2 + size (sideTree nodes pairs (v .«num_challenges») (s * 2 + 1) w) * 2 + 8))
+    min largestSize (size (sideTree nodes pairs (v .«num_challenges») (s * 2) w) * 2 + size (sideTree nodes pairs (v .«num_challenges») (s * 2 + 1) w) * 2 + 8))
     es
     ew
-    ∙ ap (min most)
+    ∙ ap (min largestSize)
     (sym
     (ap size (lookup-tree nodes widths pairs enough j h v)
     ∙ lookup-size (numberOfM v j) (numberOfH v j) (sideTree nodes pairs (v .«num_challenges») (total (take j widths) * 2) (getD widths j 0))
@@ -156,34 +156,34 @@ module _ {c : Circuit} {v : CircuitParams} {names nodes roots widths pairs : Lis
       omega arith
 
   pub composed-counted : (r own looks perm x y z u m k : ℕ) → Limits v → DecodedFrom c v names nodes roots widths pairs
-      → own ≡ min most (nodesIn (tabulate (λ i. exprOf nodes (getD roots (0 + i * 1) 0)) (length roots)))
-      → looks ≡ min most (nodesIn (tabulate (lookupTreeOf v (lookupsOf nodes widths pairs)) (v .«num_lookups»)))
+      → own ≡ min largestSize (nodesIn (tabulate (λ i. exprOf nodes (getD roots (0 + i * 1) 0)) (length roots)))
+      → looks ≡ min largestSize (nodesIn (tabulate (lookupTreeOf v (lookupsOf nodes widths pairs)) (v .«num_lookups»)))
       → perm ≡ permutationNodes v
-      → m ≡ min most (listNodes (numConstraints (length roots) v))
-      → k ≡ min most (listNodes (v .«num_lookups» + 1))
-      → x ≡ min most (own + looks)
-      → y ≡ min most (x + perm)
-      → z ≡ min most (y + m)
-      → u ≡ min most (z + (v .«num_lookups» + 2))
-      → r ≡ min most (u + k)
-      → r ≡ min most (composedNodes c)
+      → m ≡ min largestSize (listNodes (numConstraints (length roots) v))
+      → k ≡ min largestSize (listNodes (v .«num_lookups» + 1))
+      → x ≡ min largestSize (own + looks)
+      → y ≡ min largestSize (x + perm)
+      → z ≡ min largestSize (y + m)
+      → u ≡ min largestSize (z + (v .«num_lookups» + 2))
+      → r ≡ min largestSize (u + k)
+      → r ≡ min largestSize (composedNodes c)
   composed-counted r own looks perm x y z u m k l p ho hl hp hm hk hx hy hz hu hr =
       let A : ℕ = nodesIn (map (exprOf nodes) roots) in
       let B : ℕ = nodesIn (tabulate (lookupTreeOf v (lookupsOf nodes widths pairs)) (v .«num_lookups»)) in
       let M : ℕ = listNodes (numConstraints (length roots) v) in
       let K : ℕ = listNodes (v .«num_lookups» + 1) in
-      let ex : x ≡ min most (A + B) = capped x own looks A B hx (ho ∙ ap (min most) (own-nodes nodes roots)) hl in
-      let ey : y ≡ min most (A + B + permutationNodes v) = plain y x perm (A + B) (permutationNodes v) hy ex hp in
-      let ez : z ≡ min most (A + B + permutationNodes v + M) = capped z y m (A + B + permutationNodes v) M hz ey hm in
-      let eu : u ≡ min most (A + B + permutationNodes v + M + (v .«num_lookups» + 2)) =
+      let ex : x ≡ min largestSize (A + B) = capped x own looks A B hx (ho ∙ ap (min largestSize) (own-nodes nodes roots)) hl in
+      let ey : y ≡ min largestSize (A + B + permutationNodes v) = plain y x perm (A + B) (permutationNodes v) hy ex hp in
+      let ez : z ≡ min largestSize (A + B + permutationNodes v + M) = capped z y m (A + B + permutationNodes v) M hz ey hm in
+      let eu : u ≡ min largestSize (A + B + permutationNodes v + M + (v .«num_lookups» + 2)) =
       plain u z (v .«num_lookups» + 2) (A + B + permutationNodes v + M) (v .«num_lookups» + 2) hu ez refl in
-      let er : r ≡ min most (A + B + permutationNodes v + M + (v .«num_lookups» + 2) + K) =
+      let er : r ≡ min largestSize (A + B + permutationNodes v + M + (v .«num_lookups» + 2) + K) =
       capped r u k (A + B + permutationNodes v + M + (v .«num_lookups» + 2)) K hr eu hk in
       er
-      ∙ ap (min most)
+      ∙ ap (min largestSize)
       (sum A B (permutationNodes v) M (v .«num_lookups») K ∙ ap (λ (n : ℕ). A + B + permutationNodes v + M + 2 + v .«num_lookups» + listNodes n) (add-one (v .«num_lookups»)) ∙ sym (counted l p))
     where
-      plain : (r a b A B : ℕ) → r ≡ min most (a + b) → a ≡ min most A → b ≡ B → r ≡ min most (A + B)
+      plain : (r a b A B : ℕ) → r ≡ min largestSize (a + b) → a ≡ min largestSize A → b ≡ B → r ≡ min largestSize (A + B)
       plain r a b A B h p q = omega arith
 
       sum : (A B P M L K : ℕ) → A + B + P + M + (L + 2) + K ≡ A + B + P + M + 2 + L + K

@@ -8,7 +8,7 @@ use lib.Dec.{eqb}
 use Rattle.lists.specs.Lists.{tabulate, ceilDiv, split, total, writeWindow, All}
 use Rattle.expression.specs.Expr.{Expr, Exprs, exprsOf}
 use Rattle.expression.specs.Nodes.{exprOf}
-use Rattle.backend.specs.Circuit.{Circuit, Pair, pairsOf, copied}
+use Rattle.backend.specs.Circuit.{Circuit, Pair, pairsOf, maxPolys, copied}
 use Rattle.backend.specs.Constraints.{sideOf}
 use Rattle.preprocessor.specs.Compose.{paramsOf, constraintTrees, composedWords, composedNodes}
 use Rattle.preprocessor.specs.declared.CircuitParams.{CircuitParams}
@@ -40,8 +40,8 @@ IsNode nodes r = r * 4 + 4 ≤ length nodes
 
 -- numbers in the limits of documents 01 and 02; D is 2 or more
 pub record Limits (params : CircuitParams) : Type 0 where
-  pub few-polys : params .«num_poly» ≤ 72
-  pub few-copied : params .«num_permutation_polys» ≤ 72
+  pub few-polys : params .«num_poly» ≤ maxPolys
+  pub few-copied : params .«num_permutation_polys» ≤ maxPolys
   pub few-lookups : params .«num_lookups» ≤ 8
   pub few-user : params .«num_challenges» ≤ 16
   pub few-rows : params .rows ≤ 1048576

@@ -14,7 +14,3 @@ unfoldable pub listNodes : ℕ → ℕ
 listNodes zero = 1
 listNodes (suc zero) = 0
 listNodes (suc (suc n)) = n + 4
-
--- counts stop at 2^60
-abbrev pub most : ℕ
-most = 1152921504606846976

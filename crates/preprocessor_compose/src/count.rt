@@ -1,6 +1,6 @@
 // How many nodes `compose` writes, counted beforehand from the sizes of the user's expressions; 2^60 where there are more.
 use crate::constraints::num_constraints;
-use expression_degree::LARGEST_SIZE;
+use expression_degree::add_sizes;
 use expression_degree::size_of;
 use expression_nodes::index;
 use preprocessor::CircuitParams;
@@ -11,31 +11,15 @@ ghost use lib.ListN.{length, getD};
 ghost use Rattle.lists.specs.Lists.{tabulate, All};
 ghost use Rattle.expression.specs.Expr.{Expr, distributePowers};
 ghost use Rattle.expression.specs.Nodes.{exprOf};
-ghost use Rattle.expression.specs.Flat.{size};
+ghost use Rattle.expression.specs.Flat.{size, largestSize};
 ghost use Rattle.backend.specs.Circuit.{Circuit};
 ghost use Rattle.preprocessor.specs.Compose.{composedNodes, lookupTreeOf};
 ghost use Rattle.preprocessor.specs.ComposeWords.{Limits, Words, IsNode, sideExprs, sideTree, lookupsOf, DecodedFrom, permutationNodes};
-ghost use Rattle.preprocessor.specs.Count.{nodesIn, listNodes, most};
-
-// The sum of two counts.
-fn plus(a: u64, b: u64) -> u64
-    ensures { λ r. ⌜ r ≡ min most (a + b) ⌝ }
-{
-    if LARGEST_SIZE <= a {
-        return LARGEST_SIZE;
-    }
-    if LARGEST_SIZE <= b {
-        return LARGEST_SIZE;
-    }
-    if LARGEST_SIZE <= a + b {
-        return LARGEST_SIZE;
-    }
-    a + b
-}
+ghost use Rattle.preprocessor.specs.Count.{nodesIn, listNodes};
 
 // What `distribute_powers` adds to n expressions.
 fn list_nodes(n: usize) -> u64
-    ensures { λ r. ⌜ r ≡ min most (listNodes n) ⌝ }
+    ensures { λ r. ⌜ r ≡ min largestSize (listNodes n) ⌝ }
 {
     if n == 0 {
         return 1;
@@ -43,19 +27,19 @@ fn list_nodes(n: usize) -> u64
     if n == 1 {
         return 0;
     }
-    plus(n as u64, 2)
+    add_sizes(n as u64, 2)
 }
 
 // The nodes of w expressions, whose roots stand `step` words apart from word s on.
 fn roots_nodes(user: &[u64], roots: &[u64], s: usize, step: usize, w: usize) -> u64
     requires { ⌜ All (IsNode (now user)) (now roots) × (s + w * step < length (now roots) + step) ⌝ }
-    ensures { λ r. ⌜ r ≡ min most (nodesIn (tabulate (λ i. exprOf (now (user .entry)) (getD (now (roots .entry)) (s + i * step) 0)) w)) ⌝ }
+    ensures { λ r. ⌜ r ≡ min largestSize (nodesIn (tabulate (λ i. exprOf (now (user .entry)) (getD (now (roots .entry)) (s + i * step) 0)) w)) ⌝ }
 {
     let mut sum: u64 = 0;
     let mut i = 0;
     while i < w {
         let n = index(roots[s + i * step]);
-        sum = plus(sum, size_of(user, n));
+        sum = add_sizes(sum, size_of(user, n));
         i += 1;
     }
     sum
@@ -64,23 +48,23 @@ fn roots_nodes(user: &[u64], roots: &[u64], s: usize, step: usize, w: usize) -> 
 // The nodes of a lookup's side, without gamma.
 fn side_nodes(user: &[u64], pairs: &[u64], beta: usize, s: usize, w: usize) -> u64
     requires { ⌜ All (IsNode (now user)) (now pairs) × (s + w * 2 ≤ length (now pairs) + 1) ⌝ }
-    ensures { λ r. ⌜ r ≡ min most (size (distributePowers (sideExprs (now (user .entry)) (now (pairs .entry)) s w) (Expr.challenge beta))) ⌝ }
+    ensures { λ r. ⌜ r ≡ min largestSize (size (distributePowers (sideExprs (now (user .entry)) (now (pairs .entry)) s w) (Expr.challenge beta))) ⌝ }
 {
     let x = roots_nodes(user, pairs, s, 2, w);
     let y = list_nodes(w);
-    plus(x, y)
+    add_sizes(x, y)
 }
 
 // The nodes of the constraint of the lookup whose first pair starts at word s.
 fn lookup_nodes(user: &[u64], pairs: &[u64], beta: usize, s: usize, w: usize) -> u64
     requires { ⌜ All (IsNode (now user)) (now pairs) × (s + w * 2 ≤ length (now pairs)) ⌝ }
-    ensures { λ r. ⌜ r ≡ min most (size (sideTree (now (user .entry)) (now (pairs .entry)) beta s w) * 2 + size (sideTree (now (user .entry)) (now (pairs .entry)) beta (s + 1) w) * 2 + 8) ⌝ }
+    ensures { λ r. ⌜ r ≡ min largestSize (size (sideTree (now (user .entry)) (now (pairs .entry)) beta s w) * 2 + size (sideTree (now (user .entry)) (now (pairs .entry)) beta (s + 1) w) * 2 + 8) ⌝ }
 {
     let a = side_nodes(user, pairs, beta, s, w);
     let b = side_nodes(user, pairs, beta, s + 1, w);
-    let x = plus(a, b);
-    let y = plus(x, x);
-    plus(y, 16)
+    let x = add_sizes(a, b);
+    let y = add_sizes(x, x);
+    add_sizes(y, 16)
 }
 
 // The nodes of the lookups' constraints.
@@ -92,7 +76,7 @@ fn lookups_nodes(
     params: CircuitParams,
 ) -> u64
     requires { ⌜ Words params (now user) (now roots) (now widths) (now pairs) ⌝ }
-    ensures { λ r. ⌜ r ≡ min most (nodesIn (tabulate (lookupTreeOf params (lookupsOf (now (user .entry)) (now (widths .entry)) (now (pairs .entry)))) (params .«num_lookups»))) ⌝ }
+    ensures { λ r. ⌜ r ≡ min largestSize (nodesIn (tabulate (lookupTreeOf params (lookupsOf (now (user .entry)) (now (widths .entry)) (now (pairs .entry)))) (params .«num_lookups»))) ⌝ }
 {
     let mut sum: u64 = 0;
     let mut s = 0;
@@ -100,7 +84,7 @@ fn lookups_nodes(
     while j < params.num_lookups {
         let w = index(widths[j]);
         let x = lookup_nodes(user, pairs, params.num_challenges, s * 2, w);
-        sum = plus(sum, x);
+        sum = add_sizes(sum, x);
         s += w;
         j += 1;
     }
@@ -127,15 +111,15 @@ pub fn composed_nodes(
     params: CircuitParams,
 ) -> u64
     requires { ⌜ Words params (now user) (now roots) (now widths) (now pairs) ⌝ }
-    ensures { λ r. ⌜ ((c : Circuit) (names : List ℕ) → DecodedFrom c params names (now (user .entry)) (now (roots .entry)) (now (widths .entry)) (now (pairs .entry)) → r ≡ min most (composedNodes c)) ⌝ }
+    ensures { λ r. ⌜ ((c : Circuit) (names : List ℕ) → DecodedFrom c params names (now (user .entry)) (now (roots .entry)) (now (widths .entry)) (now (pairs .entry)) → r ≡ min largestSize (composedNodes c)) ⌝ }
 {
     let own = roots_nodes(user, roots, 0, 1, roots.len());
     let lookups = lookups_nodes(user, roots, widths, pairs, params);
     let permutation = permutation_nodes(params);
     let n = num_constraints(roots.len(), params);
-    let x = plus(own, lookups);
-    let y = plus(x, permutation);
-    let z = plus(y, list_nodes(n));
-    let u = plus(z, (params.num_lookups + 2) as u64);
-    plus(u, list_nodes(params.num_lookups + 1))
+    let x = add_sizes(own, lookups);
+    let y = add_sizes(x, permutation);
+    let z = add_sizes(y, list_nodes(n));
+    let u = add_sizes(z, (params.num_lookups + 2) as u64);
+    add_sizes(u, list_nodes(params.num_lookups + 1))
 }

@@ -16,12 +16,13 @@ ghost use lib.ListN.{length};
 ghost use Rattle.lists.specs.Lists.{tabulate};
 ghost use Rattle.expression.specs.Expr.{Expr, productOf};
 ghost use Rattle.expression.specs.Written.{mostWords, ExprWritten};
+ghost use Rattle.backend.specs.Circuit.{maxPolys};
 ghost use Rattle.preprocessor.specs.Compose.{numberOfZ, identityTree, permutationTree, nextTree, chunk, partTree, startTree};
 ghost use Rattle.preprocessor.specs.ComposeWords.{Limits};
 
 // "Next is the following part's z at that row; after the last part it is the first z with rotation 1."
 fn next_z(out: &mut [u64], from: usize, params: CircuitParams, i: usize, at: usize) -> usize
-    requires { ⌜ Limits params × ((i < 72) × ((at + 1) * 4 ≤ mostWords)) ⌝ }
+    requires { ⌜ Limits params × ((i < maxPolys) × ((at + 1) * 4 ≤ mostWords)) ⌝ }
     ensures { λ r. ⌜ ExprWritten from (nextTree params i) at (now (out .entry)) (now (out .exit)) r ⌝ }
 {
     let z = params.num_poly + params.num_permutation_polys + params.num_lookups * 2;
@@ -54,7 +55,7 @@ fn z_identities(
     count: usize,
     at: usize,
 ) -> usize
-    requires { ⌜ Limits params × ((i < 72) × ((0 < count) × ((first + count ≤ params .«num_permutation_polys») × ((params .«num_permutation_polys» ≤ length (now copied)) × ((at + count * 10 + 1) * 4 ≤ mostWords))))) ⌝ }
+    requires { ⌜ Limits params × ((i < maxPolys) × ((0 < count) × ((first + count ≤ params .«num_permutation_polys») × ((params .«num_permutation_polys» ≤ length (now copied)) × ((at + count * 10 + 1) * 4 ≤ mostWords))))) ⌝ }
     ensures { λ r. ⌜ (r ≡ at + count * 10 + 1) × ExprWritten from (Expr.product (Expr.poly (numberOfZ params i) (pos 0)) (productOf (tabulate (λ j. identityTree params (now (copied .entry)) (first + j)) count))) at (now (out .entry)) (now (out .exit)) r ⌝ }
 {
     let z = query(
@@ -78,7 +79,7 @@ fn z_permutations(
     count: usize,
     at: usize,
 ) -> usize
-    requires { ⌜ Limits params × ((i < 72) × ((0 < count) × ((first + count ≤ params .«num_permutation_polys») × ((params .«num_permutation_polys» ≤ length (now copied)) × ((at + count * 8 + 1) * 4 ≤ mostWords))))) ⌝ }
+    requires { ⌜ Limits params × ((i < maxPolys) × ((0 < count) × ((first + count ≤ params .«num_permutation_polys») × ((params .«num_permutation_polys» ≤ length (now copied)) × ((at + count * 8 + 1) * 4 ≤ mostWords))))) ⌝ }
     ensures { λ r. ⌜ (r ≡ at + count * 8 + 1) × ExprWritten from (Expr.product (nextTree params i) (productOf (tabulate (λ j. permutationTree params (now (copied .entry)) (first + j)) count))) at (now (out .entry)) (now (out .exit)) r ⌝ }
 {
     let z = next_z(out, from, params, i, at);

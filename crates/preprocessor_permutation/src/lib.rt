@@ -1,11 +1,12 @@
 // `permutation_polys`: the columns of labels of the copied columns, in the one column buffer.
 pub mod records;
 
+use backend::MAX_POLYS;
 ghost use mathlib.Core.Path.{_≡_};
 ghost use Prim.Native.Nat.{_+_, _*_, _/_, _^_, _≤_, _<_};
 ghost use lib.ListN.{length, getD, set};
 ghost use Rattle.lists.specs.Lists.{All, range, writeAt, split, total};
-ghost use Rattle.backend.specs.Circuit.{Cell, cellsOf};
+ghost use Rattle.backend.specs.Circuit.{Cell, cellsOf, maxPolys};
 ghost use Rattle.preprocessor.specs.Permutation.{Once, Starts, Walkable, CycleIn, Walked, cellWord, permutationColumns};
 
 // The first labels of `count` cells: column idx of the sorted list starts as idx × 2^k + row, so that the words are 0, 1, 2, …
@@ -21,11 +22,11 @@ fn first_labels(columns: &mut [u64], at: usize, count: usize)
 }
 
 // Where each copied column begins, by its polynomial: 8 instance, 32 preprocess and 32 witness columns at most.
-fn column_starts(copied: &[u64], rows: usize, at: usize) -> [u64; 72]
-    requires { ⌜ Once (now copied) × All (λ q. q < 72) (now copied) × (at + length (now copied) * rows < 2 ^ 64) ⌝ }
+fn column_starts(copied: &[u64], rows: usize, at: usize) -> [u64; MAX_POLYS]
+    requires { ⌜ Once (now copied) × All (λ q. q < maxPolys) (now copied) × (at + length (now copied) * rows < 2 ^ 64) ⌝ }
     ensures { λ r. ⌜ Starts r (now (copied .entry)) rows at ⌝ }
 {
-    let mut starts = [0; 72];
+    let mut starts = [0; MAX_POLYS];
     let mut i = 0;
     while i < copied.len() {
         let q = copied[i] as usize;
@@ -36,8 +37,8 @@ fn column_starts(copied: &[u64], rows: usize, at: usize) -> [u64; 72]
 }
 
 // The label that a cell holds.
-fn cell_label(columns: &[u64], starts: &[u64; 72], polynomial: u64, row: u64) -> u64
-    requires { ⌜ (polynomial < 72) × (cellWord (now starts) (record { polynomial = polynomial; row = row }) < length (now columns)) ⌝ }
+fn cell_label(columns: &[u64], starts: &[u64; MAX_POLYS], polynomial: u64, row: u64) -> u64
+    requires { ⌜ (polynomial < maxPolys) × (cellWord (now starts) (record { polynomial = polynomial; row = row }) < length (now columns)) ⌝ }
     ensures { λ r. ⌜ r ≡ getD (now (columns .entry)) (cellWord (now (starts .entry)) (record { polynomial = polynomial; row = row })) 0 ⌝ }
 {
     let q = polynomial as usize;
@@ -46,8 +47,14 @@ fn cell_label(columns: &[u64], starts: &[u64; 72], polynomial: u64, row: u64) ->
 }
 
 // A cell takes `label`; the label that it held.
-fn exchange(columns: &mut [u64], starts: &[u64; 72], polynomial: u64, row: u64, label: u64) -> u64
-    requires { ⌜ (polynomial < 72) × (cellWord (now starts) (record { polynomial = polynomial; row = row }) < length (now columns)) ⌝ }
+fn exchange(
+    columns: &mut [u64],
+    starts: &[u64; MAX_POLYS],
+    polynomial: u64,
+    row: u64,
+    label: u64,
+) -> u64
+    requires { ⌜ (polynomial < maxPolys) × (cellWord (now starts) (record { polynomial = polynomial; row = row }) < length (now columns)) ⌝ }
     ensures { λ r. ⌜ r
         ≡ getD (now (columns .entry)) (cellWord (now (starts .entry)) (record { polynomial = polynomial; row = row })) 0 ⌝ }
     ensures { λ r. ⌜ now (columns .exit)
@@ -62,9 +69,9 @@ fn exchange(columns: &mut [u64], starts: &[u64; 72], polynomial: u64, row: u64, 
 
 // Along a cycle each cell takes the label that the cell before held when the cycle began, the first that of the last.
 // The cells stand in columns that begin where `starts` says, none of them twice; every word of the columns is told.
-fn walk_cycle(columns: &mut [u64], starts: &[u64; 72], cells: &[u64])
+fn walk_cycle(columns: &mut [u64], starts: &[u64; MAX_POLYS], cells: &[u64])
     requires { ⌜ 0 < length (now cells) / 2 ⌝ }
-    requires { ⌜ All (λ (x : Cell). (x .polynomial < 72) × (cellWord (now starts) x < length (now columns))) (cellsOf (now cells)) ⌝ }
+    requires { ⌜ All (λ (x : Cell). (x .polynomial < maxPolys) × (cellWord (now starts) x < length (now columns))) (cellsOf (now cells)) ⌝ }
     requires { ⌜ CycleIn (now starts) (cellsOf (now cells)) (length (now columns)) ⌝ }
     ensures { λ r. ⌜ Walked (now (starts .entry)) (cellsOf (now (cells .entry))) (now (columns .entry)) (now (columns .exit)) ⌝ }
 {

@@ -16,7 +16,7 @@ use Rattle.expression_degree.proofs.+items_size+lower_items_size+lower_
 use Rattle.expression_degree.proofs.size_of.Reads as size-of
 use Rattle.expression_degree.proofs.size_of.Kinds as size-of-kinds
 use Rattle.expression_degree.proofs.+items_size+lower_items_size+lower_size+size_of.Lts-size_of as size-of-lts
-use Rattle.expression_degree.proofs.both.Reads as both-reads
+use Rattle.expression_degree.proofs.add_sizes.Reads as add-sizes-reads
 use Rattle.expression_nodes.proofs.index.Reads as index-reads
 use Rattle.expression_nodes.proofs.read_node.Reads as read-node-reads
 use Rattle.expression_degree.proofs.+items_size+lower_items_size+lower_size+size_of.{
@@ -77,7 +77,7 @@ abbrev size-of-below : ℕ → In 1 size-of-kinds.ps
 size-of-below t = and 1 size-of-kinds.ps (falls 1 size-of-kinds.ps _<_ μ-size-of t) size-of.Pre
 
 abbrev items-size-claims : ℕ → items-size-lts.Claims
-items-size-claims t = (read-node-reads.Asked, read-node-reads.Learnt, lower-size-below t, lower-size.Post, both-reads.Asked, both-reads.Learnt, lower-items-size-below t, lower-items-size.Post)
+items-size-claims t = (read-node-reads.Asked, read-node-reads.Learnt, lower-size-below t, lower-size.Post, add-sizes-reads.Asked, add-sizes-reads.Learnt, lower-items-size-below t, lower-items-size.Post)
 
 abbrev lower-items-size-claims : ℕ → lower-items-size-lts.Claims
 lower-items-size-claims t = (index-reads.Asked, index-reads.Learnt, items-size-below t, items-size.Post)
@@ -86,7 +86,7 @@ abbrev lower-size-claims : ℕ → lower-size-lts.Claims
 lower-size-claims t = (index-reads.Asked, index-reads.Learnt, size-of-below t, size-of.Post)
 
 abbrev size-of-claims : ℕ → size-of-lts.Claims
-size-of-claims t = (read-node-reads.Asked, read-node-reads.Learnt, lower-size-below t, lower-size.Post, both-reads.Asked, both-reads.Learnt, lower-items-size-below t, lower-items-size.Post)
+size-of-claims t = (read-node-reads.Asked, read-node-reads.Learnt, lower-size-below t, lower-size.Post, add-sizes-reads.Asked, add-sizes-reads.Learnt, lower-items-size-below t, lower-items-size.Post)
 
 items-size-read-node-requires : (t : ℕ) → items-size-lts.Need-read-node-requires (items-size-claims t) (items-size-at t) items-size.Post
 items-size-read-node-requires t c κs = search needs
@@ -94,29 +94,29 @@ items-size-read-node-requires t c κs = search needs
 items-size-lower-size-requires : (t : ℕ) → items-size-lts.Need-lower-size-requires (items-size-claims t) (items-size-at t) items-size.Post
 items-size-lower-size-requires t c κs = search needs
 
-items-size-both-requires : (t : ℕ) → items-size-lts.Need-both-requires (items-size-claims t) (items-size-at t) items-size.Post
-items-size-both-requires t c κs = search needs
+items-size-add-sizes-requires : (t : ℕ) → items-size-lts.Need-add-sizes-requires (items-size-claims t) (items-size-at t) items-size.Post
+items-size-add-sizes-requires t c κs = search needs
 
 items-size-returns : (t : ℕ) → items-size-lts.Need-returns (items-size-claims t) (items-size-at t) items-size.Post
 items-size-returns t c =
     let a = c .before .before .before .before .before .before .args in
     let d = c .before .before .before .before .read-node in
-    listed-last (a .ws .now) (a .n) (d .result) (d .ensures) (c .before .before .before .lower-size .result) (c .before .before .before .lower-size .ensures) (c .both .result) (c .both .ensures) (c .before .if1 .taken)
+    listed-last (a .ws .now) (a .n) (d .result) (d .ensures) (c .before .before .before .lower-size .result) (c .before .before .before .lower-size .ensures) (c .add-sizes .result) (c .add-sizes .ensures) (c .before .if1 .taken)
 
 items-size-lower-items-size-requires : (t : ℕ) → items-size-lts.Need-lower-items-size-requires (items-size-claims t) (items-size-at t) items-size.Post
 items-size-lower-items-size-requires t c κs = search needs
 
-items-size-both-requires-2 : (t : ℕ) → items-size-lts.Need-both-requires-2 (items-size-claims t) (items-size-at t) items-size.Post
-items-size-both-requires-2 t c κs = search needs
+items-size-add-sizes-requires-2 : (t : ℕ) → items-size-lts.Need-add-sizes-requires-2 (items-size-claims t) (items-size-at t) items-size.Post
+items-size-add-sizes-requires-2 t c κs = search needs
 
-items-size-both-requires-3 : (t : ℕ) → items-size-lts.Need-both-requires-3 (items-size-claims t) (items-size-at t) items-size.Post
-items-size-both-requires-3 t c κs = search needs
+items-size-add-sizes-requires-3 : (t : ℕ) → items-size-lts.Need-add-sizes-requires-3 (items-size-claims t) (items-size-at t) items-size.Post
+items-size-add-sizes-requires-3 t c κs = search needs
 
 items-size-returns-2 : (t : ℕ) → items-size-lts.Need-returns-2 (items-size-claims t) (items-size-at t) items-size.Post
 items-size-returns-2 t c =
     let a = c .before .before .before .before .before .before .before .before .args in
     let d = c .before .before .before .before .before .before .read-node in
-    listed-more (a .ws .now) (a .n) (d .result) (d .ensures) (c .before .before .before .before .before .lower-size .result) (c .before .before .before .before .before .lower-size .ensures) (c .before .before .lower-items-size .result) (c .before .before .lower-items-size .ensures) (c .before .both2 .result) (c .before .both2 .ensures) (c .both3 .result) (c .both3 .ensures) (c .before .before .before .if1 .left)
+    listed-more (a .ws .now) (a .n) (d .result) (d .ensures) (c .before .before .before .before .before .lower-size .result) (c .before .before .before .before .before .lower-size .ensures) (c .before .before .lower-items-size .result) (c .before .before .lower-items-size .ensures) (c .before .add-sizes2 .result) (c .before .add-sizes2 .ensures) (c .add-sizes3 .result) (c .add-sizes3 .ensures) (c .before .before .before .if1 .left)
 
 lower-items-size-index-requires : (t : ℕ) → lower-items-size-lts.Need-index-requires (lower-items-size-claims t) (lower-items-size-at t) lower-items-size.Post
 lower-items-size-index-requires t c κs = search needs
@@ -156,8 +156,8 @@ size-of-read-node-requires t c κs = search needs
 size-of-lower-size-requires : (t : ℕ) → size-of-lts.Need-lower-size-requires (size-of-claims t) (size-of-at t) size-of.Post
 size-of-lower-size-requires t c κs = search needs
 
-size-of-both-requires : (t : ℕ) → size-of-lts.Need-both-requires (size-of-claims t) (size-of-at t) size-of.Post
-size-of-both-requires t c κs = search needs
+size-of-add-sizes-requires : (t : ℕ) → size-of-lts.Need-add-sizes-requires (size-of-claims t) (size-of-at t) size-of.Post
+size-of-add-sizes-requires t c κs = search needs
 
 size-of-lower-size-requires-2 : (t : ℕ) → size-of-lts.Need-lower-size-requires-2 (size-of-claims t) (size-of-at t) size-of.Post
 size-of-lower-size-requires-2 t c κs = search needs
@@ -165,11 +165,11 @@ size-of-lower-size-requires-2 t c κs = search needs
 size-of-lower-size-requires-3 : (t : ℕ) → size-of-lts.Need-lower-size-requires-3 (size-of-claims t) (size-of-at t) size-of.Post
 size-of-lower-size-requires-3 t c κs = search needs
 
-size-of-both-requires-2 : (t : ℕ) → size-of-lts.Need-both-requires-2 (size-of-claims t) (size-of-at t) size-of.Post
-size-of-both-requires-2 t c κs = search needs
+size-of-add-sizes-requires-2 : (t : ℕ) → size-of-lts.Need-add-sizes-requires-2 (size-of-claims t) (size-of-at t) size-of.Post
+size-of-add-sizes-requires-2 t c κs = search needs
 
-size-of-both-requires-3 : (t : ℕ) → size-of-lts.Need-both-requires-3 (size-of-claims t) (size-of-at t) size-of.Post
-size-of-both-requires-3 t c κs = search needs
+size-of-add-sizes-requires-3 : (t : ℕ) → size-of-lts.Need-add-sizes-requires-3 (size-of-claims t) (size-of-at t) size-of.Post
+size-of-add-sizes-requires-3 t c κs = search needs
 
 size-of-lower-size-requires-4 : (t : ℕ) → size-of-lts.Need-lower-size-requires-4 (size-of-claims t) (size-of-at t) size-of.Post
 size-of-lower-size-requires-4 t c κs = search needs
@@ -177,17 +177,17 @@ size-of-lower-size-requires-4 t c κs = search needs
 size-of-lower-size-requires-5 : (t : ℕ) → size-of-lts.Need-lower-size-requires-5 (size-of-claims t) (size-of-at t) size-of.Post
 size-of-lower-size-requires-5 t c κs = search needs
 
-size-of-both-requires-4 : (t : ℕ) → size-of-lts.Need-both-requires-4 (size-of-claims t) (size-of-at t) size-of.Post
-size-of-both-requires-4 t c κs = search needs
+size-of-add-sizes-requires-4 : (t : ℕ) → size-of-lts.Need-add-sizes-requires-4 (size-of-claims t) (size-of-at t) size-of.Post
+size-of-add-sizes-requires-4 t c κs = search needs
 
-size-of-both-requires-5 : (t : ℕ) → size-of-lts.Need-both-requires-5 (size-of-claims t) (size-of-at t) size-of.Post
-size-of-both-requires-5 t c κs = search needs
+size-of-add-sizes-requires-5 : (t : ℕ) → size-of-lts.Need-add-sizes-requires-5 (size-of-claims t) (size-of-at t) size-of.Post
+size-of-add-sizes-requires-5 t c κs = search needs
 
 size-of-lower-size-requires-6 : (t : ℕ) → size-of-lts.Need-lower-size-requires-6 (size-of-claims t) (size-of-at t) size-of.Post
 size-of-lower-size-requires-6 t c κs = search needs
 
-size-of-both-requires-6 : (t : ℕ) → size-of-lts.Need-both-requires-6 (size-of-claims t) (size-of-at t) size-of.Post
-size-of-both-requires-6 t c κs = search needs
+size-of-add-sizes-requires-6 : (t : ℕ) → size-of-lts.Need-add-sizes-requires-6 (size-of-claims t) (size-of-at t) size-of.Post
+size-of-add-sizes-requires-6 t c κs = search needs
 
 size-of-lower-size-requires-7 : (t : ℕ) → size-of-lts.Need-lower-size-requires-7 (size-of-claims t) (size-of-at t) size-of.Post
 size-of-lower-size-requires-7 t c κs = search needs
@@ -195,41 +195,41 @@ size-of-lower-size-requires-7 t c κs = search needs
 size-of-lower-items-size-requires : (t : ℕ) → size-of-lts.Need-lower-items-size-requires (size-of-claims t) (size-of-at t) size-of.Post
 size-of-lower-items-size-requires t c κs = search needs
 
-size-of-both-requires-7 : (t : ℕ) → size-of-lts.Need-both-requires-7 (size-of-claims t) (size-of-at t) size-of.Post
-size-of-both-requires-7 t c κs = search needs
+size-of-add-sizes-requires-7 : (t : ℕ) → size-of-lts.Need-add-sizes-requires-7 (size-of-claims t) (size-of-at t) size-of.Post
+size-of-add-sizes-requires-7 t c κs = search needs
 
-size-of-both-requires-8 : (t : ℕ) → size-of-lts.Need-both-requires-8 (size-of-claims t) (size-of-at t) size-of.Post
-size-of-both-requires-8 t c κs = search needs
+size-of-add-sizes-requires-8 : (t : ℕ) → size-of-lts.Need-add-sizes-requires-8 (size-of-claims t) (size-of-at t) size-of.Post
+size-of-add-sizes-requires-8 t c κs = search needs
 
 size-of-returns : (t : ℕ) → size-of-lts.Need-returns (size-of-claims t) (size-of-at t) size-of.Post
 size-of-returns t c =
     let a = c .before .before .before .before .before .args in
     let d = c .before .before .before .read-node in
-    size-negated (a .ws .now) (a .n) (d .result) (d .ensures) (c .before .lower-size .result) (c .before .lower-size .ensures) (c .both .result) (c .both .ensures) (c .before .before .match .keys1)
+    size-negated (a .ws .now) (a .n) (d .result) (d .ensures) (c .before .lower-size .result) (c .before .lower-size .ensures) (c .add-sizes .result) (c .add-sizes .ensures) (c .before .before .match .keys1)
 
 size-of-returns-2 : (t : ℕ) → size-of-lts.Need-returns-2 (size-of-claims t) (size-of-at t) size-of.Post
 size-of-returns-2 t c =
     let a = c .before .before .before .before .before .before .before .args in
     let d = c .before .before .before .before .before .read-node in
-    size-sum (a .ws .now) (a .n) (d .result) (d .ensures) (c .before .before .before .lower-size2 .result) (c .before .before .before .lower-size2 .ensures) (c .before .before .lower-size3 .result) (c .before .before .lower-size3 .ensures) (c .before .both2 .result) (c .before .both2 .ensures) (c .both3 .result) (c .both3 .ensures) (c .before .before .before .before .match .keys2)
+    size-sum (a .ws .now) (a .n) (d .result) (d .ensures) (c .before .before .before .lower-size2 .result) (c .before .before .before .lower-size2 .ensures) (c .before .before .lower-size3 .result) (c .before .before .lower-size3 .ensures) (c .before .add-sizes2 .result) (c .before .add-sizes2 .ensures) (c .add-sizes3 .result) (c .add-sizes3 .ensures) (c .before .before .before .before .match .keys2)
 
 size-of-returns-3 : (t : ℕ) → size-of-lts.Need-returns-3 (size-of-claims t) (size-of-at t) size-of.Post
 size-of-returns-3 t c =
     let a = c .before .before .before .before .before .before .before .args in
     let d = c .before .before .before .before .before .read-node in
-    size-product (a .ws .now) (a .n) (d .result) (d .ensures) (c .before .before .before .lower-size4 .result) (c .before .before .before .lower-size4 .ensures) (c .before .before .lower-size5 .result) (c .before .before .lower-size5 .ensures) (c .before .both4 .result) (c .before .both4 .ensures) (c .both5 .result) (c .both5 .ensures) (c .before .before .before .before .match .keys3)
+    size-product (a .ws .now) (a .n) (d .result) (d .ensures) (c .before .before .before .lower-size4 .result) (c .before .before .before .lower-size4 .ensures) (c .before .before .lower-size5 .result) (c .before .before .lower-size5 .ensures) (c .before .add-sizes4 .result) (c .before .add-sizes4 .ensures) (c .add-sizes5 .result) (c .add-sizes5 .ensures) (c .before .before .before .before .match .keys3)
 
 size-of-returns-4 : (t : ℕ) → size-of-lts.Need-returns-4 (size-of-claims t) (size-of-at t) size-of.Post
 size-of-returns-4 t c =
     let a = c .before .before .before .before .before .args in
     let d = c .before .before .before .read-node in
-    size-scaled (a .ws .now) (a .n) (d .result) (d .ensures) (c .before .lower-size6 .result) (c .before .lower-size6 .ensures) (c .both6 .result) (c .both6 .ensures) (c .before .before .match .keys4)
+    size-scaled (a .ws .now) (a .n) (d .result) (d .ensures) (c .before .lower-size6 .result) (c .before .lower-size6 .ensures) (c .add-sizes6 .result) (c .add-sizes6 .ensures) (c .before .before .match .keys4)
 
 size-of-returns-5 : (t : ℕ) → size-of-lts.Need-returns-5 (size-of-claims t) (size-of-at t) size-of.Post
 size-of-returns-5 t c =
     let a = c .before .before .before .before .before .before .before .args in
     let d = c .before .before .before .before .before .read-node in
-    size-powers (a .ws .now) (a .n) (d .result) (d .ensures) (c .before .before .before .lower-size7 .result) (c .before .before .before .lower-size7 .ensures) (c .before .before .lower-items-size .result) (c .before .before .lower-items-size .ensures) (c .before .both7 .result) (c .before .both7 .ensures) (c .both8 .result) (c .both8 .ensures) (c .before .before .before .before .match .keys5)
+    size-powers (a .ws .now) (a .n) (d .result) (d .ensures) (c .before .before .before .lower-size7 .result) (c .before .before .before .lower-size7 .ensures) (c .before .before .lower-items-size .result) (c .before .before .lower-items-size .ensures) (c .before .add-sizes7 .result) (c .before .add-sizes7 .ensures) (c .add-sizes8 .result) (c .add-sizes8 .ensures) (c .before .before .before .before .match .keys5)
 
 size-of-returns-6 : (t : ℕ) → size-of-lts.Need-returns-6 (size-of-claims t) (size-of-at t) size-of.Post
 size-of-returns-6 t c =
@@ -245,11 +245,11 @@ pub +items-size+lower-items-size+lower-size+size-of-spec : {M : Type 1} → stat
     items-size.Post
     (items-size-read-node-requires t)
     (items-size-lower-size-requires t)
-    (items-size-both-requires t)
+    (items-size-add-sizes-requires t)
     (items-size-returns t)
     (items-size-lower-items-size-requires t)
-    (items-size-both-requires-2 t)
-    (items-size-both-requires-3 t)
+    (items-size-add-sizes-requires-2 t)
+    (items-size-add-sizes-requires-3 t)
     (items-size-returns-2 t))
     (λ t. lower-items-size-lts.spec (lower-items-size-claims t)
     (lower-items-size-at t)
@@ -270,21 +270,21 @@ pub +items-size+lower-items-size+lower-size+size-of-spec : {M : Type 1} → stat
     size-of.Post
     (size-of-read-node-requires t)
     (size-of-lower-size-requires t)
-    (size-of-both-requires t)
+    (size-of-add-sizes-requires t)
     (size-of-lower-size-requires-2 t)
     (size-of-lower-size-requires-3 t)
-    (size-of-both-requires-2 t)
-    (size-of-both-requires-3 t)
+    (size-of-add-sizes-requires-2 t)
+    (size-of-add-sizes-requires-3 t)
     (size-of-lower-size-requires-4 t)
     (size-of-lower-size-requires-5 t)
-    (size-of-both-requires-4 t)
-    (size-of-both-requires-5 t)
+    (size-of-add-sizes-requires-4 t)
+    (size-of-add-sizes-requires-5 t)
     (size-of-lower-size-requires-6 t)
-    (size-of-both-requires-6 t)
+    (size-of-add-sizes-requires-6 t)
     (size-of-lower-size-requires-7 t)
     (size-of-lower-items-size-requires t)
-    (size-of-both-requires-7 t)
-    (size-of-both-requires-8 t)
+    (size-of-add-sizes-requires-7 t)
+    (size-of-add-sizes-requires-8 t)
     (size-of-returns t)
     (size-of-returns-2 t)
     (size-of-returns-3 t)

@@ -1,6 +1,7 @@
 use Prim.Native.Nat.{ℕ, min}
+use Rattle.expression.specs.Flat.{largestSize}
 use Rattle.preprocessor.proofs.Counts as counts
-use Rattle.preprocessor.specs.Count.{listNodes, most}
+use Rattle.preprocessor.specs.Count.{listNodes}
 use mathlib.Core.Path.{ap, _∙_}
 use borrow.Author.Needs.{needs}
 use Rattle.preprocessor_compose.proofs.count.composed_nodes.Statement.{statement}
@@ -18,23 +19,23 @@ permutation-nodes-requires c κs = search needs
 num-constraints-requires : tie.Need-num-constraints-requires
 num-constraints-requires c κs = search needs
 
-plus-requires : tie.Need-plus-requires
-plus-requires c κs = search needs
+add-sizes-requires : tie.Need-add-sizes-requires
+add-sizes-requires c κs = search needs
 
-plus-requires-2 : tie.Need-plus-requires-2
-plus-requires-2 c κs = search needs
+add-sizes-requires-2 : tie.Need-add-sizes-requires-2
+add-sizes-requires-2 c κs = search needs
 
 list-nodes-requires : tie.Need-list-nodes-requires
 list-nodes-requires c κs = search needs
 
-plus-requires-3 : tie.Need-plus-requires-3
-plus-requires-3 c κs = search needs
+add-sizes-requires-3 : tie.Need-add-sizes-requires-3
+add-sizes-requires-3 c κs = search needs
 
-add-plus : tie.Need-add-plus
-add-plus c = search needs
+add-add-sizes : tie.Need-add-add-sizes
+add-add-sizes c = search needs
 
-plus-requires-4 : tie.Need-plus-requires-4
-plus-requires-4 c κs = search needs
+add-sizes-requires-4 : tie.Need-add-sizes-requires-4
+add-sizes-requires-4 c κs = search needs
 
 add-list-nodes : tie.Need-add-list-nodes
 add-list-nodes c = search needs
@@ -42,12 +43,12 @@ add-list-nodes c = search needs
 list-nodes-requires-2 : tie.Need-list-nodes-requires-2
 list-nodes-requires-2 c κs = search needs
 
-plus-requires-5 : tie.Need-plus-requires-5
-plus-requires-5 c κs = search needs
+add-sizes-requires-5 : tie.Need-add-sizes-requires-5
+add-sizes-requires-5 c κs = search needs
 
 returns : tie.Need-returns
 returns c k names p =
-    counts.composed-counted (c .plus5 .result) (c .before .before .before .before .before .before .before .before .before .before .before .before .roots-nodes .result) (c .before .before .before .before .before .before .before .before .before .before .before .lookups-nodes .result) (c .before .before .before .before .before .before .before .before .before .before .permutation-nodes .result) (c .before .before .before .before .before .before .before .before .plus .result) (c .before .before .before .before .before .before .before .plus2 .result) (c .before .before .before .before .before .plus3 .result) (c .before .before .before .plus4 .result) (c .before .before .before .before .before .before .list-nodes .result) (c .before .list-nodes2 .result) (c .before .before .before .before .before .before .before .before .before .before .before .before .before .before .before .before .before .pre .limits) p (c .before .before .before .before .before .before .before .before .before .before .before .before .roots-nodes .ensures) (c .before .before .before .before .before .before .before .before .before .before .before .lookups-nodes .ensures) (c .before .before .before .before .before .before .before .before .before .before .permutation-nodes .ensures) ((c .before .before .before .before .before .before .list-nodes .ensures) ∙ ap (λ (n : ℕ). min most (listNodes n)) (c .before .before .before .before .before .before .before .before .before .num-constraints .ensures)) (c .before .list-nodes2 .ensures) (c .before .before .before .before .before .before .before .before .plus .ensures) (c .before .before .before .before .before .before .before .plus2 .ensures) (c .before .before .before .before .before .plus3 .ensures) (c .before .before .before .plus4 .ensures) (c .plus5 .ensures)
+    counts.composed-counted (c .add-sizes5 .result) (c .before .before .before .before .before .before .before .before .before .before .before .before .roots-nodes .result) (c .before .before .before .before .before .before .before .before .before .before .before .lookups-nodes .result) (c .before .before .before .before .before .before .before .before .before .before .permutation-nodes .result) (c .before .before .before .before .before .before .before .before .add-sizes .result) (c .before .before .before .before .before .before .before .add-sizes2 .result) (c .before .before .before .before .before .add-sizes3 .result) (c .before .before .before .add-sizes4 .result) (c .before .before .before .before .before .before .list-nodes .result) (c .before .list-nodes2 .result) (c .before .before .before .before .before .before .before .before .before .before .before .before .before .before .before .before .before .pre .limits) p (c .before .before .before .before .before .before .before .before .before .before .before .before .roots-nodes .ensures) (c .before .before .before .before .before .before .before .before .before .before .before .lookups-nodes .ensures) (c .before .before .before .before .before .before .before .before .before .before .permutation-nodes .ensures) ((c .before .before .before .before .before .before .list-nodes .ensures) ∙ ap (λ (n : ℕ). min largestSize (listNodes n)) (c .before .before .before .before .before .before .before .before .before .num-constraints .ensures)) (c .before .list-nodes2 .ensures) (c .before .before .before .before .before .before .before .before .add-sizes .ensures) (c .before .before .before .before .before .before .before .add-sizes2 .ensures) (c .before .before .before .before .before .add-sizes3 .ensures) (c .before .before .before .add-sizes4 .ensures) (c .add-sizes5 .ensures)
 
 pub composed-nodes-spec : {M : Type 1} → statement M
 composed-nodes-spec =
@@ -57,13 +58,13 @@ composed-nodes-spec =
     lookups-nodes-requires
     permutation-nodes-requires
     num-constraints-requires
-    plus-requires
-    plus-requires-2
+    add-sizes-requires
+    add-sizes-requires-2
     list-nodes-requires
-    plus-requires-3
-    add-plus
-    plus-requires-4
+    add-sizes-requires-3
+    add-add-sizes
+    add-sizes-requires-4
     add-list-nodes
     list-nodes-requires-2
-    plus-requires-5
+    add-sizes-requires-5
     returns)

@@ -12,19 +12,19 @@ add-side-nodes c = search needs
 side-nodes-requires-2 : tie.Need-side-nodes-requires-2
 side-nodes-requires-2 c κs = search needs
 
-plus-requires : tie.Need-plus-requires
-plus-requires c κs = search needs
+add-sizes-requires : tie.Need-add-sizes-requires
+add-sizes-requires c κs = search needs
 
-plus-requires-2 : tie.Need-plus-requires-2
-plus-requires-2 c κs = search needs
+add-sizes-requires-2 : tie.Need-add-sizes-requires-2
+add-sizes-requires-2 c κs = search needs
 
-plus-requires-3 : tie.Need-plus-requires-3
-plus-requires-3 c κs = search needs
+add-sizes-requires-3 : tie.Need-add-sizes-requires-3
+add-sizes-requires-3 c κs = search needs
 
 returns : tie.Need-returns
 returns c =
     let entry = c .before .before .before .before .before .before .before in
-    counts.lookup-counted (entry .args .user .now) (entry .args .pairs .now) (entry .args .beta) (entry .args .s) (entry .args .w) (c .plus3 .result) (c .before .before .before .before .side-nodes .result) (c .before .before .before .side-nodes2 .result) (c .before .before .plus .result) (c .before .plus2 .result) (c .plus3 .ensures) (c .before .plus2 .ensures) (c .before .before .plus .ensures) (c .before .before .before .before .side-nodes .ensures) (c .before .before .before .side-nodes2 .ensures)
+    counts.lookup-counted (entry .args .user .now) (entry .args .pairs .now) (entry .args .beta) (entry .args .s) (entry .args .w) (c .add-sizes3 .result) (c .before .before .before .before .side-nodes .result) (c .before .before .before .side-nodes2 .result) (c .before .before .add-sizes .result) (c .before .add-sizes2 .result) (c .add-sizes3 .ensures) (c .before .add-sizes2 .ensures) (c .before .before .add-sizes .ensures) (c .before .before .before .before .side-nodes .ensures) (c .before .before .before .side-nodes2 .ensures)
 
 pub lookup-nodes-spec : {M : Type 1} → statement M
 lookup-nodes-spec =
@@ -33,7 +33,7 @@ lookup-nodes-spec =
     side-nodes-requires
     add-side-nodes
     side-nodes-requires-2
-    plus-requires
-    plus-requires-2
-    plus-requires-3
+    add-sizes-requires
+    add-sizes-requires-2
+    add-sizes-requires-3
     returns)

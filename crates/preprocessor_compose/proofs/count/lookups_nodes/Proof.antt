@@ -1,9 +1,10 @@
 use Rattle.lists.proofs.Runs as runs
 use Prim.Native.Nat.{ℕ, _-_, _≤_, _<_, min}
 use Rattle.expression.specs.Expr.{Expr}
+use Rattle.expression.specs.Flat.{largestSize}
 use Rattle.preprocessor.proofs.Counts as counts
 use Rattle.preprocessor.proofs.ComposeWords as trees
-use Rattle.preprocessor.specs.Count.{nodesIn, most}
+use Rattle.preprocessor.specs.Count.{nodesIn}
 use Rattle.preprocessor.specs.Compose.{lookupTreeOf}
 use Rattle.preprocessor.specs.ComposeWords.{lookupsOf}
 use Rattle.lists.specs.Lists.{tabulate, total}
@@ -15,7 +16,7 @@ use Rattle.preprocessor_compose.proofs.count.lookups_nodes.Statement.{s
 use Rattle.preprocessor_compose.proofs.count.lookups_nodes.Tie as tie
 
 abbrev Inv-loop : tie.InvT-loop
-Inv-loop user roots widths pairs v sum₀ s₀ j₀ sum s j = (j ≤ v .«num_lookups») × ((s ≡ total (take j widths)) × (sum ≡ min most (nodesIn (tabulate (lookupTreeOf v (lookupsOf user widths pairs)) j))))
+Inv-loop user roots widths pairs v sum₀ s₀ j₀ sum s j = (j ≤ v .«num_lookups») × ((s ≡ total (take j widths)) × (sum ≡ min largestSize (nodesIn (tabulate (lookupTreeOf v (lookupsOf user widths pairs)) j))))
 
 abbrev μ-loop : tie.MeasureT-loop
 μ-loop user roots widths pairs v sum₀ s₀ j₀ sum s j = v .«num_lookups» - j
@@ -48,8 +49,8 @@ lookup-nodes-requires c κs =
     let q = trees.words-end (a .user .now) (a .widths .now) (a .pairs .now) (entry .pre .all-pairs) (c .before .before .before .before .loop .j) (omega (arith, (entry .pre .all-lookups))) in
     ((entry .pre .pairs-named), omega (arith, (c .before .before .before .before .loop .inv .1 .0), (c .index .ensures)))
 
-plus-requires : tie.Need-plus-requires Inv-loop μ-loop
-plus-requires c κs = search needs
+add-sizes-requires : tie.Need-add-sizes-requires Inv-loop μ-loop
+add-sizes-requires c κs = search needs
 
 add-s : tie.Need-add-s Inv-loop μ-loop
 add-s c =
@@ -71,7 +72,7 @@ loop-again c =
     let f : ℕ → Expr = lookupTreeOf (a .params) (lookupsOf (a .user .now) (a .widths .now) (a .pairs .now)) in
     let h : (c .before .before .before .before .before .before .loop .j) < length (a .widths .now) = omega (arith, (entry .pre .all-lookups)) in
     let e = counts.lookup-is (a .params) (a .user .now) (a .widths .now) (a .pairs .now) (c .before .before .before .before .before .before .loop .j) (c .before .before .before .before .before .before .loop .s) (c .before .before .index .result) (c .before .lookup-nodes .result) (entry .pre .all-pairs) h (c .before .before .before .before .before .before .loop .inv .1 .0) (c .before .before .index .ensures) (c .before .lookup-nodes .ensures) in
-    (omega arith, (runs.total-step (a .widths .now) (c .before .before .before .before .before .before .loop .j) (c .before .before .before .before .before .before .loop .s) (c .before .before .index .result) h (c .before .before .before .before .before .before .loop .inv .1 .0) (c .before .before .index .ensures), counts.count-more f (c .before .before .before .before .before .before .loop .j) (c .plus .result) (c .before .before .before .before .before .before .loop .sum) (c .before .lookup-nodes .result) (c .plus .ensures) (c .before .before .before .before .before .before .loop .inv .1 .1) e))
+    (omega arith, (runs.total-step (a .widths .now) (c .before .before .before .before .before .before .loop .j) (c .before .before .before .before .before .before .loop .s) (c .before .before .index .result) h (c .before .before .before .before .before .before .loop .inv .1 .0) (c .before .before .index .ensures), counts.count-more f (c .before .before .before .before .before .before .loop .j) (c .add-sizes .result) (c .before .before .before .before .before .before .loop .sum) (c .before .lookup-nodes .result) (c .add-sizes .ensures) (c .before .before .before .before .before .before .loop .inv .1 .1) e))
 
 returns : tie.Need-returns Inv-loop μ-loop
 returns c =
@@ -91,7 +92,7 @@ lookups-nodes-spec =
     index-requires
     mul-lookup-nodes
     lookup-nodes-requires
-    plus-requires
+    add-sizes-requires
     add-s
     add-j
     loop-less

@@ -1,10 +1,10 @@
 use Prim.Native.Nat.{ℕ, _+_, _*_, _-_, _≤_, min}
 use Rattle.expression.specs.Expr.{Expr}
-use Rattle.expression.specs.Flat.{size}
+use Rattle.expression.specs.Flat.{size, largestSize}
 use Rattle.expression.specs.Nodes.{exprOf}
 use Rattle.preprocessor.proofs.Counts as counts
 use Rattle.preprocessor.proofs.ComposeWords as trees
-use Rattle.preprocessor.specs.Count.{nodesIn, most}
+use Rattle.preprocessor.specs.Count.{nodesIn}
 use Rattle.lists.specs.Lists.{tabulate}
 use borrow.Author.Needs.{needs}
 use lib.ListN.{length, getD}
@@ -14,7 +14,7 @@ use Rattle.preprocessor_compose.proofs.count.roots_nodes.Statement.{sta
 use Rattle.preprocessor_compose.proofs.count.roots_nodes.Tie as tie
 
 abbrev Inv-loop : tie.InvT-loop
-Inv-loop user roots s step w sum₀ i₀ sum i = (i ≤ w) × (sum ≡ min most (nodesIn (tabulate (λ j. exprOf user (getD roots (s + j * step) 0)) i)))
+Inv-loop user roots s step w sum₀ i₀ sum i = (i ≤ w) × (sum ≡ min largestSize (nodesIn (tabulate (λ j. exprOf user (getD roots (s + j * step) 0)) i)))
 
 abbrev μ-loop : tie.MeasureT-loop
 μ-loop user roots s step w sum₀ i₀ sum i = w - i
@@ -53,8 +53,8 @@ size-of-requires c κs =
     let b = counts.root-below (entry .args .s) (entry .args .step) (entry .args .w) (length (entry .args .roots .now)) (c .before .before .before .loop .i) (entry .pre .1) (omega arith) in
     trees.root-node (entry .args .user .now) (entry .args .roots .now) ((entry .args .s) + (c .before .before .before .loop .i) * (entry .args .step)) (c .index .result) (entry .pre .0) b (c .index .ensures)
 
-plus-requires : tie.Need-plus-requires Inv-loop μ-loop
-plus-requires c κs = search needs
+add-sizes-requires : tie.Need-add-sizes-requires Inv-loop μ-loop
+add-sizes-requires c κs = search needs
 
 add-i : tie.Need-add-i Inv-loop μ-loop
 add-i c = omega arith
@@ -66,8 +66,8 @@ loop-again : tie.Need-loop-again Inv-loop μ-loop
 loop-again c =
     let a = (c .before .before .before .before .before .before .before .before .args) in
     let f : ℕ → Expr = λ j. exprOf (a .user .now) (getD (a .roots .now) (a .s + j * a .step) 0) in
-    let e : (c .before .size-of .result) ≡ min most (size (f (c .before .before .before .before .before .loop .i))) = (c .before .size-of .ensures) ∙ ap (λ (n : ℕ). min most (size (exprOf (a .user .now) n))) (c .before .before .index .ensures) in
-    (omega arith, counts.count-more f (c .before .before .before .before .before .loop .i) (c .plus .result) (c .before .before .before .before .before .loop .sum) (c .before .size-of .result) (c .plus .ensures) (c .before .before .before .before .before .loop .inv .1) e)
+    let e : (c .before .size-of .result) ≡ min largestSize (size (f (c .before .before .before .before .before .loop .i))) = (c .before .size-of .ensures) ∙ ap (λ (n : ℕ). min largestSize (size (exprOf (a .user .now) n))) (c .before .before .index .ensures) in
+    (omega arith, counts.count-more f (c .before .before .before .before .before .loop .i) (c .add-sizes .result) (c .before .before .before .before .before .loop .sum) (c .before .size-of .result) (c .add-sizes .ensures) (c .before .before .before .before .before .loop .inv .1) e)
 
 returns : tie.Need-returns Inv-loop μ-loop
 returns c =
@@ -88,7 +88,7 @@ roots-nodes-spec =
     shared-slice-read-index
     index-requires
     size-of-requires
-    plus-requires
+    add-sizes-requires
     add-i
     loop-less
     loop-again
