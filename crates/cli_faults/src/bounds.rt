@@ -48,7 +48,7 @@ pub struct Bounds {
 }
 
 // A count, and no more than there are words.
-pub fn at_most_all(circuit: &[u64], count: u64) -> u64 {
+pub(crate) fn at_most_all(circuit: &[u64], count: u64) -> u64 {
     let all = circuit.len() as u64;
     if count < all { count } else { all }
 }
@@ -76,7 +76,7 @@ pub fn sum_of(circuit: &[u64], start: usize, step: usize, count: u64) -> u64 {
 }
 
 // 2^k, 0 for a k of 64 or more.
-pub fn rows_of(k: u64) -> u64 {
+pub(crate) fn rows_of(k: u64) -> u64 {
     if k < 64 {
         return 1 << k;
     }

@@ -44,7 +44,7 @@ pub fn stood(circuit: &[u64], b: Bounds, at: usize, j: u64) -> usize {
 }
 
 // Question 11, of cell j, which stands at a place.
-pub fn cell_fault(circuit: &[u64], b: Bounds, at: usize, j: u64) -> usize {
+pub(crate) fn cell_fault(circuit: &[u64], b: Bounds, at: usize, j: u64) -> usize {
     let row = word_at(circuit, after(at, 1));
     if b.polys <= word_at(circuit, at) {
         return at;

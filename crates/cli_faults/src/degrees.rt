@@ -26,7 +26,7 @@ pub fn degree_of(circuit: &[u64], b: Bounds, root: u64) -> u64 {
 }
 
 // A constraint's root whose degree is too large.
-pub fn degree_fault(circuit: &[u64], b: Bounds, at: usize) -> usize {
+pub(crate) fn degree_fault(circuit: &[u64], b: Bounds, at: usize) -> usize {
     let degree = degree_of(circuit, b, word_at(circuit, at));
     let stated = word_at(circuit, STATED_WORD);
     if (1024 < degree) | ((stated != 0) & (stated <= degree)) {
@@ -68,7 +68,7 @@ pub fn lookup_start(circuit: &[u64], b: Bounds, i: u64) -> usize {
 }
 
 // The place of the first pair of a lookup whose degree is too large; i is the lookup's number and `at` that of its width.
-pub fn lookup_fault(circuit: &[u64], b: Bounds, at: usize, i: u64) -> usize {
+pub(crate) fn lookup_fault(circuit: &[u64], b: Bounds, at: usize, i: u64) -> usize {
     let start = lookup_start(circuit, b, i);
     if 1024 < lookup_degree(circuit, b, start, word_at(circuit, at)) {
         return start;

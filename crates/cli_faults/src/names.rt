@@ -58,7 +58,7 @@ pub fn times(circuit: &[u64], b: Bounds, n: u64) -> u64 {
 }
 
 // "each is named exactly once, by a node or as a root"
-pub fn once_fault(circuit: &[u64], b: Bounds, at: usize, n: u64) -> usize {
+pub(crate) fn once_fault(circuit: &[u64], b: Bounds, at: usize, n: u64) -> usize {
     if times(circuit, b, n) != 1 {
         return at;
     }

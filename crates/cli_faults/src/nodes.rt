@@ -34,7 +34,7 @@ pub const NO_ITEM: u64 = 5;
 pub const LAST_ITEM: u64 = 6;
 
 // Question 6: Constants and scalars below p.
-pub fn value_fault(circuit: &[u64], at: usize) -> usize {
+pub(crate) fn value_fault(circuit: &[u64], at: usize) -> usize {
     let kind = word_at(circuit, at);
     let held = (kind == CONSTANT) | (kind == SCALED);
     let value = after(at, 3);
@@ -54,7 +54,7 @@ fn uses_first(kind: u64) -> bool {
     (POLYNOMIAL <= kind) & (kind <= kind::ITEM)
 }
 
-pub fn uses_second(kind: u64, value: u64) -> bool {
+pub(crate) fn uses_second(kind: u64, value: u64) -> bool {
     (kind == SUM)
         | (kind == PRODUCT)
         | (kind == DISTRIBUTE_POWERS)
@@ -79,7 +79,7 @@ pub fn largest(kind: u64) -> u64 {
 }
 
 // The place of node n's first word.
-pub fn node_at(start: usize, n: u64) -> usize {
+pub(crate) fn node_at(start: usize, n: u64) -> usize {
     after(start, (n << 2) as usize)
 }
 
@@ -96,7 +96,7 @@ pub fn name_why(circuit: &[u64], start: usize, limit: u64, n: u64, item: bool) -
 }
 
 // Does the kind name a node first?
-pub fn names_first(kind: u64) -> bool {
+pub(crate) fn names_first(kind: u64) -> bool {
     (NEGATED <= kind) & (kind <= kind::ITEM)
 }
 
@@ -163,7 +163,7 @@ pub fn value_why(circuit: &[u64], at: usize) -> u64 {
 }
 
 // Question 7, of one node by itself: kind, first, second and value in this order.
-pub fn layout_fault(circuit: &[u64], start: usize, at: usize, n: u64) -> usize {
+pub(crate) fn layout_fault(circuit: &[u64], start: usize, at: usize, n: u64) -> usize {
     if !is_kind(word_at(circuit, at)) {
         return at;
     }
@@ -189,7 +189,7 @@ fn is_near(kept: u64, k: u64) -> bool {
 }
 
 // Question 8.
-pub fn range_fault(circuit: &[u64], b: Bounds, at: usize) -> usize {
+pub(crate) fn range_fault(circuit: &[u64], b: Bounds, at: usize) -> usize {
     let kind = word_at(circuit, at);
     let first = after(at, 1);
     let value = after(at, 3);

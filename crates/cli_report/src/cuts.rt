@@ -26,7 +26,7 @@ fn z_part(c: Cuts) -> usize {
 }
 
 // Do the two cuts give different parts? With one part or none they do not.
-pub fn differ(c: Cuts) -> bool {
+pub(crate) fn differ(c: Cuts) -> bool {
     (1 < c.parts) & (c.part != z_part(c))
 }
 
@@ -48,7 +48,7 @@ fn sizes(fd: i32, columns: usize, part: usize) {
 }
 
 // Says so, of cuts that differ.
-pub fn tell(fd: i32, c: Cuts) {
+pub(crate) fn tell(fd: i32, c: Cuts) {
     io::write_all(fd, b"the constraints cut the copied columns ");
     sizes(fd, c.copied, c.part);
     io::write_all(fd, b" and z cuts them ");

@@ -35,7 +35,7 @@ pub fn error(text: &[u8]) {
     io::write_all(STDERR_FILENO, text);
 }
 
-pub fn error_number(n: u64) {
+fn error_number(n: u64) {
     io::print_decimal(STDERR_FILENO, n);
 }
 
