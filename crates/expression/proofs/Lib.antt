@@ -12,6 +12,7 @@ pub mod Reader
 pub mod Signed
 pub mod Leaves
 pub mod Sizes
+pub mod Visits
 pub mod Queries
 pub mod Written
 pub mod Copied

@@ -1,5 +1,5 @@
--- What each way through the code computes is the size, capped: d is the node as read, and the other hypotheses are what the calls
--- ensure.
+-- What each way through the code computes is the size, an Item counted as `item`, capped: d is the node as read, and the other hypotheses
+-- are what the calls ensure.
 use mathlib.Core.Path.{_≡_, refl, sym, ap, ap₂, _∙_}
 use mathlib.Core.List.{List}
 use Prim.Native.Nat.{ℕ, suc, _+_, _*_, _≤_, _<_, min}
@@ -8,8 +8,8 @@ use Rattle.expression.specs.declared.node.Node.{Node}
 use Rattle.expression.specs.Expr.{Expr, Exprs}
 use Rattle.expression.specs.Nodes.{nodeOf, kindOf, under, noExpr, noExprs, exprOf, itemsOf}
 use Rattle.expression.specs.Read.{nodeAt}
-use Rattle.expression.specs.Flat.{body, sizes, extra, size, largestSize}
-use Rattle.expression.specs.Walks.{listed}
+use Rattle.expression.specs.Flat.{largestSize}
+use Rattle.expression.specs.Walks.{weight, weights}
 use Rattle.expression.proofs.Step.{under-yes, under-no, by-kind, low, lowItems, node-read, of-kind, items-last, items-more}
 
 abbrev cap : ℕ → ℕ
@@ -19,38 +19,45 @@ cap x = min largestSize x
 one-more : (x s r : ℕ) → x ≡ cap s → r ≡ cap (1 + x) → r ≡ cap (suc s)
 one-more x s r hx h = omega arith
 
+-- an Item and one or two sums
+item-and-one : (i x s r : ℕ) → x ≡ cap s → r ≡ cap (i + x) → r ≡ cap (i + s)
+item-and-one i x s r hx h = omega arith
+
+item-and-two : (i x s y u t r : ℕ) → x ≡ cap s → y ≡ cap u → t ≡ cap (x + y) → r ≡ cap (i + t) → r ≡ cap (i + (s + u))
+item-and-two i x s y u t r hx hy ht h = omega arith
+
 one-and-two : (x s y u t r : ℕ) → x ≡ cap s → y ≡ cap u → t ≡ cap (x + y) → r ≡ cap (1 + t) → r ≡ cap (suc (s + u))
 one-and-two x s y u t r hx hy ht h = omega arith
 
-module _ (ws : List ℕ) (n a b : ℕ) where
-  pub size-lower : (r : ℕ) → b ≡ a → b < n → r ≡ cap (size (exprOf ws b)) → r ≡ cap (size (under n noExpr (exprOf ws) a))
+module _ (item : ℕ) (ws : List ℕ) (n a b : ℕ) where
+  pub size-lower : (r : ℕ) → b ≡ a → b < n → r ≡ cap (weight item (exprOf ws b)) → r ≡ cap (weight item (under n noExpr (exprOf ws) a))
   size-lower r q h e =
-      e ∙ sym (ap (λ (x : Expr). cap (size x)) (under-yes n noExpr (exprOf ws) b h))
-      ∙ ap (λ (x : ℕ). cap (size (low ws n x))) q
+      e ∙ sym (ap (λ (x : Expr). cap (weight item x)) (under-yes n noExpr (exprOf ws) b h))
+      ∙ ap (λ (x : ℕ). cap (weight item (low ws n x))) q
 
-  pub size-not-lower : b ≡ a → n ≤ b → 1 ≡ cap (size (under n noExpr (exprOf ws) a))
-  unfolding body
+  pub size-not-lower : b ≡ a → n ≤ b → 1 ≡ cap (weight item (under n noExpr (exprOf ws) a))
+  unfolding weight
   size-not-lower q h =
-      sym (ap (λ (x : Expr). cap (size x)) (under-no n noExpr (exprOf ws) b h)) ∙ ap (λ (x : ℕ). cap (size (low ws n x))) q
+      sym (ap (λ (x : Expr). cap (weight item x)) (under-no n noExpr (exprOf ws) b h)) ∙ ap (λ (x : ℕ). cap (weight item (low ws n x))) q
 
-  pub listed-lower : (r : ℕ) → b ≡ a → b < n → r ≡ cap (listed (itemsOf ws b))
-      → r ≡ cap (listed (under n noExprs (itemsOf ws) a))
+  pub listed-lower : (r : ℕ) → b ≡ a → b < n → r ≡ cap (weights item (itemsOf ws b))
+      → r ≡ cap (weights item (under n noExprs (itemsOf ws) a))
   listed-lower r q h e =
-      e ∙ sym (ap (λ (x : Exprs). cap (listed x)) (under-yes n noExprs (itemsOf ws) b h))
-      ∙ ap (λ (x : ℕ). cap (listed (lowItems ws n x))) q
+      e ∙ sym (ap (λ (x : Exprs). cap (weights item x)) (under-yes n noExprs (itemsOf ws) b h))
+      ∙ ap (λ (x : ℕ). cap (weights item (lowItems ws n x))) q
 
-  pub listed-not-lower : b ≡ a → n ≤ b → 2 ≡ cap (listed (under n noExprs (itemsOf ws) a))
-  unfolding body
-  listed-not-lower q h =
-      sym (ap (λ (x : Exprs). cap (listed x)) (under-no n noExprs (itemsOf ws) b h))
-      ∙ ap (λ (x : ℕ). cap (listed (lowItems ws n x))) q
+  pub listed-not-lower : (r : ℕ) → b ≡ a → n ≤ b → r ≡ cap (item + 1) → r ≡ cap (weights item (under n noExprs (itemsOf ws) a))
+  unfolding weight
+  listed-not-lower r q h e =
+      e ∙ sym (ap (λ (x : Exprs). cap (weights item x)) (under-no n noExprs (itemsOf ws) b h))
+      ∙ ap (λ (x : ℕ). cap (weights item (lowItems ws n x))) q
 
-module _ (ws : List ℕ) (n : ℕ) (d : Node) (read : d ≡ nodeAt ws n) where
+module _ (item : ℕ) (ws : List ℕ) (n : ℕ) (d : Node) (read : d ≡ nodeAt ws n) where
   pub size-other : (d .kind ≡ 7 → ⊥) → (d .kind ≡ 8 → ⊥) → (d .kind ≡ 9 → ⊥) → (d .kind ≡ 10 → ⊥) → (d .kind ≡ 11 → ⊥)
-      → 1 ≡ cap (size (exprOf ws n))
-  unfolding body
+      → 1 ≡ cap (weight item (exprOf ws n))
+  unfolding weight
   size-other h7 h8 h9 h10 h11 =
-      by-kind (λ (e : Expr). 1 ≡ cap (size e)) (low ws n) (lowItems ws n) (d .first) (d .second) (d .value) (d .kind) (λ z. refl)
+      by-kind (λ (e : Expr). 1 ≡ cap (weight item e)) (low ws n) (lowItems ws n) (d .first) (d .second) (d .value) (d .kind) (λ z. refl)
       (λ z. refl)
       (λ z. refl)
       (λ z. refl)
@@ -62,59 +69,51 @@ module _ (ws : List ℕ) (n : ℕ) (d : Node) (read : d ≡ nodeAt ws n) where
       (λ z. absurd (h10 z))
       (λ z. absurd (h11 z))
       refl
-      ∙ sym (ap (λ (e : Expr). cap (size e)) (node-read ws n d read))
+      ∙ sym (ap (λ (e : Expr). cap (weight item e)) (node-read ws n d read))
 
-  module _ (x : ℕ) (hx : x ≡ cap (size (low ws n (d .first)))) where
+  module _ (x : ℕ) (hx : x ≡ cap (weight item (low ws n (d .first)))) where
     module _ (r : ℕ) (hr : r ≡ cap (1 + x)) where
-      pub size-negated : d .kind ≡ 7 → r ≡ cap (size (exprOf ws n))
-      unfolding nodeOf kindOf body
+      pub size-negated : d .kind ≡ 7 → r ≡ cap (weight item (exprOf ws n))
+      unfolding nodeOf kindOf weight
       size-negated k =
-          one-more x (size (low ws n (d .first))) r hx hr
-          ∙ sym (ap (λ (e : Expr). cap (size e)) (of-kind ws n d read 7 k))
+          one-more x (weight item (low ws n (d .first))) r hx hr
+          ∙ sym (ap (λ (e : Expr). cap (weight item e)) (of-kind ws n d read 7 k))
 
-      pub size-scaled : d .kind ≡ 10 → r ≡ cap (size (exprOf ws n))
-      unfolding nodeOf kindOf body
+      pub size-scaled : d .kind ≡ 10 → r ≡ cap (weight item (exprOf ws n))
+      unfolding nodeOf kindOf weight
       size-scaled k =
-          one-more x (size (low ws n (d .first))) r hx hr
-          ∙ sym (ap (λ (e : Expr). cap (size e)) (of-kind ws n d read 10 k))
+          one-more x (weight item (low ws n (d .first))) r hx hr
+          ∙ sym (ap (λ (e : Expr). cap (weight item e)) (of-kind ws n d read 10 k))
 
-      pub listed-last : d .value ≡ 0 → r ≡ cap (listed (itemsOf ws n))
-      unfolding body
+    module _ (r : ℕ) (hr : r ≡ cap (item + x)) where
+      pub listed-last : d .value ≡ 0 → r ≡ cap (weights item (itemsOf ws n))
+      unfolding weight
       listed-last z =
-          one-more x (size (low ws n (d .first))) r hx hr
-          ∙ ap cap (let e : suc (size (low ws n (d .first))) ≡ size (low ws n (d .first)) + 1 = omega arith in e)
-          ∙ sym (ap (λ (es : Exprs). cap (listed es)) (items-last ws n d read z))
+          item-and-one item x (weight item (low ws n (d .first))) r hx hr
+          ∙ sym (ap (λ (es : Exprs). cap (weights item es)) (items-last ws n d read z))
 
-    module _ (y : ℕ) (hy : y ≡ cap (size (low ws n (d .second)))) (t : ℕ) (ht : t ≡ cap (x + y)) (r : ℕ) (hr : r ≡ cap (1 + t)) where
-      pub size-sum : d .kind ≡ 8 → r ≡ cap (size (exprOf ws n))
-      unfolding nodeOf kindOf body
+    module _ (y : ℕ) (hy : y ≡ cap (weight item (low ws n (d .second)))) (t : ℕ) (ht : t ≡ cap (x + y)) (r : ℕ) (hr : r ≡ cap (1 + t)) where
+      pub size-sum : d .kind ≡ 8 → r ≡ cap (weight item (exprOf ws n))
+      unfolding nodeOf kindOf weight
       size-sum k =
-          one-and-two x (size (low ws n (d .first))) y (size (low ws n (d .second))) t r hx hy ht hr
-          ∙ sym (ap (λ (e : Expr). cap (size e)) (of-kind ws n d read 8 k))
+          one-and-two x (weight item (low ws n (d .first))) y (weight item (low ws n (d .second))) t r hx hy ht hr
+          ∙ sym (ap (λ (e : Expr). cap (weight item e)) (of-kind ws n d read 8 k))
 
-      pub size-product : d .kind ≡ 9 → r ≡ cap (size (exprOf ws n))
-      unfolding nodeOf kindOf body
+      pub size-product : d .kind ≡ 9 → r ≡ cap (weight item (exprOf ws n))
+      unfolding nodeOf kindOf weight
       size-product k =
-          one-and-two x (size (low ws n (d .first))) y (size (low ws n (d .second))) t r hx hy ht hr
-          ∙ sym (ap (λ (e : Expr). cap (size e)) (of-kind ws n d read 9 k))
+          one-and-two x (weight item (low ws n (d .first))) y (weight item (low ws n (d .second))) t r hx hy ht hr
+          ∙ sym (ap (λ (e : Expr). cap (weight item e)) (of-kind ws n d read 9 k))
 
-    module _ (y : ℕ) (hy : y ≡ cap (listed (lowItems ws n (d .second)))) (t : ℕ) where
-      pub size-powers : t ≡ cap (y + x) → (r : ℕ) → r ≡ cap (1 + t) → d .kind ≡ 11 → r ≡ cap (size (exprOf ws n))
-      unfolding nodeOf kindOf body
+    module _ (y : ℕ) (hy : y ≡ cap (weights item (lowItems ws n (d .second)))) (t : ℕ) where
+      pub size-powers : t ≡ cap (y + x) → (r : ℕ) → r ≡ cap (1 + t) → d .kind ≡ 11 → r ≡ cap (weight item (exprOf ws n))
+      unfolding nodeOf kindOf weight
       size-powers ht r hr k =
-          let s : ℕ = sizes (lowItems ws n (d .second)) in
-          let u : ℕ = extra (lowItems ws n (d .second)) in
-          let v : ℕ = body (low ws n (d .first)) in
-          one-and-two y (s + suc u) x (suc v) t r hy hx ht hr
-          ∙ ap cap (let e : suc (s + suc u + suc v) ≡ suc (s + suc v + suc u) = omega arith in e)
-          ∙ sym (ap (λ (e : Expr). cap (size e)) (of-kind ws n d read 11 k))
+          one-and-two y (weights item (lowItems ws n (d .second))) x (weight item (low ws n (d .first))) t r hy hx ht hr
+          ∙ sym (ap (λ (e : Expr). cap (weight item e)) (of-kind ws n d read 11 k))
 
-      pub listed-more : t ≡ cap (x + y) → (r : ℕ) → r ≡ cap (1 + t) → (d .value ≡ 0 → ⊥) → r ≡ cap (listed (itemsOf ws n))
-      unfolding body
+      pub listed-more : t ≡ cap (x + y) → (r : ℕ) → r ≡ cap (item + t) → (d .value ≡ 0 → ⊥) → r ≡ cap (weights item (itemsOf ws n))
+      unfolding weight
       listed-more ht r hr z =
-          let s : ℕ = sizes (lowItems ws n (d .second)) in
-          let u : ℕ = extra (lowItems ws n (d .second)) in
-          let v : ℕ = body (low ws n (d .first)) in
-          one-and-two x (suc v) y (s + suc u) t r hx hy ht hr
-          ∙ ap cap (let e : suc (suc v + (s + suc u)) ≡ suc v + s + suc (suc u) = omega arith in e)
-          ∙ sym (ap (λ (es : Exprs). cap (listed es)) (items-more ws n d read z))
+          item-and-two item x (weight item (low ws n (d .first))) y (weights item (lowItems ws n (d .second))) t r hx hy ht hr
+          ∙ sym (ap (λ (es : Exprs). cap (weights item es)) (items-more ws n d read z))

@@ -28,6 +28,26 @@ capOps =
 abbrev pub listed : Exprs → ℕ
 listed es = sizes es + suc (extra es)
 
+-- the nodes of an expression, an Item counted as `item`: with 1 all that are written, with 0 those that an evaluation visits
+unfoldable mutual
+  pub weight : ℕ → Expr → ℕ
+  weight item (Expr.constant v) = 1
+  weight item Expr.identity = 1
+  weight item (Expr.lagrange i) = 1
+  weight item (Expr.eqXY i) = 1
+  weight item (Expr.poly q r) = 1
+  weight item (Expr.challenge i) = 1
+  weight item (Expr.negated a) = suc (weight item a)
+  weight item (Expr.sum a b) = suc (weight item a + weight item b)
+  weight item (Expr.product a b) = suc (weight item a + weight item b)
+  weight item (Expr.scaled a s) = suc (weight item a)
+  weight item (Expr.powers es b) = suc (weights item es + weight item b)
+
+  -- of a list's expressions and its Items
+  pub weights : ℕ → Exprs → ℕ
+  weights item (Exprs.last e) = item + weight item e
+  weights item (Exprs.more e es) = item + (weight item e + weights item es)
+
 -- is a query come by?
 unfoldable pub usedOps : Query → Ops Bool
 usedOps q =

@@ -8,8 +8,8 @@ ghost use Prim.Native.Nat.{suc, _+_, _*_, _≤_, _<_, min, max};
 ghost use lib.ListN.{length};
 ghost use Rattle.expression.specs.Expr.{evaluate, powersFirst, powersRest, degree};
 ghost use Rattle.expression.specs.Nodes.{exprOf, itemsOf, under, noExpr, noExprs};
-ghost use Rattle.expression.specs.Flat.{size, largestSize};
-ghost use Rattle.expression.specs.Walks.{capSum, capOps, listed};
+ghost use Rattle.expression.specs.Flat.{largestSize};
+ghost use Rattle.expression.specs.Walks.{capSum, capOps, weight, weights};
 
 // No more nodes than these are counted: 2^60.
 const LARGEST_SIZE: u64 = 1152921504606846976;
@@ -147,67 +147,67 @@ pub fn add_sizes(a: u64, b: u64) -> u64
     a + b
 }
 
-// How many nodes the tree of node n takes when it is written, 2^60 where it is more.
-pub fn size_of(ws: &[u64], n: usize) -> u64
+// How many nodes the tree of node n takes, an Item counted as `item`, 2^60 where it is more.
+pub fn size_of(ws: &[u64], n: usize, item: u64) -> u64
     requires { ⌜ n * 4 + 4 ≤ length (now ws) ⌝ }
-    ensures { λ r. ⌜ r ≡ min largestSize (size (exprOf (now (ws .entry)) n)) ⌝ }
+    ensures { λ r. ⌜ r ≡ min largestSize (weight item (exprOf (now (ws .entry)) n)) ⌝ }
 {
     let d = read_node(ws, n);
     let kind = d.kind;
     match kind {
-        kind::NEGATED => add_sizes(1, lower_size(ws, n, d.first)),
+        kind::NEGATED => add_sizes(1, lower_size(ws, n, d.first, item)),
         kind::SUM => {
-            let x = lower_size(ws, n, d.first);
-            let y = lower_size(ws, n, d.second);
+            let x = lower_size(ws, n, d.first, item);
+            let y = lower_size(ws, n, d.second, item);
             add_sizes(1, add_sizes(x, y))
         }
         kind::PRODUCT => {
-            let x = lower_size(ws, n, d.first);
-            let y = lower_size(ws, n, d.second);
+            let x = lower_size(ws, n, d.first, item);
+            let y = lower_size(ws, n, d.second, item);
             add_sizes(1, add_sizes(x, y))
         }
-        kind::SCALED => add_sizes(1, lower_size(ws, n, d.first)),
+        kind::SCALED => add_sizes(1, lower_size(ws, n, d.first, item)),
         kind::DISTRIBUTE_POWERS => {
-            let base = lower_size(ws, n, d.first);
-            let items = lower_items_size(ws, n, d.second);
+            let base = lower_size(ws, n, d.first, item);
+            let items = lower_items_size(ws, n, d.second, item);
             add_sizes(1, add_sizes(items, base))
         }
         _ => 1,
     }
 }
 
-fn lower_size(ws: &[u64], n: usize, a: u64) -> u64
+fn lower_size(ws: &[u64], n: usize, a: u64, item: u64) -> u64
     requires { ⌜ n * 4 + 4 ≤ length (now ws) ⌝ }
-    ensures { λ r. ⌜ r ≡ min largestSize (size (under n noExpr (exprOf (now (ws .entry))) a)) ⌝ }
+    ensures { λ r. ⌜ r ≡ min largestSize (weight item (under n noExpr (exprOf (now (ws .entry))) a)) ⌝ }
 {
     let b = index(a);
     if b < n {
-        return size_of(ws, b);
+        return size_of(ws, b, item);
     }
     1
 }
 
 // How many nodes the Items from n on take, with their expressions.
-fn items_size(ws: &[u64], n: usize) -> u64
+fn items_size(ws: &[u64], n: usize, item: u64) -> u64
     requires { ⌜ n * 4 + 4 ≤ length (now ws) ⌝ }
-    ensures { λ r. ⌜ r ≡ min largestSize (listed (itemsOf (now (ws .entry)) n)) ⌝ }
+    ensures { λ r. ⌜ r ≡ min largestSize (weights item (itemsOf (now (ws .entry)) n)) ⌝ }
 {
     let d = read_node(ws, n);
-    let x = lower_size(ws, n, d.first);
+    let x = lower_size(ws, n, d.first, item);
     if d.value == 0 {
-        return add_sizes(1, x);
+        return add_sizes(item, x);
     }
-    let y = lower_items_size(ws, n, d.second);
-    add_sizes(1, add_sizes(x, y))
+    let y = lower_items_size(ws, n, d.second, item);
+    add_sizes(item, add_sizes(x, y))
 }
 
-fn lower_items_size(ws: &[u64], n: usize, a: u64) -> u64
+fn lower_items_size(ws: &[u64], n: usize, a: u64, item: u64) -> u64
     requires { ⌜ n * 4 + 4 ≤ length (now ws) ⌝ }
-    ensures { λ r. ⌜ r ≡ min largestSize (listed (under n noExprs (itemsOf (now (ws .entry))) a)) ⌝ }
+    ensures { λ r. ⌜ r ≡ min largestSize (weights item (under n noExprs (itemsOf (now (ws .entry))) a)) ⌝ }
 {
     let b = index(a);
     if b < n {
-        return items_size(ws, b);
+        return items_size(ws, b, item);
     }
-    2
+    add_sizes(item, 1)
 }

@@ -4,22 +4,28 @@ use mathlib.Core.List.{List, map}
 use Prim.Native.Nat.{ℕ, _+_, _≤_, min}
 use Rattle.lists.specs.Lists.{total}
 use Rattle.expression.specs.Flat.{largestSize}
+use Rattle.expression.specs.Walks.{weight}
 use Rattle.backend.specs.Circuit.{Section, entries, circuitOf}
-use Rattle.preprocessor.specs.Compose.{composedNodes}
+use Rattle.preprocessor.specs.Compose.{compose, composedNodes}
 use Rattle.preprocessor.specs.Count.{nodesIn}
 use Rattle.preprocessor.proofs.Bound as bound
 use Rattle.preprocessor.proofs.Bound.{pairNodes}
+use Rattle.hyperplonk_spec.specs.Sizes.{composedVisits, mostNodes}
 use Rattle.hyperplonk_prepare.specs.Prepared.{Accepted}
 use Rattle.hyperplonk_prepare.proofs.Accepted.{answers, laid-of, counted-of, limits}
 
 module _ (ws : List ℕ) (a : Accepted ws) where
   -- the trees of the circuit take its nodes, each once
-  pub user-nodes : nodesIn (circuitOf ws .constraints) + total (map pairNodes (circuitOf ws .lookups)) ≡ entries ws Section.nodes
+  pub user-nodes : nodesIn 1 (circuitOf ws .constraints) + total (map pairNodes (circuitOf ws .lookups)) ≡ entries ws Section.nodes
   user-nodes = bound.user-nodes ws (laid-of ws a) (counted-of ws a) (answers ws a .seven)
 
-  pub composed-most : composedNodes (circuitOf ws) ≤ 4190
+  pub composed-most : composedNodes (circuitOf ws) ≤ mostNodes
   composed-most = bound.composed-most ws (laid-of ws a) (counted-of ws a) (answers ws a .seven) (limits ws a)
 
-  -- a count that stops at 2^60 is the number itself
-  pub composed-exact : min largestSize (composedNodes (circuitOf ws)) ≡ composedNodes (circuitOf ws)
-  composed-exact = bound.composed-exact ws (laid-of ws a) (counted-of ws a) (answers ws a .seven) (limits ws a)
+  -- counts that stop at 2^60 are the numbers themselves
+  pub nodes-exact : min largestSize (weight 1 (compose (circuitOf ws))) ≡ composedNodes (circuitOf ws)
+  nodes-exact = bound.nodes-exact ws (laid-of ws a) (counted-of ws a) (answers ws a .seven) (limits ws a)
+
+  pub visits-exact : min largestSize (weight 0 (compose (circuitOf ws))) ≡ composedVisits (circuitOf ws)
+  unfolding composedVisits
+  visits-exact = bound.visits-exact ws (laid-of ws a) (counted-of ws a) (answers ws a .seven) (limits ws a)

@@ -36,13 +36,6 @@ unfolding total
 total-most m [] a = omega arith
 total-most m (n ∷ ns) a = let h = total-most m ns (a .1) in let b = a .0 in omega arith
 
--- a count that stops at 2^60 against room for fewer than 2^62 words
-room-for : (n r room : ℕ) → r ≡ min largestSize n → room < 2 ^ 62 → leb (r * 4) room ≡ leb (n * 4) room
-room-for n r room e h =
-    same-tests (leb (r * 4) room) (leb (n * 4) room)
-    (λ t. let q = leb-true (r * 4) room t in le-leb (n * 4) room (omega arith))
-    (λ t. let q = leb-true (n * 4) room t in le-leb (r * 4) room (omega arith))
-
 module _ (ws : List ℕ) (a : Accepted ws) where
   -- ---- the copied columns
   pub cells-all : concat (circuitOf ws .cycles) ≡ cellsOf (bodyOf ws Section.cells)
@@ -162,14 +155,12 @@ module _ (ws : List ℕ) (a : Accepted ws) where
   twelve is ss cs values columns rows user v c r u = rw (v, c, r ∙ sym (known.rows-is ws a), u)
 
   -- ---- 14
-  pub fourteen : (words composed columns room : ℕ) → words ≡ columnWords (circuitOf ws) → composed ≡ min largestSize (composedNodes (circuitOf ws))
-      → room < 2 ^ 62
+  pub fourteen : (words composed columns room : ℕ) → words ≡ columnWords (circuitOf ws) → composed ≡ composedNodes (circuitOf ws)
       → (cs ns : List ℕ) → length cs ≡ columns → length ns ≡ room
       → (leb words columns && leb (composed * 4) room) ≡ q14 (circuitOf ws) cs ns
   unfolding q14
-  fourteen words composed columns room w c h cs ns x y =
-      ap₂ _&&_ (ap₂ leb w (sym x))
-      (room-for (composedNodes (circuitOf ws)) composed room c h ∙ ap (leb (composedNodes (circuitOf ws) * 4)) (sym y))
+  fourteen words composed columns room w c cs ns x y =
+      ap₂ _&&_ (ap₂ leb w (sym x)) (ap₂ (λ (n m : ℕ). leb (n * 4) m) c (sym y))
 
 -- ---- 13
 pub thirteen : (is ss cs : List ℕ) (x y z : Bool) → x ≡ allOf (λ w. ltb w P) is → y ≡ allOf (λ w. ltb w P) ss → z ≡ allOf (λ w. ltb w P) cs

@@ -2,3 +2,4 @@ pub mod Accepted
 pub mod Asked
 pub mod Computed
 pub mod Bound
+pub mod Foretold

@@ -117,14 +117,6 @@ module _ (c : Circuit) (witness columns nodes challenges y : List ℕ) where
 
 -- ---- the lengths, from numbers
 
--- fewer than 2^62 words are as many as the nodes take, whether or not the count stops at 2^60
-counted-nodes : (n composed nodes : ℕ) → composed ≡ min largestSize n → nodes < 2 ^ 62 → eqb nodes (composed * 4) ≡ eqb nodes (n * 4)
-counted-nodes n composed nodes e h = go (decLt n largestSize)
-  where
-    go : Dec (n < largestSize) → eqb nodes (composed * 4) ≡ eqb nodes (n * 4)
-    go (yes l) = ap (λ (m : ℕ). eqb nodes (m * 4)) (let q : composed ≡ n = omega arith in q)
-    go (no l) = ne-eqb nodes (composed * 4) (λ w. omega arith) ∙ sym (ne-eqb nodes (n * 4) (λ w. omega arith))
-
 pub small-all : (ws xs ys zs : List ℕ) (p q r s : Bool) → p ≡ allOf (λ w. ltb w P) ws → q ≡ allOf (λ w. ltb w P) xs
     → r ≡ allOf (λ w. ltb w P) ys
     → s ≡ allOf (λ w. ltb w P) zs
@@ -172,13 +164,12 @@ module _ (ws : List ℕ) (a : Accepted ws) (v : CircuitParams) (e : v ≡ params
 
   pub lengths-are : (witness columns nodes challenges y : ℕ) (l : Layout) (words composed k : ℕ) → l ≡ sumLayout ws
       → words ≡ columnWords (circuitOf ws)
-      → composed ≡ min largestSize (composedNodes (circuitOf ws))
+      → composed ≡ composedNodes (circuitOf ws)
       → k ≡ wordK ws
-      → nodes < 2 ^ 62
       → (eqb witness (l .witness * l .rows) && eqb columns words && eqb challenges (v .«num_challenges» + 3) && eqb y k && eqb nodes (composed * 4))
       ≡ lengthsRight (circuitOf ws) witness columns nodes challenges y
   unfolding lengthsRight paramsOf sumLayout
-  lengths-are witness columns nodes challenges y l words composed k q w n m h =
+  lengths-are witness columns nodes challenges y l words composed k q w n m =
       ap₂ _&&_
       (ap₂ _&&_
       (ap₂ _&&_
@@ -188,4 +179,4 @@ module _ (ws : List ℕ) (a : Accepted ws) (v : CircuitParams) (e : v ≡ params
       (ap (eqb columns) w))
       (ap (λ (v : CircuitParams). eqb challenges (v .«num_challenges» + 3)) e))
       (ap (eqb y) (m ∙ sym (known.k-is ws a))))
-      (counted-nodes (composedNodes (circuitOf ws)) composed nodes n h)
+      (ap (λ (n : ℕ). eqb nodes (n * 4)) n)

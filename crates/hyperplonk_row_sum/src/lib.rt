@@ -61,7 +61,7 @@ fn lengths_right(
     challenges: usize,
     y: usize,
 ) -> bool
-    requires { ⌜ Accepted (now circuit) × ((params ≡ paramsOf (circuitOf (now circuit))) × (nodes < 2 ^ 62)) ⌝ }
+    requires { ⌜ Accepted (now circuit) × (params ≡ paramsOf (circuitOf (now circuit))) ⌝ }
     ensures { λ r. ⌜ r ≡ lengthsRight (circuitOf (now (circuit .entry))) witness columns nodes challenges y ⌝ }
 {
     let layout = sum_layout(circuit, params);
@@ -72,7 +72,7 @@ fn lengths_right(
         & (columns == words)
         & (challenges == params.num_challenges + 3)
         & (y == k)
-        & (nodes as u64 == composed * 4)
+        & (nodes == composed * 4)
 }
 
 // Question 16, of the values.

@@ -8,6 +8,15 @@ pub struct Built {
     pub z_columns: usize,
 }
 
+// What a circuit asks for: the number of the first question answered no, 0 for none; column words, nodes of the composed expression,
+// and the nodes that one evaluation of it on one row visits.
+pub struct Sizes {
+    pub number: u64,
+    pub column_words: usize,
+    pub nodes: usize,
+    pub visits: usize,
+}
+
 // What the row sum returns.
 pub struct RowSum {
     pub number: u64,

@@ -1,16 +1,16 @@
--- What is counted of expressions before they are written.
+-- What is counted of expressions before they are written; an Item is counted as `item`.
 use mathlib.Core.List.{List, [], _∷_}
-use Prim.Native.Nat.{ℕ, zero, suc, _+_}
+use Prim.Native.Nat.{ℕ, zero, suc, _+_, _*_}
 use Rattle.expression.specs.Expr.{Expr}
-use Rattle.expression.specs.Flat.{size}
+use Rattle.expression.specs.Walks.{weight}
 
 -- the nodes that expressions take one behind the other
-unfoldable pub nodesIn : List Expr → ℕ
-nodesIn [] = 0
-nodesIn (e ∷ es) = size e + nodesIn es
+unfoldable pub nodesIn : ℕ → List Expr → ℕ
+nodesIn item [] = 0
+nodesIn item (e ∷ es) = weight item e + nodesIn item es
 
 -- what `distribute_powers` adds to n expressions: base, Items and kind 11; a list of one is its item; no list is Constant 0
-unfoldable pub listNodes : ℕ → ℕ
-listNodes zero = 1
-listNodes (suc zero) = 0
-listNodes (suc (suc n)) = n + 4
+unfoldable pub listNodes : ℕ → ℕ → ℕ
+listNodes item zero = 1
+listNodes item (suc zero) = 0
+listNodes item (suc (suc n)) = suc (suc n) * item + 2

@@ -1,4 +1,5 @@
-// How many nodes `compose` writes, counted beforehand from the sizes of the user's expressions; 2^60 where there are more.
+// How many nodes the composed expression takes, counted from the sizes of the user's expressions, with nothing composed; an Item is
+// counted as `item`, 1 or 0. 2^60 where there are more.
 use crate::constraints::num_constraints;
 use expression_degree::add_sizes;
 use expression_degree::size_of;
@@ -11,15 +12,17 @@ ghost use lib.ListN.{length, getD};
 ghost use Rattle.lists.specs.Lists.{tabulate, All};
 ghost use Rattle.expression.specs.Expr.{Expr, distributePowers};
 ghost use Rattle.expression.specs.Nodes.{exprOf};
-ghost use Rattle.expression.specs.Flat.{size, largestSize};
+ghost use Rattle.expression.specs.Flat.{largestSize};
+ghost use Rattle.expression.specs.Walks.{weight};
 ghost use Rattle.backend.specs.Circuit.{Circuit};
-ghost use Rattle.preprocessor.specs.Compose.{composedNodes, lookupTreeOf};
+ghost use Rattle.preprocessor.specs.Compose.{compose, lookupTreeOf};
 ghost use Rattle.preprocessor.specs.ComposeWords.{Limits, Words, IsNode, sideExprs, sideTree, lookupsOf, DecodedFrom, permutationNodes};
 ghost use Rattle.preprocessor.specs.Count.{nodesIn, listNodes};
 
 // What `distribute_powers` adds to n expressions.
-fn list_nodes(n: usize) -> u64
-    ensures { λ r. ⌜ r ≡ min largestSize (listNodes n) ⌝ }
+fn list_nodes(n: usize, item: u64) -> u64
+    requires { ⌜ item ≤ 1 ⌝ }
+    ensures { λ r. ⌜ r ≡ min largestSize (listNodes item n) ⌝ }
 {
     if n == 0 {
         return 1;
@@ -27,41 +30,56 @@ fn list_nodes(n: usize) -> u64
     if n == 1 {
         return 0;
     }
-    add_sizes(n as u64, 2)
+    let items = n as u64 * item;
+    add_sizes(items, 2)
 }
 
 // The nodes of w expressions, whose roots stand `step` words apart from word s on.
-fn roots_nodes(user: &[u64], roots: &[u64], s: usize, step: usize, w: usize) -> u64
+fn roots_nodes(
+    user: &[u64],
+    roots: &[u64],
+    s: usize,
+    step: usize,
+    w: usize,
+    item: u64,
+) -> u64
     requires { ⌜ All (IsNode (now user)) (now roots) × (s + w * step < length (now roots) + step) ⌝ }
-    ensures { λ r. ⌜ r ≡ min largestSize (nodesIn (tabulate (λ i. exprOf (now (user .entry)) (getD (now (roots .entry)) (s + i * step) 0)) w)) ⌝ }
+    ensures { λ r. ⌜ r ≡ min largestSize (nodesIn item (tabulate (λ i. exprOf (now (user .entry)) (getD (now (roots .entry)) (s + i * step) 0)) w)) ⌝ }
 {
     let mut sum: u64 = 0;
     let mut i = 0;
     while i < w {
         let n = index(roots[s + i * step]);
-        sum = add_sizes(sum, size_of(user, n));
+        sum = add_sizes(sum, size_of(user, n, item));
         i += 1;
     }
     sum
 }
 
 // The nodes of a lookup's side, without gamma.
-fn side_nodes(user: &[u64], pairs: &[u64], beta: usize, s: usize, w: usize) -> u64
-    requires { ⌜ All (IsNode (now user)) (now pairs) × (s + w * 2 ≤ length (now pairs) + 1) ⌝ }
-    ensures { λ r. ⌜ r ≡ min largestSize (size (distributePowers (sideExprs (now (user .entry)) (now (pairs .entry)) s w) (Expr.challenge beta))) ⌝ }
+fn side_nodes(user: &[u64], pairs: &[u64], beta: usize, s: usize, w: usize, item: u64) -> u64
+    requires { ⌜ All (IsNode (now user)) (now pairs) × (s + w * 2 ≤ length (now pairs) + 1) × (item ≤ 1) ⌝ }
+    ensures { λ r. ⌜ r ≡ min largestSize (weight item (distributePowers (sideExprs (now (user .entry)) (now (pairs .entry)) s w) (Expr.challenge beta))) ⌝ }
 {
-    let x = roots_nodes(user, pairs, s, 2, w);
-    let y = list_nodes(w);
+    let x = roots_nodes(user, pairs, s, 2, w, item);
+    let y = list_nodes(w, item);
     add_sizes(x, y)
 }
 
 // The nodes of the constraint of the lookup whose first pair starts at word s.
-fn lookup_nodes(user: &[u64], pairs: &[u64], beta: usize, s: usize, w: usize) -> u64
-    requires { ⌜ All (IsNode (now user)) (now pairs) × (s + w * 2 ≤ length (now pairs)) ⌝ }
-    ensures { λ r. ⌜ r ≡ min largestSize (size (sideTree (now (user .entry)) (now (pairs .entry)) beta s w) * 2 + size (sideTree (now (user .entry)) (now (pairs .entry)) beta (s + 1) w) * 2 + 8) ⌝ }
+fn lookup_nodes(
+    user: &[u64],
+    pairs: &[u64],
+    beta: usize,
+    s: usize,
+    w: usize,
+    item: u64,
+) -> u64
+    requires { ⌜ All (IsNode (now user)) (now pairs) × (s + w * 2 ≤ length (now pairs)) × (item ≤ 1) ⌝ }
+    ensures { λ r. ⌜ r ≡ min largestSize (weight item (sideTree (now (user .entry)) (now (pairs .entry)) beta s w) * 2 + weight item (sideTree (now (user .entry)) (now (pairs .entry)) beta (s + 1) w) * 2 + 8) ⌝ }
 {
-    let a = side_nodes(user, pairs, beta, s, w);
-    let b = side_nodes(user, pairs, beta, s + 1, w);
+    let a = side_nodes(user, pairs, beta, s, w, item);
+    let b = side_nodes(user, pairs, beta, s + 1, w, item);
     let x = add_sizes(a, b);
     let y = add_sizes(x, x);
     add_sizes(y, 16)
@@ -74,16 +92,17 @@ fn lookups_nodes(
     widths: &[u64],
     pairs: &[u64],
     params: CircuitParams,
+    item: u64,
 ) -> u64
-    requires { ⌜ Words params (now user) (now roots) (now widths) (now pairs) ⌝ }
-    ensures { λ r. ⌜ r ≡ min largestSize (nodesIn (tabulate (lookupTreeOf params (lookupsOf (now (user .entry)) (now (widths .entry)) (now (pairs .entry)))) (params .«num_lookups»))) ⌝ }
+    requires { ⌜ Words params (now user) (now roots) (now widths) (now pairs) × (item ≤ 1) ⌝ }
+    ensures { λ r. ⌜ r ≡ min largestSize (nodesIn item (tabulate (lookupTreeOf params (lookupsOf (now (user .entry)) (now (widths .entry)) (now (pairs .entry)))) (params .«num_lookups»))) ⌝ }
 {
     let mut sum: u64 = 0;
     let mut s = 0;
     let mut j = 0;
     while j < params.num_lookups {
         let w = index(widths[j]);
-        let x = lookup_nodes(user, pairs, params.num_challenges, s * 2, w);
+        let x = lookup_nodes(user, pairs, params.num_challenges, s * 2, w, item);
         sum = add_sizes(sum, x);
         s += w;
         j += 1;
@@ -102,24 +121,25 @@ fn permutation_nodes(params: CircuitParams) -> u64
     (6 + params.num_permutation_polys * 18 + params.num_chunks * 4) as u64
 }
 
-// How many nodes `compose` writes.
+// The nodes of the composed expression.
 pub fn composed_nodes(
     user: &[u64],
     roots: &[u64],
     widths: &[u64],
     pairs: &[u64],
     params: CircuitParams,
+    item: u64,
 ) -> u64
-    requires { ⌜ Words params (now user) (now roots) (now widths) (now pairs) ⌝ }
-    ensures { λ r. ⌜ ((c : Circuit) (names : List ℕ) → DecodedFrom c params names (now (user .entry)) (now (roots .entry)) (now (widths .entry)) (now (pairs .entry)) → r ≡ min largestSize (composedNodes c)) ⌝ }
+    requires { ⌜ Words params (now user) (now roots) (now widths) (now pairs) × (item ≤ 1) ⌝ }
+    ensures { λ r. ⌜ ((c : Circuit) (names : List ℕ) → DecodedFrom c params names (now (user .entry)) (now (roots .entry)) (now (widths .entry)) (now (pairs .entry)) → r ≡ min largestSize (weight item (compose c))) ⌝ }
 {
-    let own = roots_nodes(user, roots, 0, 1, roots.len());
-    let lookups = lookups_nodes(user, roots, widths, pairs, params);
+    let own = roots_nodes(user, roots, 0, 1, roots.len(), item);
+    let lookups = lookups_nodes(user, roots, widths, pairs, params, item);
     let permutation = permutation_nodes(params);
     let n = num_constraints(roots.len(), params);
     let x = add_sizes(own, lookups);
     let y = add_sizes(x, permutation);
-    let z = add_sizes(y, list_nodes(n));
+    let z = add_sizes(y, list_nodes(n, item));
     let u = add_sizes(z, (params.num_lookups + 2) as u64);
-    add_sizes(u, list_nodes(params.num_lookups + 1))
+    add_sizes(u, list_nodes(params.num_lookups + 1, item))
 }

@@ -80,7 +80,7 @@ abbrev items-size-claims : ℕ → items-size-lts.Claims
 items-size-claims t = (read-node-reads.Asked, read-node-reads.Learnt, lower-size-below t, lower-size.Post, add-sizes-reads.Asked, add-sizes-reads.Learnt, lower-items-size-below t, lower-items-size.Post)
 
 abbrev lower-items-size-claims : ℕ → lower-items-size-lts.Claims
-lower-items-size-claims t = (index-reads.Asked, index-reads.Learnt, items-size-below t, items-size.Post)
+lower-items-size-claims t = (index-reads.Asked, index-reads.Learnt, items-size-below t, items-size.Post, add-sizes-reads.Asked, add-sizes-reads.Learnt)
 
 abbrev lower-size-claims : ℕ → lower-size-lts.Claims
 lower-size-claims t = (index-reads.Asked, index-reads.Learnt, size-of-below t, size-of.Post)
@@ -101,7 +101,7 @@ items-size-returns : (t : ℕ) → items-size-lts.Need-returns (items-size-claim
 items-size-returns t c =
     let a = c .before .before .before .before .before .before .args in
     let d = c .before .before .before .before .read-node in
-    listed-last (a .ws .now) (a .n) (d .result) (d .ensures) (c .before .before .before .lower-size .result) (c .before .before .before .lower-size .ensures) (c .add-sizes .result) (c .add-sizes .ensures) (c .before .if1 .taken)
+    listed-last (a .item) (a .ws .now) (a .n) (d .result) (d .ensures) (c .before .before .before .lower-size .result) (c .before .before .before .lower-size .ensures) (c .add-sizes .result) (c .add-sizes .ensures) (c .before .if1 .taken)
 
 items-size-lower-items-size-requires : (t : ℕ) → items-size-lts.Need-lower-items-size-requires (items-size-claims t) (items-size-at t) items-size.Post
 items-size-lower-items-size-requires t c κs = search needs
@@ -116,7 +116,7 @@ items-size-returns-2 : (t : ℕ) → items-size-lts.Need-returns-2 (items-size-c
 items-size-returns-2 t c =
     let a = c .before .before .before .before .before .before .before .before .args in
     let d = c .before .before .before .before .before .before .read-node in
-    listed-more (a .ws .now) (a .n) (d .result) (d .ensures) (c .before .before .before .before .before .lower-size .result) (c .before .before .before .before .before .lower-size .ensures) (c .before .before .lower-items-size .result) (c .before .before .lower-items-size .ensures) (c .before .add-sizes2 .result) (c .before .add-sizes2 .ensures) (c .add-sizes3 .result) (c .add-sizes3 .ensures) (c .before .before .before .if1 .left)
+    listed-more (a .item) (a .ws .now) (a .n) (d .result) (d .ensures) (c .before .before .before .before .before .lower-size .result) (c .before .before .before .before .before .lower-size .ensures) (c .before .before .lower-items-size .result) (c .before .before .lower-items-size .ensures) (c .before .add-sizes2 .result) (c .before .add-sizes2 .ensures) (c .add-sizes3 .result) (c .add-sizes3 .ensures) (c .before .before .before .if1 .left)
 
 lower-items-size-index-requires : (t : ℕ) → lower-items-size-lts.Need-index-requires (lower-items-size-claims t) (lower-items-size-at t) lower-items-size.Post
 lower-items-size-index-requires t c κs = search needs
@@ -127,12 +127,15 @@ lower-items-size-items-size-requires t c κs = search needs
 lower-items-size-returns : (t : ℕ) → lower-items-size-lts.Need-returns (lower-items-size-claims t) (lower-items-size-at t) lower-items-size.Post
 lower-items-size-returns t c =
     let a = c .before .before .before .before .args in
-    listed-lower (a .ws .now) (a .n) (a .a) (c .before .before .index .result) (c .items-size .result) (c .before .before .index .ensures) (c .before .if1 .taken) (c .items-size .ensures)
+    listed-lower (a .item) (a .ws .now) (a .n) (a .a) (c .before .before .index .result) (c .items-size .result) (c .before .before .index .ensures) (c .before .if1 .taken) (c .items-size .ensures)
+
+lower-items-size-add-sizes-requires : (t : ℕ) → lower-items-size-lts.Need-add-sizes-requires (lower-items-size-claims t) (lower-items-size-at t) lower-items-size.Post
+lower-items-size-add-sizes-requires t c κs = search needs
 
 lower-items-size-returns-2 : (t : ℕ) → lower-items-size-lts.Need-returns-2 (lower-items-size-claims t) (lower-items-size-at t) lower-items-size.Post
 lower-items-size-returns-2 t c =
-    let a = c .before .before .before .args in
-    listed-not-lower (a .ws .now) (a .n) (a .a) (c .before .index .result) (c .before .index .ensures) (c .if1 .left)
+    let a = c .before .before .before .before .args in
+    listed-not-lower (a .item) (a .ws .now) (a .n) (a .a) (c .before .before .index .result) (c .add-sizes .result) (c .before .before .index .ensures) (c .before .if1 .left) (c .add-sizes .ensures)
 
 lower-size-index-requires : (t : ℕ) → lower-size-lts.Need-index-requires (lower-size-claims t) (lower-size-at t) lower-size.Post
 lower-size-index-requires t c κs = search needs
@@ -143,12 +146,12 @@ lower-size-size-of-requires t c κs = search needs
 lower-size-returns : (t : ℕ) → lower-size-lts.Need-returns (lower-size-claims t) (lower-size-at t) lower-size.Post
 lower-size-returns t c =
     let a = c .before .before .before .before .args in
-    size-lower (a .ws .now) (a .n) (a .a) (c .before .before .index .result) (c .size-of .result) (c .before .before .index .ensures) (c .before .if1 .taken) (c .size-of .ensures)
+    size-lower (a .item) (a .ws .now) (a .n) (a .a) (c .before .before .index .result) (c .size-of .result) (c .before .before .index .ensures) (c .before .if1 .taken) (c .size-of .ensures)
 
 lower-size-returns-2 : (t : ℕ) → lower-size-lts.Need-returns-2 (lower-size-claims t) (lower-size-at t) lower-size.Post
 lower-size-returns-2 t c =
     let a = c .before .before .before .args in
-    size-not-lower (a .ws .now) (a .n) (a .a) (c .before .index .result) (c .before .index .ensures) (c .if1 .left)
+    size-not-lower (a .item) (a .ws .now) (a .n) (a .a) (c .before .index .result) (c .before .index .ensures) (c .if1 .left)
 
 size-of-read-node-requires : (t : ℕ) → size-of-lts.Need-read-node-requires (size-of-claims t) (size-of-at t) size-of.Post
 size-of-read-node-requires t c κs = search needs
@@ -205,38 +208,38 @@ size-of-returns : (t : ℕ) → size-of-lts.Need-returns (size-of-claims t) (siz
 size-of-returns t c =
     let a = c .before .before .before .before .before .args in
     let d = c .before .before .before .read-node in
-    size-negated (a .ws .now) (a .n) (d .result) (d .ensures) (c .before .lower-size .result) (c .before .lower-size .ensures) (c .add-sizes .result) (c .add-sizes .ensures) (c .before .before .match .keys1)
+    size-negated (a .item) (a .ws .now) (a .n) (d .result) (d .ensures) (c .before .lower-size .result) (c .before .lower-size .ensures) (c .add-sizes .result) (c .add-sizes .ensures) (c .before .before .match .keys1)
 
 size-of-returns-2 : (t : ℕ) → size-of-lts.Need-returns-2 (size-of-claims t) (size-of-at t) size-of.Post
 size-of-returns-2 t c =
     let a = c .before .before .before .before .before .before .before .args in
     let d = c .before .before .before .before .before .read-node in
-    size-sum (a .ws .now) (a .n) (d .result) (d .ensures) (c .before .before .before .lower-size2 .result) (c .before .before .before .lower-size2 .ensures) (c .before .before .lower-size3 .result) (c .before .before .lower-size3 .ensures) (c .before .add-sizes2 .result) (c .before .add-sizes2 .ensures) (c .add-sizes3 .result) (c .add-sizes3 .ensures) (c .before .before .before .before .match .keys2)
+    size-sum (a .item) (a .ws .now) (a .n) (d .result) (d .ensures) (c .before .before .before .lower-size2 .result) (c .before .before .before .lower-size2 .ensures) (c .before .before .lower-size3 .result) (c .before .before .lower-size3 .ensures) (c .before .add-sizes2 .result) (c .before .add-sizes2 .ensures) (c .add-sizes3 .result) (c .add-sizes3 .ensures) (c .before .before .before .before .match .keys2)
 
 size-of-returns-3 : (t : ℕ) → size-of-lts.Need-returns-3 (size-of-claims t) (size-of-at t) size-of.Post
 size-of-returns-3 t c =
     let a = c .before .before .before .before .before .before .before .args in
     let d = c .before .before .before .before .before .read-node in
-    size-product (a .ws .now) (a .n) (d .result) (d .ensures) (c .before .before .before .lower-size4 .result) (c .before .before .before .lower-size4 .ensures) (c .before .before .lower-size5 .result) (c .before .before .lower-size5 .ensures) (c .before .add-sizes4 .result) (c .before .add-sizes4 .ensures) (c .add-sizes5 .result) (c .add-sizes5 .ensures) (c .before .before .before .before .match .keys3)
+    size-product (a .item) (a .ws .now) (a .n) (d .result) (d .ensures) (c .before .before .before .lower-size4 .result) (c .before .before .before .lower-size4 .ensures) (c .before .before .lower-size5 .result) (c .before .before .lower-size5 .ensures) (c .before .add-sizes4 .result) (c .before .add-sizes4 .ensures) (c .add-sizes5 .result) (c .add-sizes5 .ensures) (c .before .before .before .before .match .keys3)
 
 size-of-returns-4 : (t : ℕ) → size-of-lts.Need-returns-4 (size-of-claims t) (size-of-at t) size-of.Post
 size-of-returns-4 t c =
     let a = c .before .before .before .before .before .args in
     let d = c .before .before .before .read-node in
-    size-scaled (a .ws .now) (a .n) (d .result) (d .ensures) (c .before .lower-size6 .result) (c .before .lower-size6 .ensures) (c .add-sizes6 .result) (c .add-sizes6 .ensures) (c .before .before .match .keys4)
+    size-scaled (a .item) (a .ws .now) (a .n) (d .result) (d .ensures) (c .before .lower-size6 .result) (c .before .lower-size6 .ensures) (c .add-sizes6 .result) (c .add-sizes6 .ensures) (c .before .before .match .keys4)
 
 size-of-returns-5 : (t : ℕ) → size-of-lts.Need-returns-5 (size-of-claims t) (size-of-at t) size-of.Post
 size-of-returns-5 t c =
     let a = c .before .before .before .before .before .before .before .args in
     let d = c .before .before .before .before .before .read-node in
-    size-powers (a .ws .now) (a .n) (d .result) (d .ensures) (c .before .before .before .lower-size7 .result) (c .before .before .before .lower-size7 .ensures) (c .before .before .lower-items-size .result) (c .before .before .lower-items-size .ensures) (c .before .add-sizes7 .result) (c .before .add-sizes7 .ensures) (c .add-sizes8 .result) (c .add-sizes8 .ensures) (c .before .before .before .before .match .keys5)
+    size-powers (a .item) (a .ws .now) (a .n) (d .result) (d .ensures) (c .before .before .before .lower-size7 .result) (c .before .before .before .lower-size7 .ensures) (c .before .before .lower-items-size .result) (c .before .before .lower-items-size .ensures) (c .before .add-sizes7 .result) (c .before .add-sizes7 .ensures) (c .add-sizes8 .result) (c .add-sizes8 .ensures) (c .before .before .before .before .match .keys5)
 
 size-of-returns-6 : (t : ℕ) → size-of-lts.Need-returns-6 (size-of-claims t) (size-of-at t) size-of.Post
 size-of-returns-6 t c =
     let a = c .before .before .before .args in
     let d = c .before .read-node in
     let r = (c .match .rest) in
-    size-other (a .ws .now) (a .n) (d .result) (d .ensures) (r .0 .0 .0 .0 .1) (r .0 .0 .0 .1) (r .0 .0 .1) (r .0 .1) (r .1)
+    size-other (a .item) (a .ws .now) (a .n) (d .result) (d .ensures) (r .0 .0 .0 .0 .1) (r .0 .0 .0 .1) (r .0 .0 .1) (r .0 .1) (r .1)
 
 pub +items-size+lower-items-size+lower-size+size-of-spec : {M : Type 1} → statement M
 +items-size+lower-items-size+lower-size+size-of-spec =
@@ -257,6 +260,7 @@ pub +items-size+lower-items-size+lower-size+size-of-spec : {M : Type 1} → stat
     (lower-items-size-index-requires t)
     (lower-items-size-items-size-requires t)
     (lower-items-size-returns t)
+    (lower-items-size-add-sizes-requires t)
     (lower-items-size-returns-2 t))
     (λ t. lower-size-lts.spec (lower-size-claims t)
     (lower-size-at t)

@@ -18,7 +18,7 @@ circuit-params-requires c κs =
     (s .pre .0, count-is (s .args .circuit .now) (s .args .names .now) (s .args .count) (omega (arith, s .pre .3)) (s .pre .4))
 
 question-14-requires : tie.Need-question-14-requires
-question-14-requires c κs = (c .before .before .before .before .before .before .before .before .pre .0, (c .circuit-params .ensures, omega arith))
+question-14-requires c κs = (c .before .before .before .before .before .before .before .before .pre .0, c .circuit-params .ensures)
 
 refused-requires : tie.Need-refused-requires
 refused-requires c κs = search needs

@@ -1,4 +1,4 @@
--- `lengths_right` meets its contract: a count that stops at 2^60 tells fewer than 2^62 words.
+-- `lengths_right` meets its contract.
 use native.Mathlib.Omega.{arith}
 use Rattle.hyperplonk_row_sum.proofs.Sixteen.{numbers-few, words-fit, lengths-are}
 use borrow.Author.Needs.{needs}
@@ -18,10 +18,10 @@ k-of-requires : tie.Need-k-of-requires
 k-of-requires c κs = search needs
 
 mul-result : tie.Need-mul-result
-mul-result c = omega (arith, words-fit (c .before .before .before .before .before .before .args .circuit .now) (c .before .before .before .before .before .before .pre .0) (c .before .before .before .before .before .before .args .params) (c .before .before .before .before .before .before .pre .1 .0) _ (c .before .before .before .before .sum-layout .ensures))
+mul-result c = omega (arith, words-fit (c .before .before .before .before .before .before .args .circuit .now) (c .before .before .before .before .before .before .pre .0) (c .before .before .before .before .before .before .args .params) (c .before .before .before .before .before .before .pre .1) _ (c .before .before .before .before .sum-layout .ensures))
 
 add-result : tie.Need-add-result
-add-result c = omega (arith, numbers-few (c .before .before .before .before .before .before .before .args .circuit .now) (c .before .before .before .before .before .before .before .pre .0) (c .before .before .before .before .before .before .before .args .params) (c .before .before .before .before .before .before .before .pre .1 .0) .3)
+add-result c = omega (arith, numbers-few (c .before .before .before .before .before .before .before .args .circuit .now) (c .before .before .before .before .before .before .before .pre .0) (c .before .before .before .before .before .before .before .args .params) (c .before .before .before .before .before .before .before .pre .1) .3)
 
 mul-result-2 : tie.Need-mul-result-2
 mul-result-2 c = search needs
@@ -30,11 +30,10 @@ returns : tie.Need-returns
 returns c =
     let a = c .before .before .before .before .before .before .before .args in
     let pre = c .before .before .before .before .before .before .before .pre in
-    lengths-are (a .circuit .now) (pre .0) (a .params) (pre .1 .0) (a .witness) (a .columns) (a .nodes) (a .challenges) (a .y) _ _ _ _ (c .before .before .before .before .before .sum-layout .ensures)
+    lengths-are (a .circuit .now) (pre .0) (a .params) (pre .1) (a .witness) (a .columns) (a .nodes) (a .challenges) (a .y) _ _ _ _ (c .before .before .before .before .before .sum-layout .ensures)
     (c .before .before .before .before .column-words .ensures)
-    (c .before .before .before .composed-nodes .ensures)
+    (c .before .before .before .composed-nodes .ensures .0)
     (c .before .before .k-of .ensures)
-    (pre .1 .1)
 
 pub lengths-right-spec : {M : Type 1} → statement M
 lengths-right-spec =

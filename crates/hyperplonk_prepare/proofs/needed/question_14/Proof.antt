@@ -17,7 +17,7 @@ mul-result : tie.Need-mul-result
 mul-result c = search needs
 
 returns : tie.Need-returns
-returns c = fourteen (c .before .before .before .args .circuit .now) (c .before .before .before .pre .0) _ _ (c .before .before .before .args .columns) (c .before .before .before .args .nodes) (c .before .column-words .ensures) (c .composed-nodes .ensures) (c .before .before .before .pre .1 .1)
+returns c = fourteen (c .before .before .before .args .circuit .now) (c .before .before .before .pre .0) _ _ (c .before .before .before .args .columns) (c .before .before .before .args .nodes) (c .before .column-words .ensures) (c .composed-nodes .ensures .0)
 
 pub question-14-spec : {M : Type 1} → statement M
 question-14-spec =

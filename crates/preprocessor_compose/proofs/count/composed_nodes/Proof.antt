@@ -1,4 +1,7 @@
-use Prim.Native.Nat.{ℕ, min}
+use Prim.Native.Nat.{ℕ, _+_, _≤_, min}
+use native.Mathlib.Omega.{arith}
+use mir.Val.{Fits}
+use mir.Syntax.{w64}
 use Rattle.expression.specs.Flat.{largestSize}
 use Rattle.preprocessor.proofs.Counts as counts
 use Rattle.preprocessor.specs.Count.{listNodes}
@@ -6,6 +9,9 @@ use mathlib.Core.Path.{ap, _∙_}
 use borrow.Author.Needs.{needs}
 use Rattle.preprocessor_compose.proofs.count.composed_nodes.Statement.{statement}
 use Rattle.preprocessor_compose.proofs.count.composed_nodes.Tie as tie
+
+one-more : (n : ℕ) → n ≤ 8 → Fits w64 (n + 1)
+one-more n h = omega arith
 
 roots-nodes-requires : tie.Need-roots-nodes-requires
 roots-nodes-requires c κs = search needs
@@ -38,7 +44,7 @@ add-sizes-requires-4 : tie.Need-add-sizes-requires-4
 add-sizes-requires-4 c κs = search needs
 
 add-list-nodes : tie.Need-add-list-nodes
-add-list-nodes c = search needs
+add-list-nodes c = one-more _ (c .before .before .before .before .before .before .before .before .before .before .before .before .before .before .before .pre .0 .limits .few-lookups)
 
 list-nodes-requires-2 : tie.Need-list-nodes-requires-2
 list-nodes-requires-2 c κs = search needs
@@ -48,7 +54,7 @@ add-sizes-requires-5 c κs = search needs
 
 returns : tie.Need-returns
 returns c k names p =
-    counts.composed-counted (c .add-sizes5 .result) (c .before .before .before .before .before .before .before .before .before .before .before .before .roots-nodes .result) (c .before .before .before .before .before .before .before .before .before .before .before .lookups-nodes .result) (c .before .before .before .before .before .before .before .before .before .before .permutation-nodes .result) (c .before .before .before .before .before .before .before .before .add-sizes .result) (c .before .before .before .before .before .before .before .add-sizes2 .result) (c .before .before .before .before .before .add-sizes3 .result) (c .before .before .before .add-sizes4 .result) (c .before .before .before .before .before .before .list-nodes .result) (c .before .list-nodes2 .result) (c .before .before .before .before .before .before .before .before .before .before .before .before .before .before .before .before .before .pre .limits) p (c .before .before .before .before .before .before .before .before .before .before .before .before .roots-nodes .ensures) (c .before .before .before .before .before .before .before .before .before .before .before .lookups-nodes .ensures) (c .before .before .before .before .before .before .before .before .before .before .permutation-nodes .ensures) ((c .before .before .before .before .before .before .list-nodes .ensures) ∙ ap (λ (n : ℕ). min largestSize (listNodes n)) (c .before .before .before .before .before .before .before .before .before .num-constraints .ensures)) (c .before .list-nodes2 .ensures) (c .before .before .before .before .before .before .before .before .add-sizes .ensures) (c .before .before .before .before .before .before .before .add-sizes2 .ensures) (c .before .before .before .before .before .add-sizes3 .ensures) (c .before .before .before .add-sizes4 .ensures) (c .add-sizes5 .ensures)
+    counts.composed-counted (c .before .before .before .before .before .before .before .before .before .before .before .before .before .before .before .before .before .args .item) (c .add-sizes5 .result) (c .before .before .before .before .before .before .before .before .before .before .before .before .roots-nodes .result) (c .before .before .before .before .before .before .before .before .before .before .before .lookups-nodes .result) (c .before .before .before .before .before .before .before .before .before .before .permutation-nodes .result) (c .before .before .before .before .before .before .before .before .add-sizes .result) (c .before .before .before .before .before .before .before .add-sizes2 .result) (c .before .before .before .before .before .add-sizes3 .result) (c .before .before .before .add-sizes4 .result) (c .before .before .before .before .before .before .list-nodes .result) (c .before .list-nodes2 .result) (c .before .before .before .before .before .before .before .before .before .before .before .before .before .before .before .before .before .pre .0 .limits) p (c .before .before .before .before .before .before .before .before .before .before .before .before .roots-nodes .ensures) (c .before .before .before .before .before .before .before .before .before .before .before .lookups-nodes .ensures) (c .before .before .before .before .before .before .before .before .before .before .permutation-nodes .ensures) ((c .before .before .before .before .before .before .list-nodes .ensures) ∙ ap (λ (n : ℕ). min largestSize (listNodes (c .before .before .before .before .before .before .before .before .before .before .before .before .before .before .before .before .before .args .item) n)) (c .before .before .before .before .before .before .before .before .before .num-constraints .ensures)) (c .before .list-nodes2 .ensures) (c .before .before .before .before .before .before .before .before .add-sizes .ensures) (c .before .before .before .before .before .before .before .add-sizes2 .ensures) (c .before .before .before .before .before .add-sizes3 .ensures) (c .before .before .before .add-sizes4 .ensures) (c .add-sizes5 .ensures)
 
 pub composed-nodes-spec : {M : Type 1} → statement M
 composed-nodes-spec =

@@ -24,7 +24,7 @@ add-sizes-requires-3 c κs = search needs
 returns : tie.Need-returns
 returns c =
     let entry = c .before .before .before .before .before .before .before in
-    counts.lookup-counted (entry .args .user .now) (entry .args .pairs .now) (entry .args .beta) (entry .args .s) (entry .args .w) (c .add-sizes3 .result) (c .before .before .before .before .side-nodes .result) (c .before .before .before .side-nodes2 .result) (c .before .before .add-sizes .result) (c .before .add-sizes2 .result) (c .add-sizes3 .ensures) (c .before .add-sizes2 .ensures) (c .before .before .add-sizes .ensures) (c .before .before .before .before .side-nodes .ensures) (c .before .before .before .side-nodes2 .ensures)
+    counts.lookup-counted (entry .args .item) (entry .args .user .now) (entry .args .pairs .now) (entry .args .beta) (entry .args .s) (entry .args .w) (c .add-sizes3 .result) (c .before .before .before .before .side-nodes .result) (c .before .before .before .side-nodes2 .result) (c .before .before .add-sizes .result) (c .before .add-sizes2 .result) (c .add-sizes3 .ensures) (c .before .add-sizes2 .ensures) (c .before .before .add-sizes .ensures) (c .before .before .before .before .side-nodes .ensures) (c .before .before .before .side-nodes2 .ensures)
 
 pub lookup-nodes-spec : {M : Type 1} → statement M
 lookup-nodes-spec =

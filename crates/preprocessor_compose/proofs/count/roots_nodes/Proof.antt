@@ -1,6 +1,7 @@
 use Prim.Native.Nat.{ℕ, _+_, _*_, _-_, _≤_, min}
 use Rattle.expression.specs.Expr.{Expr}
-use Rattle.expression.specs.Flat.{size, largestSize}
+use Rattle.expression.specs.Flat.{largestSize}
+use Rattle.expression.specs.Walks.{weight}
 use Rattle.expression.specs.Nodes.{exprOf}
 use Rattle.preprocessor.proofs.Counts as counts
 use Rattle.preprocessor.proofs.ComposeWords as trees
@@ -14,15 +15,15 @@ use Rattle.preprocessor_compose.proofs.count.roots_nodes.Statement.{sta
 use Rattle.preprocessor_compose.proofs.count.roots_nodes.Tie as tie
 
 abbrev Inv-loop : tie.InvT-loop
-Inv-loop user roots s step w sum₀ i₀ sum i = (i ≤ w) × (sum ≡ min largestSize (nodesIn (tabulate (λ j. exprOf user (getD roots (s + j * step) 0)) i)))
+Inv-loop user roots s step w item sum₀ i₀ sum i = (i ≤ w) × (sum ≡ min largestSize (nodesIn item (tabulate (λ j. exprOf user (getD roots (s + j * step) 0)) i)))
 
 abbrev μ-loop : tie.MeasureT-loop
-μ-loop user roots s step w sum₀ i₀ sum i = w - i
+μ-loop user roots s step w item sum₀ i₀ sum i = w - i
 
 loop-holds : tie.Need-loop-holds Inv-loop μ-loop
 loop-holds c =
     let entry = c .before .before in
-    (omega arith, counts.count-none (λ j. exprOf (entry .args .user .now) (getD (entry .args .roots .now) ((entry .args .s) + j * (entry .args .step)) 0)))
+    (omega arith, counts.count-none (entry .args .item) (λ j. exprOf (entry .args .user .now) (getD (entry .args .roots .now) ((entry .args .s) + j * (entry .args .step)) 0)))
 
 mul-index : tie.Need-mul-index Inv-loop μ-loop
 mul-index c =
@@ -66,14 +67,14 @@ loop-again : tie.Need-loop-again Inv-loop μ-loop
 loop-again c =
     let a = (c .before .before .before .before .before .before .before .before .args) in
     let f : ℕ → Expr = λ j. exprOf (a .user .now) (getD (a .roots .now) (a .s + j * a .step) 0) in
-    let e : (c .before .size-of .result) ≡ min largestSize (size (f (c .before .before .before .before .before .loop .i))) = (c .before .size-of .ensures) ∙ ap (λ (n : ℕ). min largestSize (size (exprOf (a .user .now) n))) (c .before .before .index .ensures) in
-    (omega arith, counts.count-more f (c .before .before .before .before .before .loop .i) (c .add-sizes .result) (c .before .before .before .before .before .loop .sum) (c .before .size-of .result) (c .add-sizes .ensures) (c .before .before .before .before .before .loop .inv .1) e)
+    let e : (c .before .size-of .result) ≡ min largestSize (weight (a .item) (f (c .before .before .before .before .before .loop .i))) = (c .before .size-of .ensures) ∙ ap (λ (n : ℕ). min largestSize (weight (a .item) (exprOf (a .user .now) n))) (c .before .before .index .ensures) in
+    (omega arith, counts.count-more (a .item) f (c .before .before .before .before .before .loop .i) (c .add-sizes .result) (c .before .before .before .before .before .loop .sum) (c .before .size-of .result) (c .add-sizes .ensures) (c .before .before .before .before .before .loop .inv .1) e)
 
 returns : tie.Need-returns Inv-loop μ-loop
 returns c =
     let a = (c .before .before .before .before .args) in
     let f : ℕ → Expr = λ j. exprOf (a .user .now) (getD (a .roots .now) (a .s + j * a .step) 0) in
-    counts.count-all f (c .before .loop .sum) (c .before .loop .i) (a .w) (omega arith) (c .before .loop .inv .1)
+    counts.count-all (a .item) f (c .before .loop .sum) (c .before .loop .i) (a .w) (omega arith) (c .before .loop .inv .1)
 
 pub roots-nodes-spec : {M : Type 1} → statement M
 roots-nodes-spec =

@@ -15,7 +15,7 @@ add-sizes-requires c κs = search needs
 returns : tie.Need-returns
 returns c =
     let entry = c .before .before .before .before .before in
-    counts.side-counted (entry .args .user .now) (entry .args .pairs .now) (entry .args .beta) (entry .args .s) (entry .args .w) (c .add-sizes .result) (c .before .before .roots-nodes .result) (c .before .list-nodes .result) (c .add-sizes .ensures) (c .before .before .roots-nodes .ensures) (c .before .list-nodes .ensures)
+    counts.side-counted (entry .args .item) (entry .args .user .now) (entry .args .pairs .now) (entry .args .beta) (entry .args .s) (entry .args .w) (c .add-sizes .result) (c .before .before .roots-nodes .result) (c .before .list-nodes .result) (c .add-sizes .ensures) (c .before .before .roots-nodes .ensures) (c .before .list-nodes .ensures)
 
 pub side-nodes-spec : {M : Type 1} → statement M
 side-nodes-spec =
