@@ -1,6 +1,6 @@
-//! The five calls as document 01 words them, by the model: what each returns and
+//! The calls as documents 01 and 02 word them, by the model: what each returns and
 //! leaves in its buffers. And the case format of the stored answers.
-use super::model::{self, columns, compose, composed_words, eq_xy, h_column, m_column, order, Place, P};
+use super::model::{self, columns, compose, composed_words, eq_xy, h_column, m_column, order, visits, Place, P};
 use super::questions::{read, Circuit};
 use std::fmt::Write;
 
@@ -14,12 +14,13 @@ pub struct Call {
     pub returned: usize,
 }
 
-pub const CALLS: [Call; 5] = [
+pub const CALLS: [Call; 6] = [
     Call { name: "build", lent: 6, numbers: &[], buffers: 4, returned: 4 },
     Call { name: "row_sum", lent: 6, numbers: &[], buffers: 6, returned: 2 },
     Call { name: "lookup_m_poly", lent: 4, numbers: &[0], buffers: 3, returned: 1 },
     Call { name: "lookup_h_poly", lent: 6, numbers: &[0, 4], buffers: 5, returned: 1 },
     Call { name: "eq_xy", lent: 3, numbers: &[0], buffers: 2, returned: 1 },
+    Call { name: "sizes", lent: 1, numbers: &[], buffers: 1, returned: 4 },
 ];
 
 pub fn call(name: &str) -> &'static Call {
@@ -82,7 +83,7 @@ fn below_p(slices: &[&[u64]]) -> bool {
     slices.iter().all(|s| s.iter().all(|w| *w < P))
 }
 
-/// The case with document 01's answer; the calls' names are those of CALLS.
+/// The case with the model's answer; the calls' names are those of CALLS.
 pub fn answer(name: &str, lent: Vec<Vec<u64>>) -> Case {
     let kind = call(name);
     assert_eq!(lent.len(), kind.lent);
@@ -93,6 +94,10 @@ pub fn answer(name: &str, lent: Vec<Vec<u64>>) -> Case {
         "row_sum" => match row_sum(&slices) {
             Ok(sum) => vec![0, sum],
             Err(number) => vec![number, 0],
+        },
+        "sizes" => match sizes(slices[0]) {
+            Ok([columns, nodes, visits]) => vec![0, columns, nodes, visits],
+            Err(number) => vec![number, 0, 0, 0],
         },
         _ => vec![stage(name, &slices, &mut after[0]).err().unwrap_or(0)],
     };
@@ -160,6 +165,41 @@ fn row_sum(lent: &[&[u64]]) -> Result<u64, u64> {
     let place = Place { k: c.k, order: &order, polys: &polys, challenges, y };
     let tree = compose(&c);
     Ok((0..1 << c.k).map(|b| tree.value(&place, b)).fold(0, model::add))
+}
+
+/// Column words, nodes of the composed expression, and nodes visited by one evaluation of it on one row.
+fn sizes(circuit: &[u64]) -> Result<[u64; 3], u64> {
+    let c = read(circuit)?;
+    Ok([c.column_words() as u64, composed_words(&c).len() as u64 / 4, visits(&c)])
+}
+
+/// A log of zeros: instance and witness words; and challenges that are not.
+pub fn plain_log(c: &Circuit) -> [Vec<u64>; 3] {
+    let challenges = (0..c.challenges() + 2).map(|i| 1000003 + i).collect();
+    [vec![0; c.instance_words()], vec![0; c.witness_words()], challenges]
+}
+
+/// What building needs is what `sizes` answers: of an accepted case of that call, builds with buffers of these words,
+/// of one node word less and, where there is one, of one column word less.
+pub fn sized_builds(case: &Case) -> Vec<Case> {
+    if case.call != "sizes" || case.returned[0] != 0 {
+        return vec![];
+    }
+    let (columns, nodes) = (case.returned[1] as usize, 4 * case.returned[2] as usize);
+    let [instance, witness, challenges] = plain_log(&read(&case.lent[0]).unwrap());
+    let build = |columns: usize, nodes: usize| {
+        let (circuit, buffers) = (case.lent[0].clone(), [columns, nodes].map(|n| vec![0x5a5a; n]));
+        let [columns, nodes] = buffers;
+        answer("build", vec![circuit, instance.clone(), witness.clone(), challenges.clone(), columns, nodes])
+    };
+    let mut out = vec![build(columns, nodes), build(columns, nodes - 1)];
+    if columns > 0 {
+        out.push(build(columns - 1, nodes));
+    }
+    let exact = &out[0].returned;
+    assert!(exact[0] == 15 || exact[..3] == case.returned[..3], "a build with exact buffers: {exact:?}");
+    assert!(out[1..].iter().all(|b| b.returned == [14, 0, 0, 0]), "a build with a buffer too short");
+    out
 }
 
 fn stage(name: &str, lent: &[&[u64]], out: &mut Vec<u64>) -> Result<(), u64> {

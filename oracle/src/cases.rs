@@ -37,6 +37,30 @@ pub fn build_case(log: &Log, rng: &mut Rng) -> Case {
     answer("build", build_lent(log, columns, nodes))
 }
 
+/// The sizes of a build's circuit: refused as the build is by 1 to 11, else accepted, with the words that it needs.
+pub fn sizes_case(build: &Case) -> Case {
+    let case = answer("sizes", vec![build.lent[0].clone()]);
+    let [number, columns, nodes, _] = case.returned[..] else { unreachable!() };
+    let of_build = build.returned[0];
+    assert_eq!(number, if of_build < 12 { of_build } else { 0 }, "the sizes of {build:?}");
+    if of_build == 0 {
+        assert_eq!([columns, nodes], build.returned[1..3]);
+    }
+    if of_build == 0 || of_build > 13 {
+        let short = build.lent[4].len() < columns as usize || build.lent[5].len() < 4 * nodes as usize;
+        assert_eq!(short, of_build == 14, "14 follows from the sizes");
+    }
+    case
+}
+
+/// The cases; after each build the sizes of its circuit.
+pub fn with_sizes(cases: impl Iterator<Item = Case>) -> impl Iterator<Item = Case> {
+    cases.flat_map(|case| {
+        let sizes = (case.call == "build").then(|| sizes_case(&case));
+        [Some(case), sizes].into_iter().flatten()
+    })
+}
+
 /// The row sum of a log that was built: its own columns, or any.
 pub fn row_sum_case(log: &Log, rng: &mut Rng) -> Option<Case> {
     let c = circuit(log);

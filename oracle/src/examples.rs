@@ -1,11 +1,12 @@
-//! Document 01's worked examples, by the Rust and by the model; the stand-in's
-//! field against products taken modulo p; the row order for every k it has.
+//! Document 01's worked examples, by the Rust and by the model; sizes of small circuits and of the largest; the
+//! stand-in's field against products taken modulo p; the row order for every k it has.
 use super::super::{
     preprocessor::permutation_polys,
     prover::{lookup_compressed_polys, lookup_m_poly},
 };
-use super::given::{build, f, words, Expr, Log, Poly};
-use super::model::{self, m_column, next, order, prev, P};
+use super::given::{answer, build, f, words, Expr, Log, Poly};
+use super::limits::largest;
+use super::model::{self, m_column, next, order, prev, Tree, P};
 use super::questions::read;
 use super::sections::*;
 use crate::util::{
@@ -13,6 +14,35 @@ use crate::util::{
     expression::Rotation,
     Itertools,
 };
+
+/// Small circuits, each with its column words, nodes and visits.
+pub fn sized() -> Vec<(Sections, [u64; 3])> {
+    let base = |k: u64, round: [u64; 2], preprocess: usize| {
+        let mut s = Sections { k, ..Default::default() };
+        s.bodies[ROUNDS] = round.to_vec();
+        s.bodies[PREPROCESS] = (5..).take(preprocess << k).collect();
+        s
+    };
+    let poly = |p: u64| Tree::Polynomial(p, 0);
+    let mut out = vec![];
+    let mut sized = |mut s: Sections, edit: &dyn Fn(&mut Sections), sizes: [u64; 3]| {
+        edit(&mut s);
+        out.push((s, sizes));
+    };
+    sized(base(1, [1, 0], 0), &|s| s.constraint(&Tree::Constant(0)), [0, 3, 3]);
+    sized(base(1, [1, 0], 0), &|s| s.cycle(&[(0, 1)]), [4, 34, 32]);
+    sized(base(2, [1, 0], 1), &|s| s.lookup(&[(poly(1), poly(0))]), [16, 27, 25]);
+    sized(base(2, [2, 0], 2), &|s| s.lookup(&[(poly(2), poly(0)), (poly(3), poly(1))]), [16, 47, 37]);
+    sized(base(2, [2, 0], 1), &|s| [1, 2].into_iter().for_each(|p| s.lookup(&[(poly(p), poly(0))])), [32, 53, 48]);
+    sized(base(2, [2, 0], 0), &|s| s.cycle(&[(0, 1), (1, 2)]), [16, 57, 54]);
+    // One of the two constraints is a list of three by a user challenge.
+    let lists = |s: &mut Sections| {
+        s.constraint(&Tree::Sum(poly(0).into(), Tree::Negated(poly(0).into()).into()));
+        s.constraint(&Tree::List(vec![Tree::Constant(0); 3], Tree::Challenge(0).into()));
+    };
+    sized(base(2, [1, 1], 0), &lists, [0, 18, 13]);
+    out
+}
 
 pub fn examples() {
     let rust_order = |k| BooleanHypercube::new(k).iter().collect_vec();
@@ -61,6 +91,11 @@ pub fn examples() {
     let c = read(&s.words()).unwrap();
     assert_eq!((c.copied().len(), c.d(), c.parts(), c.cuts_are_alike()), (5, 5, 2, false));
 
+    let largest = (largest().sections, [188416, 4190, 3844]);
+    for (s, [columns, nodes, visits]) in sized().into_iter().chain([largest]) {
+        assert_eq!(answer("sizes", vec![s.words()]).returned, [0, columns, nodes, visits]);
+    }
+
     let mut rng = Rng::new(5);
     let edges = [0, 1, 2, 7, 0xffff_fffe, 0xffff_ffff, 1 << 32, (1 << 32) + 1, 1 << 63, P / 2, P - 2, P - 1];
     let values = edges.into_iter().chain((0..500).map(|_| rng.word() % P)).collect_vec();
@@ -70,5 +105,7 @@ pub fn examples() {
         assert_eq!(rust, [model::mul(a, b), model::add(a, b), model::sub(a, b), model::neg(a)]);
     }
     assert!(values.iter().all(|a| *a == 0 || model::mul(*a, F::from(*a).invert().unwrap().value()) == 1));
-    println!("document 01's examples hold; the field is Z/p; halving for k 0 to 31, full order for k 1 to 20");
+    println!(
+        "document 01's examples hold, and the sizes; the field is Z/p; halving for k 0 to 31, full order for k 1 to 20"
+    );
 }

@@ -8,8 +8,8 @@ use super::super::{
         permutation_z_polys,
     },
 };
-use super::calls::{self, asked, call, polys, Case};
-use super::model::{columns, Columns};
+use super::calls::{self, asked, call, plain_log, polys, sized_builds, Case};
+use super::model::{columns, Columns, Tree};
 use super::questions::{read, Circuit};
 use crate::{
     backend::PlonkishCircuitInfo,
@@ -20,6 +20,7 @@ use crate::{
         Itertools,
     },
 };
+use std::cell::Cell;
 
 pub type Poly = MultilinearPolynomial<F>;
 pub type Expr = Expression<F>;
@@ -66,6 +67,24 @@ pub fn expression(nodes: &[u64], at: u64) -> Expr {
             }
         }
         _ => unreachable!("kind {kind}"),
+    }
+}
+
+/// An expression as the model's tree.
+fn tree(e: &Expr) -> Tree {
+    let child = |e: &Expr| Box::new(tree(e));
+    match e {
+        Expr::Constant(c) => Tree::Constant(c.value()),
+        Expr::CommonPolynomial(CommonPolynomial::Identity) => Tree::Identity,
+        Expr::CommonPolynomial(CommonPolynomial::Lagrange(i)) => Tree::Lagrange(*i as i64),
+        Expr::CommonPolynomial(CommonPolynomial::EqXY(i)) => Tree::EqXY(*i as u64),
+        Expr::Polynomial(query) => Tree::Polynomial(query.poly() as u64, query.rotation().0 as i64),
+        Expr::Challenge(i) => Tree::Challenge(*i as u64),
+        Expr::Negated(a) => Tree::Negated(child(a)),
+        Expr::Sum(a, b) => Tree::Sum(child(a), child(b)),
+        Expr::Product(a, b) => Tree::Product(child(a), child(b)),
+        Expr::Scaled(a, s) => Tree::Scaled(child(a), s.value()),
+        Expr::DistributePowers(list, base) => Tree::List(list.iter().map(tree).collect(), child(base)),
     }
 }
 
@@ -124,6 +143,11 @@ impl Log {
 /// The stages in `prove`'s order, by the Rust's functions; `lap` hears as each
 /// ends. None: the Rust refuses a lookup input.
 pub fn build(log: &Log, lap: &mut impl FnMut(&'static str)) -> Option<(Columns, Expr)> {
+    stages(log, lap, false)
+}
+
+/// As `build`. `listed`: each compressed table is looked up in itself, so that nothing is refused.
+fn stages(log: &Log, lap: &mut impl FnMut(&'static str), listed: bool) -> Option<(Columns, Expr)> {
     let info = &log.info;
     let instance = instance_polys(info.k, &log.instances);
     lap("instance");
@@ -132,7 +156,10 @@ pub fn build(log: &Log, lap: &mut impl FnMut(&'static str)) -> Option<(Columns, 
     lap("(copying)");
     let width = info.lookups.iter().map(Vec::len).max().unwrap_or_default();
     let betas = powers(log.beta).take(width).collect_vec();
-    let compressed = lookup_compressed_polys(&info.lookups, &polys, &log.challenges, &betas);
+    let mut compressed = lookup_compressed_polys(&info.lookups, &polys, &log.challenges, &betas);
+    if listed {
+        compressed.iter_mut().for_each(|pair| pair[0] = pair[1].clone());
+    }
     lap("compressed");
     let m = lookup_m_polys(&compressed).ok()?;
     lap("m");
@@ -187,6 +214,54 @@ pub fn rows(
     (0..1 << k).map(row).collect()
 }
 
+/// What the Rust's `evaluate` hands on while visits are counted. It clones a value only to take powers of a list's base,
+/// so a power of it, and an expression times such a power, can be told from a node.
+enum Told {
+    Node,
+    Power(usize),
+    Term(usize),
+}
+
+impl Clone for Told {
+    fn clone(&self) -> Told {
+        match self {
+            Told::Node => Told::Power(1),
+            Told::Power(e) => Told::Power(*e),
+            Told::Term(_) => unreachable!("`evaluate` clones a term of a list"),
+        }
+    }
+}
+
+/// The nodes that the Rust's `evaluate` visits. Each closure call is a visit, but for those by which it adds up a list:
+/// powers of the base, expressions times these, and sums of them. They are one visit together, that of the list itself,
+/// taken at its first sum. (Of a list of one it would visit neither list nor base. No composed expression has one.)
+fn visits(e: &Expr) -> u64 {
+    let count = Cell::new(0);
+    let visit = || {
+        count.set(count.get() + 1);
+        Told::Node
+    };
+    let root = e.evaluate(
+        &|_| visit(),
+        &|_| visit(),
+        &|_| visit(),
+        &|_| visit(),
+        &|_| visit(),
+        &|_, rhs| match rhs {
+            Told::Term(e) if e > 1 => Told::Node,
+            _ => visit(),
+        },
+        &|lhs, rhs| match (lhs, rhs) {
+            (Told::Power(e), Told::Power(_)) => Told::Power(e + 1),
+            (Told::Power(e), _) => Told::Term(e),
+            _ => visit(),
+        },
+        &|_, _| visit(),
+    );
+    assert!(matches!(root, Told::Node));
+    count.get()
+}
+
 /// Both composed expressions: the Rust's and the one read from node words, alike
 /// in value on every row, degree, `used_query`, and as trees.
 fn composed_alike(c: &Circuit, rust: &Expr, nodes: &[u64], polys: &[&[u64]], challenges: &[u64], y: &[u64]) -> F {
@@ -234,6 +309,16 @@ pub fn answer(name: &str, lent: Vec<Vec<u64>>) -> Case {
             let composed = compose(&info(slices[0])).1;
             let sum = composed_alike(&c, &composed, slices[3], &polys, slices[4], slices[5]);
             assert_eq!(sum.value(), case.returned[1], "row sum");
+        }
+        "sizes" => {
+            let [instance, witness, challenges] = plain_log(&read(slices[0]).unwrap());
+            let log = Log::of(slices[0], &instance, &witness, &challenges);
+            let (built, composed) = stages(&log, &mut |_| {}, true).unwrap();
+            let mut nodes = vec![];
+            tree(&composed).write(&mut nodes);
+            let rust = [built.words().len() as u64, nodes.len() as u64, visits(&composed)];
+            assert_eq!(rust, case.returned[1..], "sizes");
+            sized_builds(&case);
         }
         "lookup_m_poly" => {
             let rust = lookup_m_poly(&[poly(slices[1]), poly(slices[2])]).ok().map(|m| words(&m.evals));

@@ -3,6 +3,8 @@
 //! can't be written. `Stub` puts the model in the library's place, whole or with
 //! one fault, to try the comparison itself.
 use super::calls::{self, call, Case, CALLS};
+use super::model::{compose, Tree};
+use super::questions::read;
 use std::{
     ffi::c_void,
     ptr,
@@ -30,6 +32,7 @@ macro_rules! linked {
 linked!(has_build "build" hyperplonk_build, has_row_sum "row_sum" hyperplonk_row_sum,
     has_lookup_m_poly "lookup_m_poly" hyperplonk_lookup_m_poly,
     has_lookup_h_poly "lookup_h_poly" hyperplonk_lookup_h_poly, has_eq_xy "eq_xy" hyperplonk_eq_xy,
+    has_sizes "sizes" hyperplonk_sizes,
     has_expression_degree "expression_degree" expression_degree,
     has_expression_queries "expression_queries" expression_queries,
     has_expression_values "expression_values" expression_values,
@@ -53,6 +56,7 @@ impl Library {
         match a.len() {
             2 => go!(0 W, 1 W),
             3 => go!(0 W, 1 W, 2 W),
+            4 => go!(0 W, 1 W, 2 W, 3 W),
             5 => go!(0 W, 1 W, 2 W, 3 W, 4 W),
             7 => go!(0 W, 1 W, 2 W, 3 W, 4 W, 5 W, 6 W),
             10 => go!(0 W, 1 W, 2 W, 3 W, 4 W, 5 W, 6 W, 7 W, 8 W, 9 W),
@@ -221,7 +225,7 @@ pub fn catch_faults() {
 
 // ---- the model in the library's place
 
-pub const FAULTS: [&str; 9] = [
+pub const FAULTS: [&str; 14] = [
     "none",
     "one word of the first buffer",
     "a word past those written",
@@ -231,7 +235,23 @@ pub const FAULTS: [&str; 9] = [
     "a row sum of 0",
     "the word after the first slice is read",
     "the word before the last slice is written",
+    "sizes: Items are visited",
+    "sizes: a list's base is visited once for each expression",
+    "sizes: the words of one column too few",
+    "sizes: a refusal keeps its numbers",
+    "sizes: question 11 is not asked",
 ];
+
+/// The nodes visited if a list's base were for each of its expressions.
+fn visits_of_bases(t: &Tree) -> u64 {
+    let of = visits_of_bases;
+    1 + match t {
+        Tree::Negated(a) | Tree::Scaled(a, _) => of(a),
+        Tree::Sum(a, b) | Tree::Product(a, b) => of(a) + of(b),
+        Tree::List(list, base) => list.iter().map(|e| of(e) + of(base)).sum(),
+        _ => 0,
+    }
+}
 
 fn stub(name: &str, a: &[usize], library: Library) -> u64 {
     let Library::Stub(fault) = library else { unreachable!() };
@@ -262,10 +282,17 @@ fn stub(name: &str, a: &[usize], library: Library) -> u64 {
         4 if number != 0 && number != 15 => drop(bump(0)),
         5 => case.returned[last] ^= 1,
         6 if name == "row_sum" => case.returned[1] = 0,
-        7 => drop(unsafe {
-            ptr::read_volatile((places[0].max(places[1]) as *const u64).add(if places[0] == 0 { a[2] } else { a[1] }))
-        }),
+        7 => {
+            let first = (places[0] == 0) as usize;
+            drop(unsafe { ptr::read_volatile((a[first] as *const u64).add(a[first + 1])) })
+        }
         8 => unsafe { ptr::write_volatile((places[kind.lent - 1] as *mut u64).sub(1), 0) },
+        _ if name != "sizes" => {}
+        9 if number == 0 => case.returned[3] = case.returned[2],
+        10 if number == 0 => case.returned[3] = visits_of_bases(&compose(&read(&case.lent[0]).unwrap())),
+        11 if number == 0 => case.returned[1] = case.returned[1].saturating_sub(1 << case.lent[0][0]),
+        12 if number != 0 => case.returned[1..].copy_from_slice(&[4, 34, 32]),
+        13 if number == 11 => case.returned[0] = 0,
         _ => {}
     }
     for (words, place) in case.after.iter().zip(&places[kind.buffers..]) {

@@ -80,6 +80,24 @@ pub fn whole() -> Log {
     log_of(s)
 }
 
+/// The circuit whose columns take the most words and whose composed expression has the most nodes and visits: all nodes
+/// in 8 lookups of width 8, of degree 1 at most, so that D = 2; every polynomial copied.
+pub fn largest() -> Log {
+    let mut s = base(10);
+    s.bodies[INSTANCES] = vec![1023; 8];
+    s.bodies[PREPROCESS] = vec![0; 32 * 1024];
+    s.bodies[ROUNDS] = vec![32, 16];
+    let eight = |leaf: Tree| (1..8).fold(leaf, |t, _| Tree::Negated(t.into()));
+    for l in 0..8 {
+        let pair = |i: u64| (eight(Tree::Polynomial(8 * l + i, 1)), eight(Tree::Constant(0)));
+        s.lookup(&(0..8).map(pair).collect::<Vec<_>>());
+    }
+    (0..1024).for_each(|i| {
+        s.cycle(&(0..4).map(|j| ((4 * i + j) % 72, 1 + i % 1023)).collect::<Vec<_>>());
+    });
+    log_of(s)
+}
+
 /// The limits, each with the number that the log must get.
 pub fn all() -> Vec<(u64, Log)> {
     let mut out = vec![];
@@ -131,5 +149,6 @@ pub fn all() -> Vec<(u64, Log)> {
     log.sections.bodies[CELLS].splice(0..0, [0, 7]);
     out.push((3, log));
     out.push((0, whole()));
+    out.push((0, largest()));
     out
 }

@@ -1,7 +1,7 @@
 //! The oracle's command line: `oracle MODE [--seed S] [--count N] ..`.
 use super::bench;
-use super::calls::{Case, CALLS};
-use super::cases::{case, fixed};
+use super::calls::{sized_builds, Case, CALLS};
+use super::cases::{case, fixed, with_sizes};
 use super::differences::differences;
 use super::examples::examples;
 use super::expressions;
@@ -24,14 +24,15 @@ pub fn main() {
     let mode = std::env::args().nth(1).unwrap_or_default();
     let (seed, count) = (number("--seed", 1), number("--count", 1000));
     let library = option("--stub").map_or(Library::Linked, |n| Library::Stub(n.parse().unwrap()));
+    let seeded = (0..count).map(|i| case(seed, i, false));
     match mode.as_str() {
         "cases" => {
             print!("{}", stored::head(&format!("oracle/run cases --seed {seed} --count {count}")));
-            (0..count).for_each(|i| print!("\n{}", case(seed, i, false).text()));
+            with_sizes(seeded).for_each(|case| print!("\n{}", case.text()));
         }
         "compare" => match option("--file") {
             Some(file) => compare(library, stored::read(&file).into_iter()),
-            None => compare(library, fixed().into_iter().chain((0..count).map(|i| case(seed, i, false)))),
+            None => compare(library, with_sizes(fixed().into_iter().chain(seeded))),
         },
         "expressions" => expressions::compare(library, seed, count),
         "sample" => print!("{}", stored::sample()),
@@ -41,7 +42,7 @@ pub fn main() {
         "prove" => through_prove(seed, count),
         "differences" => differences(),
         "examples" => examples(),
-        "survey" => survey(seed, count),
+        "survey" => survey(with_sizes(seeded)),
         // How many ways `--stub` has, by mode.
         "faults" => println!("compare {}\nexpressions {}", FAULTS.len(), expressions::FAULTS.len()),
         _ => {
@@ -51,7 +52,8 @@ pub fn main() {
     }
 }
 
-/// Runs the cases through the library; ends with 'N compared, M differ'.
+/// Runs the cases through the library, and after sizes the builds that these allow or do not; ends with
+/// 'N compared, M differ'.
 fn compare(library: Library, cases: impl Iterator<Item = Case>) {
     let (mut compared, mut differ, mut skipped) = (0, 0, BTreeMap::new());
     if let Library::Stub(fault) = library {
@@ -65,7 +67,9 @@ fn compare(library: Library, cases: impl Iterator<Item = Case>) {
             continue;
         }
         compared += 1;
-        if let Some(what) = library.differs(&case) {
+        let builds = if library.has("build") { sized_builds(&case) } else { vec![] };
+        let differs = |case: Case| library.differs(&case).map(|what| (case, what));
+        if let Some((case, what)) = [case].into_iter().chain(builds).find_map(differs) {
             differ += 1;
             if differ <= 5 {
                 let file = format!("target/oracle/differs-{differ}.txt");
@@ -86,11 +90,10 @@ fn compare(library: Library, cases: impl Iterator<Item = Case>) {
 }
 
 /// What the seeded cases are made of.
-fn survey(seed: u64, count: u64) {
+fn survey(cases: impl Iterator<Item = Case>) {
     let mut numbers = BTreeMap::new();
     let mut seen = BTreeMap::new();
-    for i in 0..count {
-        let case = case(seed, i, false);
+    for case in cases {
         *numbers.entry((case.call, case.returned[0])).or_insert(0) += 1;
         stored::features(&case).into_iter().for_each(|f| *seen.entry(f).or_insert(0) += 1);
     }

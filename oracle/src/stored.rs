@@ -1,7 +1,8 @@
 //! Stored answers: the sample that the replay reads, a handful of small whole
 //! circuits, and what cases are made of.
 use super::calls::Case;
-use super::cases::{build_case, build_lent, case, demo, refused_build, refused_by, row_sum_case};
+use super::cases::{build_case, build_lent, case, demo, refused_build, refused_by, row_sum_case, sizes_case};
+use super::examples::sized;
 use super::generate::Log;
 use super::given::answer;
 use super::model::{columns, Tree, P};
@@ -30,7 +31,14 @@ fn file(command: &str, cases: &[Case]) -> String {
     head(command) + &blocks.concat()
 }
 
-/// Every way to be refused, on small circuits; then drawn cases, each short.
+/// Of these builds, the sizes of the circuits of some: for each number the first and the last, of those accepted every fifth.
+fn some_sizes(builds: &[Case]) -> Vec<Case> {
+    let numbered = |number: u64| builds.iter().filter(move |b| b.call == "build" && b.returned[0] == number);
+    let refused = (1..=15).flat_map(|number| numbered(number).next().into_iter().chain(numbered(number).last()));
+    refused.chain(numbered(0).step_by(5)).map(sizes_case).collect()
+}
+
+/// Every way to be refused, on small circuits; then drawn cases, each short; then sizes.
 pub fn sample() -> String {
     let short = |case: &Case, seed: u64| case.text().len() < 900 || seed > 200;
     let mut cases: Vec<Case> = (0..WAYS.len()).filter_map(|way| refused_by(way, short)).collect();
@@ -46,10 +54,11 @@ pub fn sample() -> String {
         cases.extend(drawn(stage, false, 1200).take(18));
         cases.extend(drawn(stage, true, 1200).take(10));
     }
+    cases.extend(some_sizes(&cases));
     file("oracle/run sample", &cases)
 }
 
-/// Circuits by hand, k = 1 to 3, and one refusal of each number from 1 to 16.
+/// Circuits by hand, k = 1 to 3, and one refusal of each number from 1 to 16; then their sizes, and those of more circuits.
 pub fn small() -> String {
     let rng = &mut Rng::narrow(3);
     let poly = |p: u64, r: i64| Tree::Polynomial(p, r);
@@ -115,6 +124,9 @@ pub fn small() -> String {
     let mut lent = row_sum_case(&logs[1], rng).unwrap().lent;
     lent[3][3] += 1;
     cases.push(answer("row_sum", lent));
+    let sizes: Vec<Case> = cases.iter().filter(|c| c.call == "build" && c.returned[0] < 12).map(sizes_case).collect();
+    cases.extend(sized().into_iter().map(|(s, _)| answer("sizes", vec![s.words()])));
+    cases.extend(sizes);
     file("oracle/run small", &cases)
 }
 
