@@ -107,12 +107,15 @@
  *         z_i * the product of (value + beta * (j * 2^k + Identity) + gamma) - next * the product of (value + beta * label + gamma),
  *         over its columns j; next is z_(i+1), after the last part z_0 with rotation 1.
  *
- * SIZES. The columns take (instance columns + n + 4 * lookups + N) * 2^k words, the nodes 4 words each. With list(x) = x + 2 for x > 1,
- * else 0, there are, to be added up:
+ * SIZES. hyperplonk_sizes answers them from the circuit words alone, so that buffers can be ordered before there is a log. Building
+ * needs exactly these words: past 1 to 13 it gives 14 exactly when one of its buffers is shorter, and where it gives 0 it returns these
+ * column words and nodes. The columns take (instance columns + n + 4 * lookups + N) * 2^k words, the nodes 4 words each.
+ * With list(x) = x + 2 for x > 1, else 0, there are, to be added up:
  *     all nodes of the user's constraints
  *     for each lookup 2 * (all nodes of its inputs and tables) + 16 + 4 * list(its width)
  *     if n is not 0, 6 + 18 * n + 4 * N
  *     list(user's constraints + lookups + (N + 1 if n is not 0)) + 2 + lookups + list(lookups + 1)
+ * One evaluation of the composed expression on one row visits each node once, also the base of a list, but no Item: the visits.
  * Room for HYPERPLONK_MAX_COLUMN_WORDS and HYPERPLONK_MAX_NODE_WORDS is enough for any circuit.
  *
  * CHALLENGES must be drawn once the columns before them are fixed: a round's after its witness columns, beta after all witness columns,
@@ -151,9 +154,9 @@
  *     word 63    HYPERPLONK_PRODUCT, 9, 5, 0                          node 10
  *     word 67    10                                                   the constraint's root
  * Instance words 11 12 13 14 15. By places the witness is 0 100 111 123 136 150 165 165, so by rows, as its words are lent,
- * 0 100 111 136 123 165 150 165. Challenges beta, gamma: any two words below p. Building writes 8 column words, 0 11 12 14 13 0 15 0,
- * and 13 nodes; there is no z. The row sum is 0 for every alpha and every three values of y. bindings/c/total.c has a lookup and a
- * cycle besides.
+ * 0 100 111 136 123 165 150 165. Challenges beta, gamma: any two words below p. The sizes are 8 column words, 13 nodes, 13 visits.
+ * Building writes the column words 0 11 12 14 13 0 15 0, and the nodes; there is no z. The row sum is 0 for every alpha and every three
+ * values of y. bindings/c/total.c has a lookup and a cycle besides, and orders its buffers by the sizes.
  */
 #ifndef HYPERPLONK_H
 #define HYPERPLONK_H
@@ -217,7 +220,7 @@ extern "C" {
 #define HYPERPLONK_BAD_LENGTH UINT64_C(12)
 /* A lent word that stands for a field element is not below p. */
 #define HYPERPLONK_BAD_VALUE UINT64_C(13)
-/* A buffer has fewer words than needed (alone: 2^k). */
+/* A buffer has fewer words than needed (build: those of hyperplonk_sizes; alone: 2^k). */
 #define HYPERPLONK_SHORT_BUFFER UINT64_C(14)
 /* (Build, counts.) An input equals no table row. */
 #define HYPERPLONK_NOT_IN_TABLE UINT64_C(15)
@@ -248,6 +251,14 @@ extern "C" {
 #define HYPERPLONK_MAX_COLUMN_WORDS UINT64_C(188416)
 #define HYPERPLONK_MAX_COMPOSED_NODES UINT64_C(4190)
 #define HYPERPLONK_MAX_NODE_WORDS UINT64_C(16760)
+
+/* What building needs, from the circuit alone. The first three words of the answer become: the column words needed; the nodes of the
+ * composed expression, of which building needs 4 node words each; the nodes visited by one evaluation of the composed expression on one
+ * row, every node once, Items not at all. All are 0 when refused; a shorter answer is left as it is. Where this gives 0 and the log's
+ * words pass 12 and 13, building gives 14 exactly when a buffer is shorter than these words; where building gives 0, the first two words
+ * of its answer are these. Returns 0 to 11, as building does. */
+uint64_t hyperplonk_sizes(const uint64_t *circuit, size_t circuit_len,
+                          uint64_t *answer, size_t answer_len);
 
 /* The columns and the composed expression of a log. Instance words are the instance columns' values, witness words the witness columns;
  * challenges are the user's, then beta, gamma. Columns, 2^k words each: instance, permutation, compressed input and table per lookup,

@@ -1,10 +1,11 @@
 /* A log of readings whose running total ends at a public value, written with the constants of hyperplonk.h alone. k = 3. Polynomials:
  * 0 the instance column, 1 the table of allowed readings, 2 the running total, 3 the readings. On every row but that at the last place
  * the total one row on is the total plus the reading; the total starts at 0; each reading is in the table; and the total at the last
- * place is the public value. */
+ * place is the public value. The buffers are ordered by the circuit alone, before there is a log. */
 #include <hyperplonk.h>
 #include <inttypes.h>
 #include <stdio.h>
+#include <stdlib.h>
 #include <string.h>
 
 #define WORDS(a) (a), sizeof(a) / sizeof((a)[0])
@@ -57,10 +58,30 @@ static const uint64_t other_total[] = {44};
 static const uint64_t challenges[] = {10, 100, 7}; /* beta, gamma, alpha */
 static const uint64_t y[K] = {3, 4, 5};
 
-/* instance, two permutation columns, compressed input and table, m, h, z: (1 + 2 + 4 * 1 + 1) * 2^k words */
-enum { M = 5 * ROWS, COLUMN_WORDS = 8 * ROWS, NODE_WORDS = 4 * 94 };
+/* instance, two permutation columns, compressed input and table, m, h, z */
+enum { M = 5 * ROWS };
 
-static uint64_t columns[COLUMN_WORDS], nodes[NODE_WORDS], built[3];
+static uint64_t *columns, *nodes, sizes[3], built[3];
+static size_t columns_len, nodes_len;
+
+/* Prints the sizes of a circuit, and returns the number. */
+static uint64_t size(const char *name, const uint64_t *words) {
+    uint64_t number = hyperplonk_sizes(words, sizeof(circuit) / sizeof(circuit[0]), WORDS(sizes));
+    printf("%s: sizes number %" PRIu64 ", column words %" PRIu64 ", nodes %" PRIu64 ", visits %" PRIu64 "\n", name, number, sizes[0],
+           sizes[1], sizes[2]);
+    return number;
+}
+
+/* Orders buffers of exactly the words that building needs. */
+static int order(void) {
+    if (size("circuit", circuit) != HYPERPLONK_OK)
+        return 0;
+    columns_len = sizes[0];
+    nodes_len = 4 * sizes[1];
+    columns = (uint64_t *)malloc(columns_len * sizeof(uint64_t));
+    nodes = (uint64_t *)malloc(nodes_len * sizeof(uint64_t));
+    return columns != NULL && nodes != NULL;
+}
 
 /* A column by rows, from its values by places. */
 static void by_rows(uint64_t *column, const uint64_t *values) {
@@ -87,8 +108,8 @@ static void show(const char *name, const uint64_t *column) {
 /* Builds, and prints the number and, if it is 0, the row sum. */
 static void run(const char *name, const uint64_t *words, const uint64_t *instance, const uint64_t *witness) {
     uint64_t sum[1], number;
-    number = hyperplonk_build(words, sizeof(circuit) / sizeof(circuit[0]), instance, 1, witness, 2 * ROWS, challenges, 2, WORDS(columns),
-                              WORDS(nodes), WORDS(built));
+    number = hyperplonk_build(words, sizeof(circuit) / sizeof(circuit[0]), instance, 1, witness, 2 * ROWS, challenges, 2, columns,
+                              columns_len, nodes, nodes_len, WORDS(built));
     printf("%s: number %" PRIu64 ", column words %" PRIu64 ", nodes %" PRIu64 ", z columns %" PRIu64 "\n", name, number, built[0],
            built[1], built[2]);
     if (number == HYPERPLONK_BAD_CYCLE)
@@ -103,6 +124,8 @@ static void run(const char *name, const uint64_t *words, const uint64_t *instanc
 int main(void) {
     uint64_t witness[2 * ROWS], refused[sizeof(circuit) / sizeof(circuit[0])];
 
+    if (!order())
+        return 1;
     by_rows(witness, totals);
     by_rows(witness + ROWS, readings);
     show("totals", witness);
@@ -115,8 +138,15 @@ int main(void) {
 
     run("wrong copy", circuit, other_total, witness);
 
+    columns_len -= 1;
+    run("a column word less", circuit, public_total, witness);
+    columns_len += 1;
+
     memcpy(refused, circuit, sizeof(circuit));
     refused[CELL + 1] = 0; /* row 0 can be in no cycle */
+    size("cell at row 0", refused);
     run("cell at row 0", refused, public_total, witness);
+    free(columns);
+    free(nodes);
     return 0;
 }

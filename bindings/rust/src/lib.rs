@@ -132,13 +132,17 @@
 //!
 //! # Sizes
 //!
-//! The columns take (instance columns + n + 4 × lookups + N) × 2^k words, the nodes 4 words each. With list(x) = x + 2 for x > 1, else
-//! 0, there are, to be added up:
+//! [`sizes`] answers them from the circuit words alone, so that buffers can be ordered before there is a log. Building needs exactly
+//! these words: past 1 to 13 it gives 14 exactly when one of its buffers is shorter, and where it is not refused it returns these column
+//! words and nodes. The columns take (instance columns + n + 4 × lookups + N) × 2^k words, the nodes 4 words each. With list(x) = x + 2
+//! for x > 1, else 0, there are, to be added up:
 //!
 //! - all nodes of the user's constraints;
 //! - for each lookup 2 × (all nodes of its inputs and tables) + 16 + 4 × list(its width);
 //! - if n is not 0, 6 + 18 × n + 4 × N;
 //! - list(user's constraints + lookups + (N + 1 if n is not 0)) + 2 + lookups + list(lookups + 1).
+//!
+//! One evaluation of the composed expression on one row visits each node once, also the base of a list, but no Item: the visits.
 //!
 //! Room for [`MAX_COLUMN_WORDS`] and [`MAX_NODE_WORDS`] is enough for any circuit.
 //!
@@ -202,6 +206,9 @@
 //! let witness = [0, 100, 111, 136, 123, 165, 150, 165];
 //! let (beta, gamma, alpha, y) = (10, 100, 7, [3, 4, 5]);
 //!
+//! let sizes = hyperplonk::sizes(&circuit)?;
+//! assert_eq!((sizes.column_words, sizes.nodes, sizes.visits), (8, 13, 13));
+//!
 //! let (mut columns, mut nodes) = ([0; 8], [0; 4 * 13]);
 //! let built = hyperplonk::build(&circuit, &instance, &witness, &[beta, gamma], &mut columns, &mut nodes)?;
 //! assert_eq!((built.column_words, built.nodes, built.z_columns), (8, 13, 0));
@@ -220,10 +227,10 @@
 //!
 //! # A table that lists a row twice
 //!
-//! The last of the two takes the count.
+//! The last of the two takes the count. The buffers are ordered before there is a log.
 //!
 //! ```
-//! use hyperplonk::{kind::POLYNOMIAL, signed, MAX_COLUMN_WORDS, MAX_NODE_WORDS};
+//! use hyperplonk::{kind::POLYNOMIAL, signed};
 //!
 //! let circuit = [
 //!     2, 0, // k, no maximum degree
@@ -234,15 +241,16 @@
 //!     POLYNOMIAL, 0, 0, signed(0), // node 1
 //!     1, 0, 1, // one lookup of width 1: input node 0, table node 1
 //! ];
+//! let sizes = hyperplonk::sizes(&circuit)?;
+//! let (mut columns, mut nodes) = (vec![0; sizes.column_words], vec![0; 4 * sizes.nodes]);
+//!
 //! let (witness, challenges) = ([7, 7, 5, 9], [10, 100]);
-//! let (mut columns, mut nodes) = (vec![0; MAX_COLUMN_WORDS], vec![0; MAX_NODE_WORDS]);
 //! let built = hyperplonk::build(&circuit, &[], &witness, &challenges, &mut columns, &mut nodes)?;
 //! assert_eq!((built.column_words, built.nodes, built.z_columns), (16, 27, 0));
 //! assert_eq!(columns[8..12], [1, 0, 2, 1]); // m, after the compressed input and table
 //!
-//! let (columns, nodes) = (&columns[..built.column_words], &nodes[..4 * built.nodes]);
 //! let (alpha, y) = (2, [0, 2]);
-//! assert_eq!(hyperplonk::row_sum(&circuit, &witness, columns, nodes, &[10, 100, alpha], &y)?, 0);
+//! assert_eq!(hyperplonk::row_sum(&circuit, &witness, &columns, &nodes, &[10, 100, alpha], &y)?, 0);
 //! # Ok::<(), hyperplonk::Refusal>(())
 //! ```
 #![deny(missing_docs)]
@@ -344,6 +352,7 @@ pub mod limit {
 
 mod library {
     extern "C" {
+        pub fn hyperplonk_sizes(circuit: *const u64, circuit_len: usize, answer: *mut u64, answer_len: usize) -> u64;
         pub fn hyperplonk_build(
             circuit: *const u64,
             circuit_len: usize,
@@ -404,8 +413,8 @@ mod library {
 /// A refusal: the first question that is answered no.
 ///
 /// Questions are put in the order of their numbers; 3 and then 4 are put to words 0 to 19, then 3 and then 4 to what follows. [`build`]
-/// meets 1 to 15, [`row_sum`] 1 to 11 and then 16. The stages alone meet 2, 12, 13 and 14 of their own columns and buffer, and the counts
-/// 15. On 15 the column words needed become 0. On any other number no word of a buffer is written.
+/// meets 1 to 15, [`sizes`] 1 to 11, [`row_sum`] 1 to 11 and then 16. The stages alone meet 2, 12, 13 and 14 of their own columns and
+/// buffer, and the counts 15. On 15 the column words needed become 0. On any other number no word of a buffer is written.
 ///
 /// ```
 /// let refusal = hyperplonk::eq_xy(11, &[0; 11], &mut [0; 8]).unwrap_err();
@@ -441,7 +450,7 @@ pub enum Refusal {
     BadLength = 12,
     /// A lent word that stands for a field element is not below p.
     BadValue = 13,
-    /// A buffer has fewer words than needed (alone: 2^k).
+    /// A buffer has fewer words than needed ([`build`]: those of [`sizes`]; alone: 2^k).
     ShortBuffer = 14,
     /// ([`build`], [`lookup_m_poly`].) An input equals no table row.
     NotInTable = 15,
@@ -513,6 +522,44 @@ fn told(number: u64) -> Result<(), Refusal> {
         1..=16 => Err(Refusal::ALL[number as usize - 1]),
         _ => panic!("libhyperplonk.a is not the one of these bindings: it returned the number {number}"),
     }
+}
+
+/// What [`build`] needs, and what an evaluation of the composed expression takes.
+#[must_use]
+#[derive(Clone, Copy, Debug, PartialEq, Eq)]
+pub struct Sizes {
+    /// How many words of `columns` are needed.
+    pub column_words: usize,
+    /// How many nodes the composed expression has: 4 words of `nodes` are needed for each.
+    pub nodes: usize,
+    /// How many nodes one evaluation of the composed expression visits on one row: every node once, Items not at all.
+    pub visits: usize,
+}
+
+/// The sizes of a circuit, from its words alone: nothing is built.
+///
+/// [`build`] needs exactly these words. Where the log's words pass 12 and 13 it gives 14 exactly when a buffer is shorter, and where it
+/// is not refused it returns these `column_words` and `nodes`.
+///
+/// ```
+/// // k = 1, one witness column, and the constraint Constant(0): no column is written.
+/// let circuit = [1, 0, 20, 0, 20, 0, 20, 1, 22, 1, 26, 1, 27, 0, 27, 0, 27, 0, 27, 0, 1, 0, 1, 0, 0, 0, 0];
+/// let sizes = hyperplonk::sizes(&circuit)?;
+/// assert_eq!(sizes, hyperplonk::Sizes { column_words: 0, nodes: 3, visits: 3 });
+/// # Ok::<(), hyperplonk::Refusal>(())
+/// ```
+///
+/// # Errors
+///
+/// Refusals 1 to 11, as [`build`] has them.
+pub fn sizes(circuit: &[u64]) -> Result<Sizes, Refusal> {
+    let mut answer = [0; 3];
+    // SAFETY: each pointer and length is a slice's; the one written is borrowed alone, and nothing is kept.
+    let number =
+        unsafe { library::hyperplonk_sizes(circuit.as_ptr(), circuit.len(), answer.as_mut_ptr(), answer.len()) };
+    told(number)?;
+    let [column_words, nodes, visits] = answer.map(|word| word as usize);
+    Ok(Sizes { column_words, nodes, visits })
 }
 
 /// What [`build`] wrote.

@@ -2,7 +2,7 @@
 //! the stored answers of oracle/data/small.txt.
 #![allow(clippy::type_complexity)]
 
-use hyperplonk::{build, eq_xy, lookup_h_poly, lookup_m_poly, row_sum, Built, Refusal, P};
+use hyperplonk::{build, eq_xy, lookup_h_poly, lookup_m_poly, row_sum, sizes, Built, Refusal, Sizes, P};
 
 /// What buffers hold before a call.
 const BEFORE: u64 = 0x5a5a;
@@ -19,6 +19,30 @@ const TWICE: [u64; 37] = [
 ];
 /// One witness column, k = 1, and the constraint Constant(0): no column is written.
 const BARE: [u64; 27] = [1, 0, 20, 0, 20, 0, 20, 1, 22, 1, 26, 1, 27, 0, 27, 0, 27, 0, 27, 0, 1, 0, 1, 0, 0, 0, 0];
+/// One witness column, k = 1, and a cycle of one cell.
+const CELL: [u64; 25] = [1, 0, 20, 0, 20, 0, 20, 1, 22, 0, 22, 0, 22, 0, 22, 0, 22, 1, 23, 1, 1, 0, 1, 0, 1];
+/// Two lookups of width 1 in one preprocess column, k = 2.
+#[rustfmt::skip]
+const TWO: [u64; 48] = [
+    2, 0, 20, 0, 20, 1, 24, 1, 26, 4, 42, 0, 42, 2, 44, 2, 48, 0, 48, 0, // contents
+    5, 7, 7, 9, 2, 0, 5, 1, 0, 1 << 31, 5, 0, 0, 1 << 31, 5, 2, 0, 1 << 31, 5, 0, 0, 1 << 31, 1, 1, 0, 1, 2, 3, // bodies
+];
+/// A lookup of width 2, k = 2: as TWO, with one width in place of two.
+#[rustfmt::skip]
+const WIDE: [u64; 47] = [
+    2, 0, 20, 0, 20, 1, 24, 1, 26, 4, 42, 0, 42, 1, 43, 2, 47, 0, 47, 0, // contents
+    5, 7, 7, 9, 2, 0, 5, 1, 0, 1 << 31, 5, 0, 0, 1 << 31, 5, 2, 0, 1 << 31, 5, 0, 0, 1 << 31, 2, 0, 1, 2, 3, // bodies
+];
+/// Two witness columns, k = 2, and the cycle (0, 1), (1, 2).
+const COPY: [u64; 27] = [2, 0, 20, 0, 20, 0, 20, 1, 22, 0, 22, 0, 22, 0, 22, 0, 22, 1, 23, 2, 2, 0, 2, 0, 1, 1, 2];
+/// Two constraints, k = 2: a witness column less itself, and a list of three Constants by a user challenge.
+#[rustfmt::skip]
+const LIST: [u64; 72] = [
+    2, 0, 20, 0, 20, 0, 20, 1, 22, 12, 70, 2, 72, 0, 72, 0, 72, 0, 72, 0, 1, 1, // contents, the round
+    5, 0, 0, 1 << 31, 5, 0, 0, 1 << 31, 7, 1, 0, 0, 8, 0, 2, 0, // nodes 0 to 3
+    1, 0, 0, 0, 1, 0, 0, 0, 1, 0, 0, 0, 6, 0, 0, 0, 12, 6, 0, 0, 12, 5, 8, 1, 12, 4, 9, 1, 11, 7, 10, 0, // nodes 4 to 11
+    3, 11, // the roots
+];
 
 fn refused<T>(number: u64) -> Result<T, Refusal> {
     Err(Refusal::ALL[number as usize - 1])
@@ -106,6 +130,67 @@ fn builds() {
     other[15] = 1;
     let sum = row_sum(&TWICE, &INPUT, &other, nodes, &[10, 100, 0], &[0, 2]);
     assert_eq!(sum, Ok(1));
+}
+
+/// Buffers of these words are enough, and a word less in either is too few.
+#[test]
+fn foretells() {
+    // The circuit; its witness and challenge words; column words, nodes, visits.
+    let circuits: [(&[u64], usize, usize, [usize; 3]); 7] = [
+        (&BARE, 2, 2, [0, 3, 3]),
+        (&CELL, 2, 2, [4, 34, 32]),
+        (&TWICE, 4, 2, [16, 27, 25]),
+        (&WIDE, 8, 2, [16, 47, 37]),
+        (&TWO, 8, 2, [32, 53, 48]),
+        (&COPY, 8, 2, [16, 57, 54]),
+        (&LIST, 4, 3, [0, 18, 13]),
+    ];
+    for (circuit, witness, challenges, [column_words, nodes, visits]) in circuits {
+        assert_eq!(sizes(circuit), Ok(Sizes { column_words, nodes, visits }));
+        let (witness, challenges) = (vec![7; witness], vec![10; challenges]);
+        let number = |column_words: usize, node_words: usize| {
+            let (mut columns, mut nodes) = (vec![BEFORE; column_words], vec![BEFORE; node_words]);
+            let built = build(circuit, &[], &witness, &challenges, &mut columns, &mut nodes);
+            built.map(|built| (built.column_words, built.nodes))
+        };
+        assert_eq!(number(column_words, 4 * nodes), Ok((column_words, nodes)));
+        assert_eq!(number(column_words + 1, 4 * nodes + 1), Ok((column_words, nodes)));
+        assert_eq!(number(column_words, 4 * nodes - 1), refused(14));
+        if column_words > 0 {
+            assert_eq!(number(column_words - 1, 4 * nodes), refused(14));
+        }
+    }
+}
+
+/// Refusals 1 to 11, as building has them.
+#[test]
+fn sizes_refuse() {
+    fn with(circuit: &[u64], at: usize, word: u64) -> Vec<u64> {
+        let mut circuit = circuit.to_vec();
+        circuit[at] = word;
+        circuit
+    }
+    let empty = vec![1, 0, 20, 0, 20, 0, 20, 1, 22, 0, 22, 0, 22, 0, 22, 0, 22, 0, 22, 0, 1, 0];
+    let cases = [
+        (1, TWICE[..19].to_vec()),
+        (2, with(&TWICE, 0, 11)),
+        (3, with(&TWICE, 1, 34)),
+        (3, with(&TWICE, 24, 33)),
+        (4, TWICE[..36].to_vec()),
+        (4, with(&CELL, 22, 2)),
+        (5, with(&TWICE, 24, 0)),
+        (6, with(&TWICE, 20, P)),
+        (7, with(&TWICE, 26, 13)),
+        (8, with(&TWICE, 27, 2)),
+        (9, empty),
+        (10, with(&with(&BARE, 1, 1), 22, 2)),
+        (11, with(&CELL, 24, 0)),
+    ];
+    for (number, circuit) in &cases {
+        assert_eq!(sizes(circuit), refused(*number));
+        assert_eq!(build(circuit, &[], &[], &[], &mut [], &mut []), refused(*number));
+    }
+    assert_eq!(sizes(&[]), refused(1));
 }
 
 #[test]
@@ -240,9 +325,16 @@ fn stored_answers() {
                 let sum = row_sum(circuit, witness, columns, nodes, challenges, y);
                 assert_eq!(sum.map_or_else(|refusal| [refusal.number(), 0], |sum| [0, sum]), returned[..], "{block}");
             }
+            ("sizes", [circuit, returned]) => {
+                let words = sizes(circuit).map_or_else(
+                    |refusal| [refusal.number(), 0, 0, 0],
+                    |sizes| [0, sizes.column_words as u64, sizes.nodes as u64, sizes.visits as u64],
+                );
+                assert_eq!(words, returned[..], "{block}");
+            }
             _ => panic!("a block of another shape: {block}"),
         }
         calls += 1;
     }
-    assert!(calls >= 30, "{calls} blocks");
+    assert!(calls >= 55, "{calls} blocks");
 }
