@@ -81,3 +81,15 @@ pub fn row_sum(words: &[u64], starts: &[usize; 9]) -> bool {
     let returned = [summed.number, summed.sum];
     same(words, starts[6], &returned)
 }
+
+pub fn sizes(words: &[u64], starts: &[usize; 9]) -> bool {
+    let circuit = slice_at(words, starts[0]);
+    let foretold = hyperplonk::sizes(circuit);
+    let returned = [
+        foretold.number,
+        foretold.column_words as u64,
+        foretold.nodes as u64,
+        foretold.visits as u64,
+    ];
+    same(words, starts[1], &returned)
+}

@@ -18,8 +18,8 @@ mod again;
 mod slices;
 mod text;
 
-// The calls: build 0, row_sum 1, lookup_m_poly 2, lookup_h_poly 3, eq_xy 4.
-const CALLS: usize = 5;
+// The calls: build 0, row_sum 1, lookup_m_poly 2, lookup_h_poly 3, eq_xy 4, sizes 5.
+const CALLS: usize = 6;
 
 // The lines of a block: the lent slices, what comes back, the buffers after.
 fn lines_of(call: usize) -> usize {
@@ -28,7 +28,8 @@ fn lines_of(call: usize) -> usize {
         1 => 7,
         2 => 6,
         3 => 8,
-        _ => 5,
+        4 => 5,
+        _ => 2,
     }
 }
 
@@ -37,6 +38,7 @@ fn returned_at(call: usize, starts: &[usize; 9]) -> usize {
     match call {
         2 => starts[4],
         4 => starts[3],
+        5 => starts[1],
         _ => starts[6],
     }
 }
@@ -46,11 +48,12 @@ fn returned_words(call: usize) -> usize {
     match call {
         0 => 4,
         1 => 2,
+        5 => 4,
         _ => 1,
     }
 }
 
-// The call that the line at a place names, or 5.
+// The call that the line at a place names, or 6.
 fn call_at(text: &[u8], at: usize) -> usize {
     if is_line(text, at, b"build") {
         return 0;
@@ -66,6 +69,9 @@ fn call_at(text: &[u8], at: usize) -> usize {
     }
     if is_line(text, at, b"eq_xy") {
         return 4;
+    }
+    if is_line(text, at, b"sizes") {
+        return 5;
     }
     CALLS
 }
@@ -108,7 +114,8 @@ fn buffers_right(call: usize, words: &[u64], starts: &[usize; 9], number: u64) -
         1 => true,
         2 => is_stage_after(words, starts[3], starts[5], number, k),
         3 => is_stage_after(words, starts[5], starts[7], number, k),
-        _ => is_stage_after(words, starts[2], starts[4], number, k),
+        4 => is_stage_after(words, starts[2], starts[4], number, k),
+        _ => true,
     }
 }
 
@@ -155,12 +162,13 @@ fn made_again(call: usize, words: &[u64], starts: &[usize; 9], room: &mut [u64])
         2 => held(again::lookup_m_poly(words, starts, room)),
         3 => held(again::lookup_h_poly(words, starts, room)),
         4 => held(again::eq_xy(words, starts, room)),
+        5 => held(again::sizes(words, starts)),
         _ => NOT_MADE,
     }
 }
 
-// Counts one more at a place, if that is so: blocks by call, refusals by call from 5 on, calls made again from 10 on, at 15
-// blocks whose call is not made again, at 16 answers that differ, and at 17 blocks that are not right.
+// Counts one more at a place, if that is so: blocks by call, refusals by call from 6 on, calls made again from 12 on, at 18
+// blocks whose call is not made again, at 19 answers that differ, and at 20 blocks that are not right.
 fn count(counts: &mut [u64], so: bool, at: usize) {
     if so {
         if at < counts.len() {
@@ -185,7 +193,8 @@ fn print_block(call: usize, counts: &[u64]) {
         1 => print_count(b"row_sum, block ", counts, 1),
         2 => print_count(b"lookup_m_poly, block ", counts, 2),
         3 => print_count(b"lookup_h_poly, block ", counts, 3),
-        _ => print_count(b"eq_xy, block ", counts, 4),
+        4 => print_count(b"eq_xy, block ", counts, 4),
+        _ => print_count(b"sizes, block ", counts, 5),
     }
     io::write_all(STDOUT_FILENO, b": the answer differs\n");
 }
@@ -195,10 +204,10 @@ fn count_block(counts: &mut [u64], call: usize, shown: u64, made: u64) {
         return;
     }
     count(counts, true, call);
-    count(counts, shown == REFUSED, 5 + call);
-    count(counts, made != NOT_MADE, 10 + call);
-    count(counts, made == NOT_MADE, 15);
-    count(counts, made == DIFFERS, 16);
+    count(counts, shown == REFUSED, 6 + call);
+    count(counts, made != NOT_MADE, 12 + call);
+    count(counts, made == NOT_MADE, 18);
+    count(counts, made == DIFFERS, 19);
     if made == DIFFERS {
         print_block(call, counts);
     }
@@ -206,7 +215,7 @@ fn count_block(counts: &mut [u64], call: usize, shown: u64, made: u64) {
 
 // Counts a block that is not right; answers the text's end.
 fn not_right(text: &[u8], counts: &mut [u64]) -> usize {
-    count(counts, true, 17);
+    count(counts, true, 20);
     text.len()
 }
 
@@ -274,8 +283,8 @@ fn all_turns(text: &[u8], words: &mut [u64], room: &mut [u64], counts: &mut [u64
 fn print_call(name: &[u8], counts: &[u64], call: usize) {
     if call < CALLS {
         print_count(name, counts, call);
-        print_count(b", refused ", counts, 5 + call);
-        print_count(b", replayed ", counts, 10 + call);
+        print_count(b", refused ", counts, 6 + call);
+        print_count(b", replayed ", counts, 12 + call);
     }
 }
 
@@ -285,19 +294,20 @@ fn print_counts(counts: &[u64]) {
     print_call(b"\nlookup_m_poly ", counts, 2);
     print_call(b"\nlookup_h_poly ", counts, 3);
     print_call(b"\neq_xy ", counts, 4);
+    print_call(b"\nsizes ", counts, 5);
 }
 
 fn print_rest(counts: &[u64]) {
-    print_count(b"\nnot replayed ", counts, 15);
-    print_count(b"\ndiffer ", counts, 16);
-    print_count(b"\nnot right ", counts, 17);
+    print_count(b"\nnot replayed ", counts, 18);
+    print_count(b"\ndiffer ", counts, 19);
+    print_count(b"\nnot right ", counts, 20);
     io::write_all(STDOUT_FILENO, b"\n");
 }
 
 fn replay(text: &[u8]) {
     let mut words = [0u64; 8192];
     let mut room = [0u64; 8192];
-    let mut counts = [0u64; 18];
+    let mut counts = [0u64; 21];
     all_turns(text, &mut words, &mut room, &mut counts);
     print_counts(&counts);
     print_rest(&counts);
