@@ -52,6 +52,7 @@ fn needs(s: Shape) {
     say::out(b"nodes needed: ");
     say::number(s.nodes);
     say::line(b", node words: ", s.nodes << 2);
+    say::line(b"nodes visited on one row: ", s.visits);
 }
 
 // Says all of it.

@@ -1,10 +1,9 @@
-// What circuit words ask for, once questions 1 to 11 have been put to them.
+// What circuit words have and ask for, once questions 1 to 11 have been put to them; what they ask for is told by `sizes`.
 use backend::MAX_POLYS;
-use backend_questions::first_no;
 use hyperplonk_prepare::circuit_params;
 use hyperplonk_prepare::copied_of;
-use hyperplonk_prepare::needed::column_words;
-use hyperplonk_prepare::needed::composed_nodes;
+use hyperplonk_sizes::sizes;
+use hyperplonk_spec::Sizes;
 ghost use mathlib.Core.Path.{_≡_};
 ghost use mathlib.Core.List.{List};
 ghost use Prim.Native.Nat.{_≤_};
@@ -30,6 +29,7 @@ pub struct Shape {
     pub parts: usize,
     pub column_words: usize,
     pub nodes: u64,
+    pub visits: u64,
 }
 
 fn refused(no: u64) -> Shape {
@@ -46,15 +46,14 @@ fn refused(no: u64) -> Shape {
         parts: 0,
         column_words: 0,
         nodes: 0,
+        visits: 0,
     }
 }
 
-fn accepted(circuit: &[u64], count: usize, of: [u64; MAX_POLYS]) -> Shape
+fn accepted(circuit: &[u64], count: usize, of: [u64; MAX_POLYS], told: Sizes) -> Shape
     requires { ⌜ Accepted (now circuit) × ((count ≤ maxPolys) × (take count of ≡ copied (circuitOf (now circuit)))) ⌝ }
 {
     let params = circuit_params(circuit, count);
-    let words = column_words(circuit, params);
-    let nodes = composed_nodes(circuit, params);
     let instances = lists::word_at(circuit, 3);
     Shape {
         no: 0,
@@ -67,17 +66,18 @@ fn accepted(circuit: &[u64], count: usize, of: [u64; MAX_POLYS]) -> Shape
         rows: params.rows,
         part: params.chunk_size,
         parts: params.num_chunks,
-        column_words: words,
-        nodes: nodes,
+        column_words: told.column_words,
+        nodes: told.nodes as u64,
+        visits: told.visits as u64,
     }
 }
 
 pub fn shape_of(circuit: &[u64]) -> Shape {
-    let no = first_no(circuit);
-    if no != 0 {
-        return refused(no);
+    let told = sizes(circuit);
+    if told.number != 0 {
+        return refused(told.number);
     }
     let copied = copied_of(circuit);
     let of = copied.of;
-    accepted(circuit, copied.count, of)
+    accepted(circuit, copied.count, of, told)
 }

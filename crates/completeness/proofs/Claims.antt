@@ -1,7 +1,9 @@
 -- All claims, proved.
+use Rattle.expression.proofs.Visits as Visits
 use Rattle.hyperplonk_spec.proofs.ReadsBack as ReadsBack
 use Rattle.hyperplonk_spec.proofs.ConstraintZero as ConstraintZero
 use Rattle.hyperplonk_spec.proofs.Powers as Powers
+use Rattle.hyperplonk_prepare.proofs.Foretold as Foretold
 use Rattle.completeness.specs.Claims.{Claims}
 use Rattle.completeness.proofs.Counts as Counts
 use Rattle.completeness.proofs.Cuts as Cuts
@@ -49,6 +51,10 @@ claims =
       composed-degree = Degrees.composed-degree;
       compose-degree = Degrees.compose-degree;
       passed-is-well-formed = WellFormed.passed-is-well-formed;
+      foretells = Foretold.foretells;
+      visited-value = λ T o e. Visits.visited-value o e;
+      visits-same = λ T o e. Visits.visits-same o e;
+      visits-written = Visits.visits-written;
       counts-turn = Habock.counts-turn;
       same-totals = Habock.same-totals;
       is-habock-h = Habock.is-habock-h;

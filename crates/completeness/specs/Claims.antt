@@ -60,6 +60,7 @@ use Rattle.hyperplonk_spec.specs.Copies.{
 }
 use Rattle.hyperplonk_spec.specs.Insurer.{ReadingsCovered, Odds, OddsLimit, GoodLog, FewTurnedAway, RowListedTwice, ZeroWhen}
 use Rattle.hyperplonk_spec.specs.RunningProduct.{RunningProduct}
+use Rattle.hyperplonk_spec.specs.Sizes.{sizesOf, Foretells, VisitedValue, VisitsSame, VisitsWritten}
 use Rattle.completeness.specs.Scope.{Scoped}
 
 -- "Then 15 is given exactly when, for some lookup, no column of whole counts turns the compressed table into the compressed inputs"
@@ -120,6 +121,11 @@ pub record Claims : Type 1 where
   pub composed-degree : ComposedDegree
   pub compose-degree : ComposeDegree
   pub passed-is-well-formed : PassedIsWellFormed
+  -- what `sizes` tells: of the building call, and of an evaluation, which is counted by its own definition
+  pub foretells : (ws : List ℕ) → Foretells ws (sizesOf ws)
+  pub visited-value : VisitedValue
+  pub visits-same : VisitsSame
+  pub visits-written : VisitsWritten
   -- the papers
   pub counts-turn : (𝓕 : Field) (el : ℕ → 𝓕 .F) (rows : ℕ) (input table : ℕ → 𝓕 .F) → CountsTurn 𝓕 el rows input table
   pub same-totals : (𝓕 : Field) (el : ℕ → 𝓕 .F) (rows : ℕ) (input table : ℕ → 𝓕 .F) → SameTotals 𝓕 el rows input table

@@ -12,29 +12,31 @@ use Rattle.expression.specs.Walks.{listed, weight, weights}
 module _ {T : Type 0} (o : Ops T) where
   mutual
     unfolding visited evaluate
-    pub value-is : (e : Expr) → visited o e .value ≡ evaluate o e
-    value-is (Expr.constant v) = refl
-    value-is Expr.identity = refl
-    value-is (Expr.lagrange i) = refl
-    value-is (Expr.eqXY i) = refl
-    value-is (Expr.poly q r) = refl
-    value-is (Expr.challenge i) = refl
-    value-is (Expr.negated a) = ap (o .negatedOp) (value-is a)
-    value-is (Expr.sum a b) = ap₂ (o .sumOp) (value-is a) (value-is b)
-    value-is (Expr.product a b) = ap₂ (o .productOp) (value-is a) (value-is b)
-    value-is (Expr.scaled a s) = ap (λ (x : T). o .scaledOp x s) (value-is a)
-    value-is (Expr.powers es b) = ap (λ (x : T). visitedFirst o x es) (value-is b) ∙ first-is (evaluate o b) es
+
+    pub visited-value : (e : Expr) → visited o e .value ≡ evaluate o e
+    visited-value (Expr.constant v) = refl
+    visited-value Expr.identity = refl
+    visited-value (Expr.lagrange i) = refl
+    visited-value (Expr.eqXY i) = refl
+    visited-value (Expr.poly q r) = refl
+    visited-value (Expr.challenge i) = refl
+    visited-value (Expr.negated a) = ap (o .negatedOp) (visited-value a)
+    visited-value (Expr.sum a b) = ap₂ (o .sumOp) (visited-value a) (visited-value b)
+    visited-value (Expr.product a b) = ap₂ (o .productOp) (visited-value a) (visited-value b)
+    visited-value (Expr.scaled a s) = ap (λ (x : T). o .scaledOp x s) (visited-value a)
+    visited-value (Expr.powers es b) = ap (λ (x : T). visitedFirst o x es) (visited-value b) ∙ first-is (evaluate o b) es
 
     first-is : (base : T) (es : Exprs) → visitedFirst o base es ≡ powersFirst o base es
-    first-is base (Exprs.last e) = value-is e
-    first-is base (Exprs.more e es) = ap₂ (running o base base) (value-is e) (all-is es)
+    first-is base (Exprs.last e) = visited-value e
+    first-is base (Exprs.more e es) = ap₂ (running o base base) (visited-value e) (all-is es)
 
     all-is : (es : Exprs) → visitedAll o es .value ≡ values o es
-    all-is (Exprs.last e) = ap (λ (x : T). x ∷ []) (value-is e)
-    all-is (Exprs.more e es) = ap₂ (λ (x : T) (xs : List T). x ∷ xs) (value-is e) (all-is es)
+    all-is (Exprs.last e) = ap (λ (x : T). x ∷ []) (visited-value e)
+    all-is (Exprs.more e es) = ap₂ (λ (x : T) (xs : List T). x ∷ xs) (visited-value e) (all-is es)
 
   mutual
     unfolding visited weight
+
     visits-weigh : (e : Expr) → visited o e .visits ≡ weight 0 e
     visits-weigh (Expr.constant v) = refl
     visits-weigh Expr.identity = refl
@@ -64,6 +66,7 @@ visits-same o e = visits-weigh o e ∙ sym (visits-are e)
 -- with its Items
 mutual
   unfolding weight body
+
   pub size-is : (e : Expr) → weight 1 e ≡ size e
   size-is (Expr.constant v) = refl
   size-is Expr.identity = refl
@@ -84,6 +87,7 @@ mutual
 -- no more nodes are visited than written
 mutual
   unfolding weight
+
   lighter : (e : Expr) → weight 0 e ≤ weight 1 e
   lighter (Expr.constant v) = omega arith
   lighter Expr.identity = omega arith
@@ -107,6 +111,7 @@ visits-most e = let a = visits-are e in let b = lighter e in let c = size-is e i
 -- ---- in the words that are written
 mutual
   unfolding weight flat notItems
+
   rest-visited : (e : Expr) (n : ℕ) (ws : List ℕ) → notItems (flat e n ++ ws) ≡ weight 0 e + notItems ws
   rest-visited (Expr.constant v) n ws = refl
   rest-visited Expr.identity n ws = refl

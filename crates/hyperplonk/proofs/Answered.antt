@@ -10,9 +10,10 @@ use borrow.Author.Tests.{le-leb, lt-leb}
 use Rattle.lists.specs.Lists.{writePrefix}
 use Rattle.lists.proofs.Over.{writeAt-sets, writeAt-writePrefix}
 use Rattle.hyperplonk_spec.specs.Build.{Output}
-use Rattle.hyperplonk_spec.specs.Entries.{BuildEntry, SumEntry, answered, buildEntry, sumEntry}
+use Rattle.hyperplonk_spec.specs.Entries.{BuildEntry, Entry, answered, buildEntry, sumEntry, sizesEntry}
 use Rattle.hyperplonk_spec.specs.declared.Built.{Built}
 use Rattle.hyperplonk_spec.specs.declared.RowSum.{RowSum}
+use Rattle.hyperplonk_spec.specs.declared.Sizes.{Sizes}
 
 -- a buffer that is too short
 pub kept : (ws d : List ℕ) → length d < length ws → d ≡ answered ws d
@@ -40,7 +41,13 @@ entry-built o r columns nodes answer after e h =
     ∙ ap (λ (p : Output). buildEntry p answer) e
 
 pub entry-summed : (s r : RowSum) (answer after : List ℕ) → r ≡ s → after ≡ answered (r .sum ∷ []) answer
-    → _≡_ {A = SumEntry} (record { number = r .number; answer = after }) (sumEntry s answer)
+    → _≡_ {A = Entry} (record { number = r .number; answer = after }) (sumEntry s answer)
 unfolding sumEntry
 entry-summed s r answer after e h =
     ap (λ (x : List ℕ). record { number = r .number; answer = x }) h ∙ ap (λ (p : RowSum). sumEntry p answer) e
+
+pub entry-told : (s r : Sizes) (answer after : List ℕ) → r ≡ s → after ≡ answered (r .«column_words» ∷ r .nodes ∷ r .visits ∷ []) answer
+    → _≡_ {A = Entry} (record { number = r .number; answer = after }) (sizesEntry s answer)
+unfolding sizesEntry
+entry-told s r answer after e h =
+    ap (λ (x : List ℕ). record { number = r .number; answer = x }) h ∙ ap (λ (p : Sizes). sizesEntry p answer) e

@@ -1,6 +1,7 @@
 // The calls by the names that include/hyperplonk.h declares. A slice crosses as a pointer and a length.
 use crate::build;
 use crate::row_sum;
+use crate::sizes;
 use hyperplonk_stages::eq_xy;
 use hyperplonk_stages::lookup_h_poly;
 use hyperplonk_stages::lookup_m_poly;
@@ -9,7 +10,8 @@ ghost use mathlib.Core.List.{[], _∷_};
 ghost use Rattle.hyperplonk_spec.specs.Stages.{mOf, hOf, eqOf};
 ghost use Rattle.hyperplonk_spec.specs.Build.{buildOf, lentBuild};
 ghost use Rattle.hyperplonk_spec.specs.RowSum.{rowSumOf, lentSum};
-ghost use Rattle.hyperplonk_spec.specs.Entries.{answered, buildEntry, sumEntry};
+ghost use Rattle.hyperplonk_spec.specs.Entries.{answered, buildEntry, sumEntry, sizesEntry};
+ghost use Rattle.hyperplonk_spec.specs.Sizes.{sizesOf};
 
 #[no_mangle]
 pub extern "C" fn hyperplonk_lookup_m_poly(
@@ -62,6 +64,20 @@ fn answer_three(answer: &mut [u64], a: u64, b: u64, c: u64)
         answer[1] = b;
         answer[2] = c;
     }
+}
+
+#[no_mangle]
+pub extern "C" fn hyperplonk_sizes(circuit: &[u64], answer: &mut [u64]) -> u64
+    ensures { λ r. ⌜ record { number = r; answer = now (answer .exit) } ≡ sizesEntry (sizesOf (now (circuit .entry))) (now (answer .entry)) ⌝ }
+{
+    let told = sizes(circuit);
+    answer_three(
+        answer,
+        told.column_words as u64,
+        told.nodes as u64,
+        told.visits as u64,
+    );
+    told.number
 }
 
 #[no_mangle]

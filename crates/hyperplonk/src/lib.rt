@@ -3,6 +3,7 @@ pub mod entry;
 
 use hyperplonk_spec::Built;
 use hyperplonk_spec::RowSum;
+use hyperplonk_spec::Sizes;
 use hyperplonk_spec::Summed;
 pub use hyperplonk_stages::eq_xy;
 pub use hyperplonk_stages::lookup_h_poly;
@@ -13,7 +14,15 @@ ghost use Rattle.hyperplonk_spec.specs.BuildAndSum.{Left, buildAndSumOf};
 ghost use Rattle.hyperplonk_spec.specs.Demand.{DemandThreeAt};
 ghost use Rattle.hyperplonk_spec.specs.RowSum.{rowSumOf, lentSum};
 ghost use Rattle.hyperplonk_spec.specs.RowSumClaim.{RowSumClaim};
+ghost use Rattle.hyperplonk_spec.specs.Sizes.{sizesOf, Foretells};
 ghost use Rattle.completeness.specs.DemandWhole.{DemandThreeWhole};
+
+// What a circuit asks for, before there is a log: the words that building needs, and the nodes that one evaluation on one row visits.
+pub fn sizes(circuit: &[u64]) -> Sizes
+    ensures { λ r. ⌜ (r ≡ sizesOf (now (circuit .entry))) × Foretells (now (circuit .entry)) r ⌝ }
+{
+    hyperplonk_sizes::sizes(circuit)
+}
 
 // The building call.
 pub fn build<'a>(

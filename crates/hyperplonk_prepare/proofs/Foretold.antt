@@ -13,7 +13,7 @@ use Rattle.field.specs.Field.{𝔾}
 use Rattle.lists.specs.Lists.{firstNo}
 use Rattle.expression.specs.Value.{valueOps, valueAt}
 use Rattle.expression.specs.Visits.{visits, notItems}
-use Rattle.expression.proofs.Visits.{value-is, visits-same, visits-written}
+use Rattle.expression.proofs.Visits.{visited-value, visits-same, visits-written}
 use Rattle.backend.specs.Circuit.{Circuit, circuitOf}
 use Rattle.backend.specs.Questions.{circuitQuestions}
 use Rattle.preprocessor.specs.Compose.{compose, composedWords, composedNodes}
@@ -170,7 +170,7 @@ module _ (ws : List ℕ) where
   unfolding valueAt composedVisits
   row-foretold witness columns challenges y b =
       let o = valueOps 𝔾 (rowSumEnvironment ws witness columns challenges y) b in
-      ap₂ (λ (v : 𝔾 .F) (n : ℕ). record { value = v; visits = n }) (value-is o (readComposed ws))
+      ap₂ (λ (v : 𝔾 .F) (n : ℕ). record { value = v; visits = n }) (visited-value o (readComposed ws))
       (visits-same o (readComposed ws) ∙ ap visits (reads-back ws))
 
   items-foretold : notItems (composedWords (circuitOf ws)) ≡ composedVisits (circuitOf ws)

@@ -35,14 +35,7 @@ fn list_nodes(n: usize, item: u64) -> u64
 }
 
 // The nodes of w expressions, whose roots stand `step` words apart from word s on.
-fn roots_nodes(
-    user: &[u64],
-    roots: &[u64],
-    s: usize,
-    step: usize,
-    w: usize,
-    item: u64,
-) -> u64
+fn roots_nodes(user: &[u64], roots: &[u64], s: usize, step: usize, w: usize, item: u64) -> u64
     requires { ⌜ All (IsNode (now user)) (now roots) × (s + w * step < length (now roots) + step) ⌝ }
     ensures { λ r. ⌜ r ≡ min largestSize (nodesIn item (tabulate (λ i. exprOf (now (user .entry)) (getD (now (roots .entry)) (s + i * step) 0)) w)) ⌝ }
 {
@@ -67,14 +60,7 @@ fn side_nodes(user: &[u64], pairs: &[u64], beta: usize, s: usize, w: usize, item
 }
 
 // The nodes of the constraint of the lookup whose first pair starts at word s.
-fn lookup_nodes(
-    user: &[u64],
-    pairs: &[u64],
-    beta: usize,
-    s: usize,
-    w: usize,
-    item: u64,
-) -> u64
+fn lookup_nodes(user: &[u64], pairs: &[u64], beta: usize, s: usize, w: usize, item: u64) -> u64
     requires { ⌜ All (IsNode (now user)) (now pairs) × (s + w * 2 ≤ length (now pairs)) × (item ≤ 1) ⌝ }
     ensures { λ r. ⌜ r ≡ min largestSize (weight item (sideTree (now (user .entry)) (now (pairs .entry)) beta s w) * 2 + weight item (sideTree (now (user .entry)) (now (pairs .entry)) beta (s + 1) w) * 2 + 8) ⌝ }
 {

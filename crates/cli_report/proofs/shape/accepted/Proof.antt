@@ -18,12 +18,6 @@ circuit-params-requires c κs =
     let pre = c .before .pre in
     (pre .0, count-is (a .of) (a .count) _ (omega (arith, pre .1 .0)) (pre .1 .1))
 
-column-words-requires : tie.Need-column-words-requires
-column-words-requires c κs = search needs
-
-composed-nodes-requires : tie.Need-composed-nodes-requires
-composed-nodes-requires c κs = search needs
-
 word-at-requires : tie.Need-word-at-requires
 word-at-requires c κs = search needs
 
@@ -33,4 +27,4 @@ returns c = search needs
 pub accepted-spec : {M : Type 1} → statement M
 accepted-spec =
     tie.close
-    (tie.spec circuit-params-requires column-words-requires composed-nodes-requires word-at-requires returns)
+    (tie.spec circuit-params-requires word-at-requires returns)
