@@ -3,6 +3,7 @@ use Rattle.expression.proofs.Visits as Visits
 use Rattle.hyperplonk_spec.proofs.ReadsBack as ReadsBack
 use Rattle.hyperplonk_spec.proofs.ConstraintZero as ConstraintZero
 use Rattle.hyperplonk_spec.proofs.Powers as Powers
+use Rattle.hyperplonk_prepare.proofs.Bound as Bound
 use Rattle.hyperplonk_prepare.proofs.Foretold as Foretold
 use Rattle.completeness.specs.Claims.{Claims}
 use Rattle.completeness.proofs.Counts as Counts
@@ -52,6 +53,7 @@ claims =
       compose-degree = Degrees.compose-degree;
       passed-is-well-formed = WellFormed.passed-is-well-formed;
       foretells = Foretold.foretells;
+      circuit-forest = Bound.circuit-forest;
       visited-value = λ T o e. Visits.visited-value o e;
       visits-same = λ T o e. Visits.visits-same o e;
       visits-written = Visits.visits-written;

@@ -60,7 +60,7 @@ use Rattle.hyperplonk_spec.specs.Copies.{
 }
 use Rattle.hyperplonk_spec.specs.Insurer.{ReadingsCovered, Odds, OddsLimit, GoodLog, FewTurnedAway, RowListedTwice, ZeroWhen}
 use Rattle.hyperplonk_spec.specs.RunningProduct.{RunningProduct}
-use Rattle.hyperplonk_spec.specs.Sizes.{sizesOf, Foretells, VisitedValue, VisitsSame, VisitsWritten}
+use Rattle.hyperplonk_spec.specs.Sizes.{sizesOf, Foretells, CircuitForest, VisitedValue, VisitsSame, VisitsWritten}
 use Rattle.completeness.specs.Scope.{Scoped}
 
 -- "Then 15 is given exactly when, for some lookup, no column of whole counts turns the compressed table into the compressed inputs"
@@ -123,6 +123,7 @@ pub record Claims : Type 1 where
   pub passed-is-well-formed : PassedIsWellFormed
   -- what `sizes` tells: of the building call, and of an evaluation, which is counted by its own definition
   pub foretells : (ws : List ℕ) → Foretells ws (sizesOf ws)
+  pub circuit-forest : CircuitForest
   pub visited-value : VisitedValue
   pub visits-same : VisitsSame
   pub visits-written : VisitsWritten

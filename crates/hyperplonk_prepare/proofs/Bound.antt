@@ -1,11 +1,15 @@
 -- Where questions 1 to 11 are yes, the composed expression takes at most 4,190 nodes.
 use mathlib.Core.Path.{_≡_}
+use mathlib.Core.Bool.{true}
 use mathlib.Core.List.{List, map}
 use Prim.Native.Nat.{ℕ, _+_, _≤_, min}
 use Rattle.lists.specs.Lists.{total}
-use Rattle.expression.specs.Flat.{largestSize}
+use Rattle.expression.specs.Nodes.{exprOf}
+use Rattle.expression.specs.Flat.{size, largestSize}
 use Rattle.expression.specs.Walks.{weight}
-use Rattle.backend.specs.Circuit.{Section, entries, circuitOf}
+use Rattle.backend.specs.Circuit.{Section, entries, Circuit, circuitOf, numNodes}
+use Rattle.backend.specs.Questions.{q7}
+use Rattle.backend.proofs.Forest as forest
 use Rattle.preprocessor.specs.Compose.{compose, composedNodes}
 use Rattle.preprocessor.specs.Count.{nodesIn}
 use Rattle.preprocessor.proofs.Bound as bound
@@ -13,6 +17,11 @@ use Rattle.preprocessor.proofs.Bound.{pairNodes}
 use Rattle.hyperplonk_spec.specs.Sizes.{composedVisits, mostNodes}
 use Rattle.hyperplonk_prepare.specs.Prepared.{Accepted}
 use Rattle.hyperplonk_prepare.proofs.Accepted.{answers, laid-of, counted-of, limits}
+
+-- question 7 makes the nodes a forest
+pub circuit-forest : (c : Circuit) → q7 c ≡ true → total (map (λ r. size (exprOf (c .nodes) r)) (c .roots)) ≡ numNodes c
+unfolding q7
+circuit-forest c seven = forest.circuit-forest c seven
 
 module _ (ws : List ℕ) (a : Accepted ws) where
   -- the trees of the circuit take its nodes, each once

@@ -3,19 +3,19 @@
 use mathlib.Core.Path.{_≡_}
 use mathlib.Core.Logic.{_≢_, _⊎_, _↔_}
 use mathlib.Core.Bool.{true, cond}
-use mathlib.Core.List.{List}
+use mathlib.Core.List.{List, map}
 use Prim.Native.Nat.{ℕ, _-_, _*_, _≤_, _<_}
 use lib.ListN.{length}
 use lib.Dec.{eqb}
 use Rattle.field.specs.Field.{𝔾}
-use Rattle.lists.specs.Lists.{firstNo}
+use Rattle.lists.specs.Lists.{total, firstNo}
 use Rattle.expression.specs.Expr.{Expr, Ops, evaluate}
 use Rattle.expression.specs.Nodes.{exprOf}
-use Rattle.expression.specs.Flat.{flat}
+use Rattle.expression.specs.Flat.{size, flat}
 use Rattle.expression.specs.Value.{valueOps, valueAt}
 use Rattle.expression.specs.Visits.{visited, visits, notItems}
-use Rattle.backend.specs.Circuit.{Circuit, circuitOf}
-use Rattle.backend.specs.Questions.{circuitQuestions}
+use Rattle.backend.specs.Circuit.{Circuit, circuitOf, numNodes}
+use Rattle.backend.specs.Questions.{q7, circuitQuestions}
 use Rattle.preprocessor.specs.Compose.{compose, composedWords, composedNodes}
 use Rattle.hyperplonk_spec.specs.Build.{columnWords, q12, q13, checkBuild, buildOf, lentBuild}
 use Rattle.hyperplonk_spec.specs.RowSum.{rowSumEnvironment}
@@ -84,9 +84,13 @@ pub record Foretells (ws : List ℕ) (s : Sizes) : Type 0 where
   pub no-items : s .number ≡ 0 → notItems (composedWords (circuitOf ws)) ≡ s .visits
   pub most : s .nodes ≤ mostNodes
 
--- ---- what is claimed of a counted evaluation, over any values
+-- ---- what is claimed of the trees, and of a counted evaluation over any values
 
--- it has the value of `evaluate`
+-- where question 7 is yes, the trees that are read from the roots take together as many nodes as the circuit has, and so no more
+abbrev pub CircuitForest : Type 0
+CircuitForest = (c : Circuit) → q7 c ≡ true → total (map (λ r. size (exprOf (c .nodes) r)) (c .roots)) ≡ numNodes c
+
+-- a counted evaluation has the value of `evaluate`
 abbrev pub VisitedValue : Type 1
 VisitedValue = (T : Type 0) (o : Ops T) (e : Expr) → visited o e .value ≡ evaluate o e
 
