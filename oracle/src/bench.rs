@@ -409,6 +409,17 @@ pub fn sheets(library: Library) {
         let ms = median(times.0["questions"][OURS].clone()).unwrap();
         println!("k = 10, everything at its limit, questions 1 to 11: {ms:.3} ms");
     }
+    if library.has("sizes") {
+        let words = super::limits::largest().sections.words();
+        let mut answer = [0u64; 3];
+        let mut times = Times::default();
+        for _ in 0..21 {
+            let lent = [slice(&words), [answer.as_mut_ptr() as usize, answer.len()]].concat();
+            assert_eq!(times.time(OURS, "sizes", || library.call("sizes", &lent)), 0);
+        }
+        let ms = median(times.0["sizes"][OURS].clone()).unwrap();
+        println!("k = 10, the most nodes, sizes: {ms:.3} ms");
+    }
 }
 
 /// Dependent multiplications and inverses, to set crate field's benchmark beside.

@@ -88,7 +88,7 @@ mutual
 mutual
   unfolding weight
 
-  lighter : (e : Expr) → weight 0 e ≤ weight 1 e
+  pub lighter : (e : Expr) → weight 0 e ≤ weight 1 e
   lighter (Expr.constant v) = omega arith
   lighter Expr.identity = omega arith
   lighter (Expr.lagrange i) = omega arith

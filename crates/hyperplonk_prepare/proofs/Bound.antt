@@ -1,4 +1,4 @@
--- Where questions 1 to 11 are yes, the composed expression takes at most 4,190 nodes.
+-- Where questions 1 to 11 are yes, the composed expression takes at most 4,190 nodes, and an evaluation of it visits at most 3,844.
 use mathlib.Core.Path.{_≡_}
 use mathlib.Core.Bool.{true}
 use mathlib.Core.List.{List, map}
@@ -14,7 +14,7 @@ use Rattle.preprocessor.specs.Compose.{compose, composedNodes}
 use Rattle.preprocessor.specs.Count.{nodesIn}
 use Rattle.preprocessor.proofs.Bound as bound
 use Rattle.preprocessor.proofs.Bound.{pairNodes}
-use Rattle.hyperplonk_spec.specs.Sizes.{composedVisits, mostNodes}
+use Rattle.hyperplonk_spec.specs.Sizes.{composedVisits, mostNodes, mostVisits}
 use Rattle.hyperplonk_prepare.specs.Prepared.{Accepted}
 use Rattle.hyperplonk_prepare.proofs.Accepted.{answers, laid-of, counted-of, limits}
 
@@ -25,11 +25,15 @@ circuit-forest c seven = forest.circuit-forest c seven
 
 module _ (ws : List ℕ) (a : Accepted ws) where
   -- the trees of the circuit take its nodes, each once
-  pub user-nodes : nodesIn 1 (circuitOf ws .constraints) + total (map pairNodes (circuitOf ws .lookups)) ≡ entries ws Section.nodes
+  pub user-nodes : nodesIn 1 (circuitOf ws .constraints) + total (map (pairNodes 1) (circuitOf ws .lookups)) ≡ entries ws Section.nodes
   user-nodes = bound.user-nodes ws (laid-of ws a) (counted-of ws a) (answers ws a .seven)
 
   pub composed-most : composedNodes (circuitOf ws) ≤ mostNodes
   composed-most = bound.composed-most ws (laid-of ws a) (counted-of ws a) (answers ws a .seven) (limits ws a)
+
+  pub composed-visits-most : composedVisits (circuitOf ws) ≤ mostVisits
+  unfolding composedVisits
+  composed-visits-most = bound.composed-visits-most ws (laid-of ws a) (counted-of ws a) (answers ws a .seven) (limits ws a)
 
   -- counts that stop at 2^60 are the numbers themselves
   pub nodes-exact : min largestSize (weight 1 (compose (circuitOf ws))) ≡ composedNodes (circuitOf ws)

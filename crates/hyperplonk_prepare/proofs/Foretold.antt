@@ -16,17 +16,18 @@ use Rattle.expression.specs.Visits.{visits, notItems}
 use Rattle.expression.proofs.Visits.{visited-value, visits-same, visits-written}
 use Rattle.backend.specs.Circuit.{Circuit, circuitOf}
 use Rattle.backend.specs.Questions.{circuitQuestions}
-use Rattle.preprocessor.specs.Compose.{compose, composedWords, composedNodes}
+use Rattle.preprocessor.specs.Compose.{paramsOf, compose, composedWords, composedNodes}
 use Rattle.prover.specs.Columns.{allCovered}
 use Rattle.hyperplonk_spec.specs.Build.{Output, logOf, columnWords, q12, q13, q14, checkBuild, buildOf, lentBuild, made, zeroed}
 use Rattle.hyperplonk_spec.specs.RowSum.{rowSumEnvironment}
-use Rattle.hyperplonk_spec.specs.Sizes.{composedVisits, noSizes, circuitSizes, sizesOf, TooShort, ForetellsBuild, ForetellsRow, readComposed, Foretells}
+use Rattle.hyperplonk_spec.specs.Sizes.{composedVisits, noSizes, circuitSizes, sizesOf, mostColumnWords, TooShort, ForetellsBuild, ForetellsRow, readComposed, Foretells}
 use Rattle.hyperplonk_spec.specs.declared.Sizes.{Sizes}
 use Rattle.hyperplonk_spec.proofs.Building.{refused-by, fifteen-by, built-by}
 use Rattle.hyperplonk_spec.proofs.ReadsBack.{reads-back}
 use Rattle.hyperplonk_prepare.specs.Prepared.{Accepted}
 use Rattle.hyperplonk_prepare.proofs.Asked.{circuit-no, no-14, no-none}
-use Rattle.hyperplonk_prepare.proofs.Bound.{composed-most}
+use Rattle.hyperplonk_prepare.proofs.Bound.{composed-most, composed-visits-most}
+use Rattle.hyperplonk_prepare.proofs.Computed.{columns-fit, columns-from}
 
 -- ---- question 14 by the numbers
 module _ (c : Circuit) (columns nodes : List ℕ) where
@@ -177,6 +178,13 @@ module _ (ws : List ℕ) where
   unfolding composedWords composedVisits
   items-foretold = visits-written (compose (circuitOf ws)) 0
 
+  words-most : Accepted ws → columnWords (circuitOf ws) ≤ mostColumnWords
+  words-most a =
+      let v = paramsOf (circuitOf ws) in
+      let q = columns-from ws a v refl in
+      let r = columns-fit ws a v refl in
+      omega arith
+
   pub foretells : Foretells ws (sizesOf ws)
   foretells = go (firstNo circuitQuestions ws) refl
     where
@@ -187,7 +195,9 @@ module _ (ws : List ℕ) where
             build = λ instances witness challenges columns nodes. accepted-build ws instances witness challenges columns nodes e;
             row = λ z. row-foretold;
             no-items = λ z. items-foretold;
-            most = composed-most ws e;
+            most-words = words-most e;
+            most-nodes = composed-most ws e;
+            most-visits = composed-visits-most ws e;
           })
       go (suc n) e =
           subst (Foretells ws) (sym (sizes-no n e))
@@ -195,7 +205,9 @@ module _ (ws : List ℕ) where
             build = λ instances witness challenges columns nodes. refused-build ws instances witness challenges columns nodes n e;
             row = λ z. absurd (omega arith);
             no-items = λ z. absurd (omega arith);
-            most = omega arith;
+            most-words = omega arith;
+            most-nodes = omega arith;
+            most-visits = omega arith;
           })
 
   -- of a call's answer

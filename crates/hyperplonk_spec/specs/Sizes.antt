@@ -40,9 +40,15 @@ sizesOf ws =
 
 -- ---- what these numbers tell of the other calls
 
--- the most nodes that a composed expression can take
+-- the most words that columns can take, the most nodes that a composed expression can, and that an evaluation of it can visit
+abbrev pub mostColumnWords : ℕ
+mostColumnWords = 188416
+
 abbrev pub mostNodes : ℕ
 mostNodes = 4190
+
+abbrev pub mostVisits : ℕ
+mostVisits = 3844
 
 -- a buffer has fewer words than these numbers say
 abbrev pub TooShort : Sizes → List ℕ → List ℕ → Type 0
@@ -82,7 +88,9 @@ pub record Foretells (ws : List ℕ) (s : Sizes) : Type 0 where
   pub row : s .number ≡ 0 → ForetellsRow ws s
   -- "every node once but Items not at all": as many as the nodes that building writes and that are no Item
   pub no-items : s .number ≡ 0 → notItems (composedWords (circuitOf ws)) ≡ s .visits
-  pub most : s .nodes ≤ mostNodes
+  pub most-words : s .«column_words» ≤ mostColumnWords
+  pub most-nodes : s .nodes ≤ mostNodes
+  pub most-visits : s .visits ≤ mostVisits
 
 -- ---- what is claimed of the trees, and of a counted evaluation over any values
 
