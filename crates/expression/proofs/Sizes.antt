@@ -15,19 +15,12 @@ use Rattle.expression.proofs.Step.{under-yes, under-no, by-kind, low, l
 abbrev cap : ℕ → ℕ
 cap x = min largestSize x
 
--- one more, and two sums, with every sum capped
-one-more : (x s r : ℕ) → x ≡ cap s → r ≡ cap (1 + x) → r ≡ cap (suc s)
-one-more x s r hx h = omega arith
+-- a node or an Item and what it names, one or two, with every sum capped; w is the whole
+with-one : (i x u w r : ℕ) → x ≡ cap u → r ≡ cap (i + x) → w ≡ i + u → r ≡ cap w
+with-one i x u w r hx h e = omega arith
 
--- an Item and one or two sums
-item-and-one : (i x s r : ℕ) → x ≡ cap s → r ≡ cap (i + x) → r ≡ cap (i + s)
-item-and-one i x s r hx h = omega arith
-
-item-and-two : (i x s y u t r : ℕ) → x ≡ cap s → y ≡ cap u → t ≡ cap (x + y) → r ≡ cap (i + t) → r ≡ cap (i + (s + u))
-item-and-two i x s y u t r hx hy ht h = omega arith
-
-one-and-two : (x s y u t r : ℕ) → x ≡ cap s → y ≡ cap u → t ≡ cap (x + y) → r ≡ cap (1 + t) → r ≡ cap (suc (s + u))
-one-and-two x s y u t r hx hy ht h = omega arith
+with-two : (i x u y v t w r : ℕ) → x ≡ cap u → y ≡ cap v → t ≡ cap (x + y) → r ≡ cap (i + t) → w ≡ i + (u + v) → r ≡ cap w
+with-two i x u y v t w r hx hy ht h e = omega arith
 
 module _ (item : ℕ) (ws : List ℕ) (n a b : ℕ) where
   pub size-lower : (r : ℕ) → b ≡ a → b < n → r ≡ cap (weight item (exprOf ws b)) → r ≡ cap (weight item (under n noExpr (exprOf ws) a))
@@ -76,44 +69,44 @@ module _ (item : ℕ) (ws : List ℕ) (n : ℕ) (d : Node) (read : d ≡ nodeAt 
       pub size-negated : d .kind ≡ 7 → r ≡ cap (weight item (exprOf ws n))
       unfolding nodeOf kindOf weight
       size-negated k =
-          one-more x (weight item (low ws n (d .first))) r hx hr
+          with-one 1 x (weight item (low ws n (d .first))) _ r hx hr (omega arith)
           ∙ sym (ap (λ (e : Expr). cap (weight item e)) (of-kind ws n d read 7 k))
 
       pub size-scaled : d .kind ≡ 10 → r ≡ cap (weight item (exprOf ws n))
       unfolding nodeOf kindOf weight
       size-scaled k =
-          one-more x (weight item (low ws n (d .first))) r hx hr
+          with-one 1 x (weight item (low ws n (d .first))) _ r hx hr (omega arith)
           ∙ sym (ap (λ (e : Expr). cap (weight item e)) (of-kind ws n d read 10 k))
 
     module _ (r : ℕ) (hr : r ≡ cap (item + x)) where
       pub listed-last : d .value ≡ 0 → r ≡ cap (weights item (itemsOf ws n))
       unfolding weight
       listed-last z =
-          item-and-one item x (weight item (low ws n (d .first))) r hx hr
+          with-one item x (weight item (low ws n (d .first))) _ r hx hr refl
           ∙ sym (ap (λ (es : Exprs). cap (weights item es)) (items-last ws n d read z))
 
     module _ (y : ℕ) (hy : y ≡ cap (weight item (low ws n (d .second)))) (t : ℕ) (ht : t ≡ cap (x + y)) (r : ℕ) (hr : r ≡ cap (1 + t)) where
       pub size-sum : d .kind ≡ 8 → r ≡ cap (weight item (exprOf ws n))
       unfolding nodeOf kindOf weight
       size-sum k =
-          one-and-two x (weight item (low ws n (d .first))) y (weight item (low ws n (d .second))) t r hx hy ht hr
+          with-two 1 x (weight item (low ws n (d .first))) y (weight item (low ws n (d .second))) t _ r hx hy ht hr (omega arith)
           ∙ sym (ap (λ (e : Expr). cap (weight item e)) (of-kind ws n d read 8 k))
 
       pub size-product : d .kind ≡ 9 → r ≡ cap (weight item (exprOf ws n))
       unfolding nodeOf kindOf weight
       size-product k =
-          one-and-two x (weight item (low ws n (d .first))) y (weight item (low ws n (d .second))) t r hx hy ht hr
+          with-two 1 x (weight item (low ws n (d .first))) y (weight item (low ws n (d .second))) t _ r hx hy ht hr (omega arith)
           ∙ sym (ap (λ (e : Expr). cap (weight item e)) (of-kind ws n d read 9 k))
 
     module _ (y : ℕ) (hy : y ≡ cap (weights item (lowItems ws n (d .second)))) (t : ℕ) where
       pub size-powers : t ≡ cap (y + x) → (r : ℕ) → r ≡ cap (1 + t) → d .kind ≡ 11 → r ≡ cap (weight item (exprOf ws n))
       unfolding nodeOf kindOf weight
       size-powers ht r hr k =
-          one-and-two y (weights item (lowItems ws n (d .second))) x (weight item (low ws n (d .first))) t r hy hx ht hr
+          with-two 1 y (weights item (lowItems ws n (d .second))) x (weight item (low ws n (d .first))) t _ r hy hx ht hr (omega arith)
           ∙ sym (ap (λ (e : Expr). cap (weight item e)) (of-kind ws n d read 11 k))
 
       pub listed-more : t ≡ cap (x + y) → (r : ℕ) → r ≡ cap (item + t) → (d .value ≡ 0 → ⊥) → r ≡ cap (weights item (itemsOf ws n))
       unfolding weight
       listed-more ht r hr z =
-          item-and-two item x (weight item (low ws n (d .first))) y (weights item (lowItems ws n (d .second))) t r hx hy ht hr
+          with-two item x (weight item (low ws n (d .first))) y (weights item (lowItems ws n (d .second))) t _ r hx hy ht hr refl
           ∙ sym (ap (λ (es : Exprs). cap (weights item es)) (items-more ws n d read z))

@@ -31,16 +31,20 @@ use Rattle.hyperplonk_prepare.proofs.Computed.{columns-fit, columns-fro
 
 -- ---- question 14 by the numbers
 module _ (c : Circuit) (columns nodes : List ℕ) where
+  too-short? : Dec (TooShort (circuitSizes c) columns nodes)
+  too-short? = go (decLt (length columns) (columnWords c)) (decLt (length nodes) (composedNodes c * 4))
+    where
+      go : Dec (length columns < columnWords c) → Dec (length nodes < composedNodes c * 4) → Dec (TooShort (circuitSizes c) columns nodes)
+      go (yes l) d = yes (inl l)
+      go (no l) (yes m) = yes (inr m)
+      go (no l) (no m) = no (⊎-elim (λ p. l p) (λ q. m q))
+
   room-14 : (TooShort (circuitSizes c) columns nodes → ⊥) → q14 c columns nodes ≡ true
   unfolding q14
-  room-14 h = go (decLt (length columns) (columnWords c)) (decLt (length nodes) (composedNodes c * 4))
-    where
-      go : Dec (length columns < columnWords c) → Dec (length nodes < composedNodes c * 4)
-          → (leb (columnWords c) (length columns) && leb (composedNodes c * 4) (length nodes)) ≡ true
-      go (yes l) d = absurd (h (inl l))
-      go (no l) (yes m) = absurd (h (inr m))
-      go (no l) (no m) =
-          ap₂ _&&_ (le-leb (columnWords c) (length columns) (omega arith)) (le-leb (composedNodes c * 4) (length nodes) (omega arith))
+  room-14 h =
+      let l : length columns < columnWords c → ⊥ = λ p. h (inl p) in
+      let m : length nodes < composedNodes c * 4 → ⊥ = λ q. h (inr q) in
+      ap₂ _&&_ (le-leb (columnWords c) (length columns) (omega arith)) (le-leb (composedNodes c * 4) (length nodes) (omega arith))
 
   short-14 : TooShort (circuitSizes c) columns nodes → q14 c columns nodes ≡ false
   unfolding q14
@@ -108,19 +112,14 @@ module _ (ws instances witness challenges columns nodes : List ℕ) where
     fourteen-when : q12 (circuitOf ws) instances witness challenges ≡ true → q13 instances witness challenges ≡ true
         → output .answer .number ≡ 14
         → TooShort (circuitSizes (circuitOf ws)) columns nodes
-    fourteen-when twelve thirteen e =
-        go (decLt (length columns) (columnWords (circuitOf ws))) (decLt (length nodes) (composedNodes (circuitOf ws) * 4))
+    fourteen-when twelve thirteen e = go (too-short? (circuitOf ws) columns nodes)
       where
-        neither : (TooShort (circuitSizes (circuitOf ws)) columns nodes → ⊥) → ⊥
-        neither h =
-            ⊎-elim (λ q. let r = sym q ∙ e in omega arith) (λ q. let r = sym q ∙ e in omega arith)
-            (passed-number (enough-is twelve thirteen h))
-
-        go : Dec (length columns < columnWords (circuitOf ws)) → Dec (length nodes < composedNodes (circuitOf ws) * 4)
-            → TooShort (circuitSizes (circuitOf ws)) columns nodes
-        go (yes l) d = inl l
-        go (no l) (yes m) = inr m
-        go (no l) (no m) = absurd (neither (⊎-elim (λ p. l p) (λ q. m q)))
+        go : Dec (TooShort (circuitSizes (circuitOf ws)) columns nodes) → TooShort (circuitSizes (circuitOf ws)) columns nodes
+        go (yes h) = h
+        go (no h) =
+            absurd
+            (⊎-elim (λ q. let r = sym q ∙ e in omega arith) (λ q. let r = sym q ∙ e in omega arith)
+            (passed-number (enough-is twelve thirteen h)))
 
     accepted-build : ForetellsBuild ws (circuitSizes (circuitOf ws)) instances witness challenges columns nodes
     unfolding made logOf

@@ -17,8 +17,10 @@ use Rattle.lists.proofs.Parts.{get-split, total-next}
 use Rattle.lists.proofs.Runs.{part-tabulate, total-first}
 use Rattle.expression.specs.Expr.{Expr, minus, at, distributePowers}
 use Rattle.expression.specs.Nodes.{exprOf}
-use Rattle.expression.specs.Flat.{body, size}
+use Rattle.expression.specs.Flat.{size}
+use Rattle.expression.specs.Walks.{weight}
 use Rattle.expression.specs.Written.{Pushed, ExprWritten}
+use Rattle.expression.proofs.Visits.{size-is}
 use Rattle.backend.specs.Circuit.{Pair, pairAt}
 use Rattle.backend.specs.Constraints.{inputsOf, tablesOf, lookupTree}
 use Rattle.preprocessor.specs.Compose.{numberOfM, numberOfH, startTree, partTree, lookupTreeOf, permutationTrees, constraintTrees, zeroTree, outerTrees, composeTree}
@@ -92,10 +94,15 @@ module _ (nodes pairs : List ℕ) (s w : ℕ) where
   side-nth i n h e =
       get-tabulate (λ i. exprOf nodes (getD pairs (s + i * 2) 0)) w i (Expr.constant 0) h ∙ ap (exprOf nodes) (sym e)
 
--- the nodes of a lookup's constraint
+-- the nodes of a lookup's constraint, an Item counted as `item`; and those that are written
+pub lookup-weight : (item m h : ℕ) (a b : Expr) → weight item (lookupTree (at m) (at h) a b) ≡ weight item a * 2 + weight item b * 2 + 8
+unfolding weight
+lookup-weight item m h a b = omega arith
+
 pub lookup-size : (m h : ℕ) (a b : Expr) → size (lookupTree (at m) (at h) a b) ≡ size a * 2 + size b * 2 + 8
-unfolding body
-lookup-size m h a b = omega arith
+lookup-size m h a b =
+    sym (size-is (lookupTree (at m) (at h) a b)) ∙ lookup-weight 1 m h a b
+    ∙ ap₂ (λ (x y : ℕ). x * 2 + y * 2 + 8) (size-is a) (size-is b)
 
 -- ---- how many constraints
 pub num-none : (own : ℕ) (v : CircuitParams) → v .«num_permutation_polys» ≡ 0 → numConstraints own v ≡ own + v .«num_lookups»
@@ -221,15 +228,27 @@ module _ (v : CircuitParams) (es : List Expr) where
       (let l = tabulate-length (λ j. at (numberOfH v j)) (v .«num_lookups») in omega arith)
 
 -- the nodes of a sum with gamma, and of a product with a query
+pub side-weight : (item : ℕ) (nodes pairs : List ℕ) (user s w : ℕ)
+    → weight item (sideTree nodes pairs user s w) ≡ weight item (distributePowers (sideExprs nodes pairs s w) (Expr.challenge user)) + 2
+unfolding sideTree weight
+side-weight item nodes pairs user s w = omega arith
+
 pub side-size : (nodes pairs : List ℕ) (user s w : ℕ)
     → size (sideTree nodes pairs user s w) ≡ size (distributePowers (sideExprs nodes pairs s w) (Expr.challenge user)) + 2
-unfolding sideTree body
-side-size nodes pairs user s w = omega arith
+side-size nodes pairs user s w =
+    sym (size-is (sideTree nodes pairs user s w)) ∙ side-weight 1 nodes pairs user s w
+    ∙ ap (λ (n : ℕ). n + 2) (size-is (distributePowers (sideExprs nodes pairs s w) (Expr.challenge user)))
+
+pub zero-weight : (item : ℕ) (v : CircuitParams) (es : List Expr)
+    → weight item (zeroTree v es) ≡ weight item (distributePowers es (Expr.challenge (v .«num_challenges» + 2))) + 2
+unfolding zeroTree weight
+zero-weight item v es = omega arith
 
 pub zero-size : (v : CircuitParams) (es : List Expr)
     → size (zeroTree v es) ≡ size (distributePowers es (Expr.challenge (v .«num_challenges» + 2))) + 2
-unfolding zeroTree body
-zero-size v es = omega arith
+zero-size v es =
+    sym (size-is (zeroTree v es)) ∙ zero-weight 1 v es
+    ∙ ap (λ (n : ℕ). n + 2) (size-is (distributePowers es (Expr.challenge (v .«num_challenges» + 2))))
 
 -- with no lookup the composed expression is the zero check
 pub compose-alone : (v : CircuitParams) (es : List Expr) → v .«num_lookups» ≡ 0 → composeTree v es ≡ zeroTree v es

@@ -10,17 +10,16 @@ use native.Mathlib.Omega.{arith}
 use lib.ListN.{length, getD, take}
 use Rattle.lists.specs.Lists.{tabulate, total, All}
 use Rattle.lists.proofs.Columns.{tabulate-suc, tabulate-cong, tabulate-of, map-tabulate}
-use Rattle.expression.specs.Expr.{Expr, at, distributePowers}
+use Rattle.expression.specs.Expr.{Expr, distributePowers}
 use Rattle.expression.specs.Nodes.{exprOf}
 use Rattle.expression.specs.Flat.{largestSize}
 use Rattle.expression.specs.Walks.{weight}
 use Rattle.backend.specs.Circuit.{Circuit}
-use Rattle.backend.specs.Constraints.{lookupTree}
 use Rattle.preprocessor.specs.Compose.{compose, numberOfM, numberOfH, lookupTreeOf, composeTree}
 use Rattle.preprocessor.specs.ComposeWords.{Limits, Words, sideExprs, sideTree, lookupsOf, constraintsFromWords, numConstraints, permutationNodes, DecodedFrom}
 use Rattle.preprocessor.specs.Count.{nodesIn, listNodes}
 use Rattle.preprocessor.specs.declared.CircuitParams.{CircuitParams}
-use Rattle.preprocessor.proofs.ComposeWords.{constraints-length, lookup-tree, side-length}
+use Rattle.preprocessor.proofs.ComposeWords.{constraints-length, lookup-tree, lookup-weight, side-length, side-weight}
 use Rattle.preprocessor.proofs.Composed.{composed-is}
 use Rattle.preprocessor.proofs.Nodes.{nodes-append, nodes-one, list-size, challenge-size, compose-size, constraints-nodes}
 
@@ -80,15 +79,6 @@ module _ (item : ℕ) where
   list-many (suc (suc n)) r h k e = e
 
   -- a side, a lookup
-  side-nodes : (nodes pairs : List ℕ) (user s w : ℕ)
-      → weight item (sideTree nodes pairs user s w) ≡ weight item (distributePowers (sideExprs nodes pairs s w) (Expr.challenge user)) + 2
-  unfolding sideTree weight
-  side-nodes nodes pairs user s w = omega arith
-
-  lookup-nodes : (m h : ℕ) (a b : Expr) → weight item (lookupTree (at m) (at h) a b) ≡ weight item a * 2 + weight item b * 2 + 8
-  unfolding weight
-  lookup-nodes m h a b = omega arith
-
   pub side-counted : (nodes pairs : List ℕ) (beta s w r x y : ℕ) → r ≡ min largestSize (x + y)
       → x ≡ min largestSize (nodesIn item (tabulate (λ i. exprOf nodes (getD pairs (s + i * 2) 0)) w))
       → y ≡ min largestSize (listNodes item w)
@@ -111,8 +101,8 @@ module _ (item : ℕ) where
       let B : ℕ = weight item (distributePowers (sideExprs nodes pairs (s + 1) w) (Expr.challenge beta)) in
       let e : x ≡ min largestSize (A + B) = capped x a b A B q ea eb in
       let f : y ≡ min largestSize (A + B + (A + B)) = capped y x x (A + B) (A + B) p e e in
-      let u = side-nodes nodes pairs beta s w in
-      let t = side-nodes nodes pairs beta (s + 1) w in
+      let u = side-weight item nodes pairs beta s w in
+      let t = side-weight item nodes pairs beta (s + 1) w in
       plain r y A B (weight item (sideTree nodes pairs beta s w)) (weight item (sideTree nodes pairs beta (s + 1) w)) h f u t
     where
       plain : (r y A B S T : ℕ) → r ≡ min largestSize (y + 16) → y ≡ min largestSize (A + B + (A + B)) → S ≡ A + 2 → T ≡ B + 2
@@ -135,7 +125,7 @@ module _ (item : ℕ) where
       ∙ ap (min largestSize)
       (sym
       (ap (weight item) (lookup-tree nodes widths pairs enough j h v)
-      ∙ lookup-nodes (numberOfM v j) (numberOfH v j) (sideTree nodes pairs (v .«num_challenges») (total (take j widths) * 2) (getD widths j 0))
+      ∙ lookup-weight item (numberOfM v j) (numberOfH v j) (sideTree nodes pairs (v .«num_challenges») (total (take j widths) * 2) (getD widths j 0))
       (sideTree nodes pairs (v .«num_challenges») (total (take j widths) * 2 + 1) (getD widths j 0))))
 
   -- the user's own constraints

@@ -22,7 +22,7 @@ use Rattle.preprocessor.specs.ComposeWords.{Limits, numConstraints, perm
 use Rattle.preprocessor.specs.Count.{nodesIn, listNodes}
 use Rattle.preprocessor.specs.declared.CircuitParams.{CircuitParams}
 use Rattle.preprocessor.proofs.Parts.{part-size, start-size}
-use Rattle.preprocessor.proofs.ComposeWords.{outer-length}
+use Rattle.preprocessor.proofs.ComposeWords.{outer-length, zero-weight}
 
 module _ (item : ℕ) where
   pub nodes-append : (es fs : List Expr) → nodesIn item (es ++ fs) ≡ nodesIn item es + nodesIn item fs
@@ -82,11 +82,6 @@ module _ (item : ℕ) where
       nodes-append (tabulate (λ j. at (numberOfH v j)) (v .«num_lookups»)) (zeroTree v es ∷ [])
       ∙ ap₂ _+_ (queries-nodes (numberOfH v) (v .«num_lookups»)) (nodes-one (zeroTree v es))
 
-  zero-nodes : (v : CircuitParams) (es : List Expr)
-      → weight item (zeroTree v es) ≡ weight item (distributePowers es (Expr.challenge (v .«num_challenges» + 2))) + 2
-  unfolding zeroTree weight
-  zero-nodes v es = omega arith
-
   pub compose-size : (v : CircuitParams) (es : List Expr)
       → weight item (composeTree v es) ≡ nodesIn item es + listNodes item (length es) + 2 + v .«num_lookups» + listNodes item (suc (v .«num_lookups»))
   unfolding composeTree
@@ -94,7 +89,7 @@ module _ (item : ℕ) where
       let b : Expr = Expr.challenge (v .«num_challenges» + 2) in
       let p = list-size b (challenge-size (v .«num_challenges» + 2)) (outerTrees v es) in
       let q = outer-nodes v es in
-      let r = zero-nodes v es in
+      let r = zero-weight item v es in
       let s = list-size b (challenge-size (v .«num_challenges» + 2)) es in
       let t : listNodes item (length (outerTrees v es)) ≡ listNodes item (suc (v .«num_lookups»)) = ap (listNodes item) (outer-length v es) in
       omega arith
