@@ -181,126 +181,121 @@ unfolding everything
 sum-8 = refl
 
 -- number 0
-pub sizes-1 : sizesOf (1 ∷ 0 ∷ 20 ∷ 0 ∷ 20 ∷ 0 ∷ 20 ∷ 1 ∷ 22 ∷ 1 ∷ 26 ∷ 1 ∷ 27 ∷ 0 ∷ 27 ∷ 0 ∷ 27 ∷ 0 ∷ 27 ∷ 0 ∷ 1 ∷ 0 ∷ 1 ∷ 0 ∷ 0 ∷ 0 ∷ 0 ∷ []) ≡ record { number = 0; «column_words» = 0; nodes = 3; visits = 3 }
+pub sizes-1 : sizesOf (2 ∷ 0 ∷ 20 ∷ 0 ∷ 20 ∷ 1 ∷ 24 ∷ 1 ∷ 26 ∷ 2 ∷ 34 ∷ 0 ∷ 34 ∷ 1 ∷ 35 ∷ 1 ∷ 37 ∷ 0 ∷ 37 ∷ 0 ∷ 5 ∷ 7 ∷ 7 ∷ 9 ∷ 1 ∷ 0 ∷ 5 ∷ 1 ∷ 0 ∷ 2147483648 ∷ 5 ∷ 0 ∷ 0 ∷ 2147483648 ∷ 1 ∷ 0 ∷ 1 ∷ []) ≡ record { number = 0; «column_words» = 16; nodes = 27; visits = 25 }
 unfolding everything
 sizes-1 = refl
 
 -- number 0
-pub sizes-2 : sizesOf (1 ∷ 0 ∷ 20 ∷ 0 ∷ 20 ∷ 0 ∷ 20 ∷ 1 ∷ 22 ∷ 0 ∷ 22 ∷ 0 ∷ 22 ∷ 0 ∷ 22 ∷ 0 ∷ 22 ∷ 1 ∷ 23 ∷ 1 ∷ 1 ∷ 0 ∷ 1 ∷ 0 ∷ 1 ∷ []) ≡ record { number = 0; «column_words» = 4; nodes = 34; visits = 32 }
+pub sizes-2 : sizesOf (2 ∷ 0 ∷ 20 ∷ 1 ∷ 21 ∷ 0 ∷ 21 ∷ 1 ∷ 23 ∷ 0 ∷ 23 ∷ 0 ∷ 23 ∷ 0 ∷ 23 ∷ 0 ∷ 23 ∷ 1 ∷ 24 ∷ 2 ∷ 1 ∷ 1 ∷ 0 ∷ 2 ∷ 0 ∷ 1 ∷ 1 ∷ 2 ∷ []) ≡ record { number = 0; «column_words» = 20; nodes = 57; visits = 54 }
 unfolding everything
 sizes-2 = refl
 
 -- number 0
-pub sizes-3 : sizesOf (2 ∷ 0 ∷ 20 ∷ 0 ∷ 20 ∷ 1 ∷ 24 ∷ 1 ∷ 26 ∷ 2 ∷ 34 ∷ 0 ∷ 34 ∷ 1 ∷ 35 ∷ 1 ∷ 37 ∷ 0 ∷ 37 ∷ 0 ∷ 5 ∷ 6 ∷ 7 ∷ 8 ∷ 1 ∷ 0 ∷ 5 ∷ 1 ∷ 0 ∷ 2147483648 ∷ 5 ∷ 0 ∷ 0 ∷ 2147483648 ∷ 1 ∷ 0 ∷ 1 ∷ []) ≡ record { number = 0; «column_words» = 16; nodes = 27; visits = 25 }
+pub sizes-3 : sizesOf (3 ∷ 4 ∷ 20 ∷ 0 ∷ 20 ∷ 0 ∷ 20 ∷ 2 ∷ 24 ∷ 21 ∷ 108 ∷ 1 ∷ 109 ∷ 0 ∷ 109 ∷ 0 ∷ 109 ∷ 0 ∷ 109 ∷ 0 ∷ 1 ∷ 1 ∷ 1 ∷ 0 ∷ 1 ∷ 0 ∷ 0 ∷ 1 ∷ 3 ∷ 0 ∷ 0 ∷ 2147483647 ∷ 7 ∷ 1 ∷ 0 ∷ 0 ∷ 8 ∷ 0 ∷ 2 ∷ 0 ∷ 5 ∷ 0 ∷ 0 ∷ 2147483649 ∷ 5 ∷ 0 ∷ 0 ∷ 2147483648 ∷ 10 ∷ 5 ∷ 0 ∷ 2 ∷ 7 ∷ 6 ∷ 0 ∷ 0 ∷ 8 ∷ 4 ∷ 7 ∷ 0 ∷ 9 ∷ 3 ∷ 8 ∷ 0 ∷ 5 ∷ 1 ∷ 0 ∷ 2147483647 ∷ 2 ∷ 0 ∷ 0 ∷ 0 ∷ 7 ∷ 11 ∷ 0 ∷ 0 ∷ 8 ∷ 10 ∷ 12 ∷ 0 ∷ 10 ∷ 13 ∷ 0 ∷ 0 ∷ 1 ∷ 0 ∷ 0 ∷ 0 ∷ 6 ∷ 0 ∷ 0 ∷ 0 ∷ 12 ∷ 15 ∷ 0 ∷ 0 ∷ 12 ∷ 14 ∷ 17 ∷ 1 ∷ 12 ∷ 9 ∷ 18 ∷ 1 ∷ 11 ∷ 16 ∷ 19 ∷ 0 ∷ 20 ∷ []) ≡ record { number = 0; «column_words» = 0; nodes = 23; visits = 20 }
 unfolding everything
 sizes-3 = refl
 
 -- number 0
-pub sizes-4 : sizesOf (2 ∷ 0 ∷ 20 ∷ 0 ∷ 20 ∷ 2 ∷ 28 ∷ 1 ∷ 30 ∷ 4 ∷ 46 ∷ 0 ∷ 46 ∷ 1 ∷ 47 ∷ 2 ∷ 51 ∷ 0 ∷ 51 ∷ 0 ∷ 5 ∷ 6 ∷ 7 ∷ 8 ∷ 9 ∷ 10 ∷ 11 ∷ 12 ∷ 2 ∷ 0 ∷ 5 ∷ 2 ∷ 0 ∷ 2147483648 ∷ 5 ∷ 0 ∷ 0 ∷ 2147483648 ∷ 5 ∷ 3 ∷ 0 ∷ 2147483648 ∷ 5 ∷ 1 ∷ 0 ∷ 2147483648 ∷ 2 ∷ 0 ∷ 1 ∷ 2 ∷ 3 ∷ []) ≡ record { number = 0; «column_words» = 16; nodes = 47; visits = 37 }
+pub sizes-4 : sizesOf (1 ∷ 6 ∷ 20 ∷ 0 ∷ 20 ∷ 0 ∷ 20 ∷ 1 ∷ 22 ∷ 0 ∷ 22 ∷ 0 ∷ 22 ∷ 0 ∷ 22 ∷ 0 ∷ 22 ∷ 1 ∷ 23 ∷ 5 ∷ 5 ∷ 0 ∷ 5 ∷ 0 ∷ 1 ∷ 1 ∷ 1 ∷ 2 ∷ 1 ∷ 3 ∷ 1 ∷ 4 ∷ 1 ∷ []) ≡ record { number = 0; «column_words» = 14; nodes = 111; visits = 108 }
 unfolding everything
 sizes-4 = refl
 
 -- number 0
-pub sizes-5 : sizesOf (2 ∷ 0 ∷ 20 ∷ 0 ∷ 20 ∷ 1 ∷ 24 ∷ 1 ∷ 26 ∷ 4 ∷ 42 ∷ 0 ∷ 42 ∷ 2 ∷ 44 ∷ 2 ∷ 48 ∷ 0 ∷ 48 ∷ 0 ∷ 5 ∷ 6 ∷ 7 ∷ 8 ∷ 2 ∷ 0 ∷ 5 ∷ 1 ∷ 0 ∷ 2147483648 ∷ 5 ∷ 0 ∷ 0 ∷ 2147483648 ∷ 5 ∷ 2 ∷ 0 ∷ 2147483648 ∷ 5 ∷ 0 ∷ 0 ∷ 2147483648 ∷ 1 ∷ 1 ∷ 0 ∷ 1 ∷ 2 ∷ 3 ∷ []) ≡ record { number = 0; «column_words» = 32; nodes = 53; visits = 48 }
+pub sizes-5 : sizesOf (1 ∷ 0 ∷ 20 ∷ 0 ∷ 20 ∷ 0 ∷ 20 ∷ 1 ∷ 22 ∷ 2 ∷ 30 ∷ 0 ∷ 30 ∷ 1 ∷ 31 ∷ 1 ∷ 33 ∷ 0 ∷ 33 ∷ 0 ∷ 1 ∷ 0 ∷ 5 ∷ 0 ∷ 0 ∷ 2147483648 ∷ 5 ∷ 0 ∷ 0 ∷ 2147483649 ∷ 1 ∷ 0 ∷ 1 ∷ []) ≡ record { number = 0; «column_words» = 8; nodes = 27; visits = 25 }
 unfolding everything
 sizes-5 = refl
 
 -- number 0
-pub sizes-6 : sizesOf (2 ∷ 0 ∷ 20 ∷ 0 ∷ 20 ∷ 0 ∷ 20 ∷ 1 ∷ 22 ∷ 0 ∷ 22 ∷ 0 ∷ 22 ∷ 0 ∷ 22 ∷ 0 ∷ 22 ∷ 1 ∷ 23 ∷ 2 ∷ 2 ∷ 0 ∷ 2 ∷ 0 ∷ 1 ∷ 1 ∷ 2 ∷ []) ≡ record { number = 0; «column_words» = 16; nodes = 57; visits = 54 }
+pub sizes-6 : sizesOf (3 ∷ 0 ∷ 20 ∷ 1 ∷ 21 ∷ 3 ∷ 45 ∷ 1 ∷ 47 ∷ 13 ∷ 99 ∷ 1 ∷ 100 ∷ 1 ∷ 101 ∷ 2 ∷ 105 ∷ 3 ∷ 108 ∷ 7 ∷ 2 ∷ 0 ∷ 1 ∷ 1 ∷ 0 ∷ 1 ∷ 0 ∷ 0 ∷ 0 ∷ 0 ∷ 5 ∷ 11 ∷ 17 ∷ 17 ∷ 23 ∷ 0 ∷ 5 ∷ 0 ∷ 6 ∷ 6 ∷ 6 ∷ 6 ∷ 6 ∷ 0 ∷ 6 ∷ 2 ∷ 0 ∷ 5 ∷ 1 ∷ 0 ∷ 2147483648 ∷ 5 ∷ 4 ∷ 0 ∷ 2147483649 ∷ 5 ∷ 4 ∷ 0 ∷ 2147483648 ∷ 7 ∷ 2 ∷ 0 ∷ 0 ∷ 8 ∷ 1 ∷ 3 ∷ 0 ∷ 5 ∷ 5 ∷ 0 ∷ 2147483648 ∷ 7 ∷ 5 ∷ 0 ∷ 0 ∷ 8 ∷ 4 ∷ 6 ∷ 0 ∷ 9 ∷ 0 ∷ 7 ∷ 0 ∷ 5 ∷ 4 ∷ 0 ∷ 2147483648 ∷ 5 ∷ 2 ∷ 0 ∷ 2147483648 ∷ 5 ∷ 5 ∷ 0 ∷ 2147483648 ∷ 5 ∷ 3 ∷ 0 ∷ 2147483648 ∷ 8 ∷ 2 ∷ 9 ∷ 10 ∷ 11 ∷ 12 ∷ 2 ∷ 2 ∷ 3 ∷ 0 ∷ 1 ∷ 4 ∷ 1 ∷ 0 ∷ 2 ∷ 4 ∷ 2 ∷ 5 ∷ 1 ∷ 5 ∷ 2 ∷ 5 ∷ 4 ∷ []) ≡ record { number = 0; «column_words» = 80; nodes = 131; visits = 116 }
 unfolding everything
 sizes-6 = refl
 
--- number 0
-pub sizes-7 : sizesOf (2 ∷ 0 ∷ 20 ∷ 0 ∷ 20 ∷ 0 ∷ 20 ∷ 1 ∷ 22 ∷ 12 ∷ 70 ∷ 2 ∷ 72 ∷ 0 ∷ 72 ∷ 0 ∷ 72 ∷ 0 ∷ 72 ∷ 0 ∷ 1 ∷ 1 ∷ 5 ∷ 0 ∷ 0 ∷ 2147483648 ∷ 5 ∷ 0 ∷ 0 ∷ 2147483648 ∷ 7 ∷ 1 ∷ 0 ∷ 0 ∷ 8 ∷ 0 ∷ 2 ∷ 0 ∷ 1 ∷ 0 ∷ 0 ∷ 0 ∷ 1 ∷ 0 ∷ 0 ∷ 0 ∷ 1 ∷ 0 ∷ 0 ∷ 0 ∷ 6 ∷ 0 ∷ 0 ∷ 0 ∷ 12 ∷ 6 ∷ 0 ∷ 0 ∷ 12 ∷ 5 ∷ 8 ∷ 1 ∷ 12 ∷ 4 ∷ 9 ∷ 1 ∷ 11 ∷ 7 ∷ 10 ∷ 0 ∷ 3 ∷ 11 ∷ []) ≡ record { number = 0; «column_words» = 0; nodes = 18; visits = 13 }
+-- number 1
+pub sizes-7 : sizesOf (2 ∷ 0 ∷ 20 ∷ 0 ∷ 20 ∷ 1 ∷ []) ≡ record { number = 1; «column_words» = 0; nodes = 0; visits = 0 }
 unfolding everything
 sizes-7 = refl
 
--- number 0
-pub sizes-8 : sizesOf (1 ∷ 0 ∷ 20 ∷ 0 ∷ 20 ∷ 0 ∷ 20 ∷ 1 ∷ 22 ∷ 0 ∷ 22 ∷ 0 ∷ 22 ∷ 0 ∷ 22 ∷ 0 ∷ 22 ∷ 1 ∷ 23 ∷ 1 ∷ 1 ∷ 0 ∷ 1 ∷ 0 ∷ 1 ∷ []) ≡ record { number = 0; «column_words» = 4; nodes = 34; visits = 32 }
+-- number 2
+pub sizes-8 : sizesOf (0 ∷ 0 ∷ 20 ∷ 0 ∷ 20 ∷ 1 ∷ 24 ∷ 1 ∷ 26 ∷ 2 ∷ 34 ∷ 0 ∷ 34 ∷ 1 ∷ 35 ∷ 1 ∷ 37 ∷ 0 ∷ 37 ∷ 0 ∷ 5 ∷ 7 ∷ 7 ∷ 9 ∷ 1 ∷ 0 ∷ 5 ∷ 1 ∷ 0 ∷ 2147483648 ∷ 5 ∷ 0 ∷ 0 ∷ 2147483648 ∷ 1 ∷ 0 ∷ 1 ∷ []) ≡ record { number = 2; «column_words» = 0; nodes = 0; visits = 0 }
 unfolding everything
 sizes-8 = refl
 
--- number 0
-pub sizes-9 : sizesOf (2 ∷ 0 ∷ 20 ∷ 0 ∷ 20 ∷ 1 ∷ 24 ∷ 1 ∷ 26 ∷ 2 ∷ 34 ∷ 0 ∷ 34 ∷ 1 ∷ 35 ∷ 1 ∷ 37 ∷ 0 ∷ 37 ∷ 0 ∷ 5 ∷ 7 ∷ 7 ∷ 9 ∷ 1 ∷ 0 ∷ 5 ∷ 1 ∷ 0 ∷ 2147483648 ∷ 5 ∷ 0 ∷ 0 ∷ 2147483648 ∷ 1 ∷ 0 ∷ 1 ∷ []) ≡ record { number = 0; «column_words» = 16; nodes = 27; visits = 25 }
+-- number 3
+pub sizes-9 : sizesOf (2 ∷ 34 ∷ 20 ∷ 0 ∷ 20 ∷ 1 ∷ 24 ∷ 1 ∷ 26 ∷ 2 ∷ 34 ∷ 0 ∷ 34 ∷ 1 ∷ 35 ∷ 1 ∷ 37 ∷ 0 ∷ 37 ∷ 0 ∷ 5 ∷ 7 ∷ 7 ∷ 9 ∷ 1 ∷ 0 ∷ 5 ∷ 1 ∷ 0 ∷ 2147483648 ∷ 5 ∷ 0 ∷ 0 ∷ 2147483648 ∷ 1 ∷ 0 ∷ 1 ∷ []) ≡ record { number = 3; «column_words» = 0; nodes = 0; visits = 0 }
 unfolding everything
 sizes-9 = refl
 
--- number 0
-pub sizes-10 : sizesOf (2 ∷ 0 ∷ 20 ∷ 1 ∷ 21 ∷ 0 ∷ 21 ∷ 1 ∷ 23 ∷ 0 ∷ 23 ∷ 0 ∷ 23 ∷ 0 ∷ 23 ∷ 0 ∷ 23 ∷ 1 ∷ 24 ∷ 2 ∷ 1 ∷ 1 ∷ 0 ∷ 2 ∷ 0 ∷ 1 ∷ 1 ∷ 2 ∷ []) ≡ record { number = 0; «column_words» = 20; nodes = 57; visits = 54 }
+-- number 4
+pub sizes-10 : sizesOf (2 ∷ 0 ∷ 20 ∷ 0 ∷ 20 ∷ 1 ∷ 24 ∷ 1 ∷ 26 ∷ 2 ∷ 14 ∷ 0 ∷ 34 ∷ 1 ∷ 35 ∷ 1 ∷ 37 ∷ 0 ∷ 37 ∷ 0 ∷ 5 ∷ 7 ∷ 7 ∷ 9 ∷ 1 ∷ 0 ∷ 5 ∷ 1 ∷ 0 ∷ 2147483648 ∷ 5 ∷ 0 ∷ 0 ∷ 2147483648 ∷ 1 ∷ 0 ∷ 1 ∷ []) ≡ record { number = 4; «column_words» = 0; nodes = 0; visits = 0 }
 unfolding everything
 sizes-10 = refl
 
--- number 0
-pub sizes-11 : sizesOf (3 ∷ 4 ∷ 20 ∷ 0 ∷ 20 ∷ 0 ∷ 20 ∷ 2 ∷ 24 ∷ 21 ∷ 108 ∷ 1 ∷ 109 ∷ 0 ∷ 109 ∷ 0 ∷ 109 ∷ 0 ∷ 109 ∷ 0 ∷ 1 ∷ 1 ∷ 1 ∷ 0 ∷ 1 ∷ 0 ∷ 0 ∷ 1 ∷ 3 ∷ 0 ∷ 0 ∷ 2147483647 ∷ 7 ∷ 1 ∷ 0 ∷ 0 ∷ 8 ∷ 0 ∷ 2 ∷ 0 ∷ 5 ∷ 0 ∷ 0 ∷ 2147483649 ∷ 5 ∷ 0 ∷ 0 ∷ 2147483648 ∷ 10 ∷ 5 ∷ 0 ∷ 2 ∷ 7 ∷ 6 ∷ 0 ∷ 0 ∷ 8 ∷ 4 ∷ 7 ∷ 0 ∷ 9 ∷ 3 ∷ 8 ∷ 0 ∷ 5 ∷ 1 ∷ 0 ∷ 2147483647 ∷ 2 ∷ 0 ∷ 0 ∷ 0 ∷ 7 ∷ 11 ∷ 0 ∷ 0 ∷ 8 ∷ 10 ∷ 12 ∷ 0 ∷ 10 ∷ 13 ∷ 0 ∷ 0 ∷ 1 ∷ 0 ∷ 0 ∷ 0 ∷ 6 ∷ 0 ∷ 0 ∷ 0 ∷ 12 ∷ 15 ∷ 0 ∷ 0 ∷ 12 ∷ 14 ∷ 17 ∷ 1 ∷ 12 ∷ 9 ∷ 18 ∷ 1 ∷ 11 ∷ 16 ∷ 19 ∷ 0 ∷ 20 ∷ []) ≡ record { number = 0; «column_words» = 0; nodes = 23; visits = 20 }
+-- number 5
+pub sizes-11 : sizesOf (2 ∷ 0 ∷ 20 ∷ 0 ∷ 20 ∷ 1 ∷ 24 ∷ 1 ∷ 26 ∷ 2 ∷ 34 ∷ 0 ∷ 34 ∷ 1 ∷ 35 ∷ 1 ∷ 37 ∷ 0 ∷ 37 ∷ 0 ∷ 5 ∷ 7 ∷ 7 ∷ 9 ∷ 0 ∷ 0 ∷ 5 ∷ 1 ∷ 0 ∷ 2147483648 ∷ 5 ∷ 0 ∷ 0 ∷ 2147483648 ∷ 1 ∷ 0 ∷ 1 ∷ []) ≡ record { number = 5; «column_words» = 0; nodes = 0; visits = 0 }
 unfolding everything
 sizes-11 = refl
 
--- number 0
-pub sizes-12 : sizesOf (1 ∷ 6 ∷ 20 ∷ 0 ∷ 20 ∷ 0 ∷ 20 ∷ 1 ∷ 22 ∷ 0 ∷ 22 ∷ 0 ∷ 22 ∷ 0 ∷ 22 ∷ 0 ∷ 22 ∷ 1 ∷ 23 ∷ 5 ∷ 5 ∷ 0 ∷ 5 ∷ 0 ∷ 1 ∷ 1 ∷ 1 ∷ 2 ∷ 1 ∷ 3 ∷ 1 ∷ 4 ∷ 1 ∷ []) ≡ record { number = 0; «column_words» = 14; nodes = 111; visits = 108 }
+-- number 6
+pub sizes-12 : sizesOf (2 ∷ 0 ∷ 20 ∷ 1 ∷ 21 ∷ 0 ∷ 21 ∷ 1 ∷ 23 ∷ 1 ∷ 27 ∷ 1 ∷ 28 ∷ 0 ∷ 28 ∷ 0 ∷ 28 ∷ 1 ∷ 29 ∷ 2 ∷ 1 ∷ 1 ∷ 0 ∷ 1 ∷ 7 ∷ 7 ∷ 18446744069414584321 ∷ 0 ∷ 2 ∷ 0 ∷ 1 ∷ 1 ∷ 2 ∷ []) ≡ record { number = 6; «column_words» = 0; nodes = 0; visits = 0 }
 unfolding everything
 sizes-12 = refl
 
--- number 0
-pub sizes-13 : sizesOf (1 ∷ 0 ∷ 20 ∷ 0 ∷ 20 ∷ 0 ∷ 20 ∷ 1 ∷ 22 ∷ 2 ∷ 30 ∷ 0 ∷ 30 ∷ 1 ∷ 31 ∷ 1 ∷ 33 ∷ 0 ∷ 33 ∷ 0 ∷ 1 ∷ 0 ∷ 5 ∷ 0 ∷ 0 ∷ 2147483648 ∷ 5 ∷ 0 ∷ 0 ∷ 2147483649 ∷ 1 ∷ 0 ∷ 1 ∷ []) ≡ record { number = 0; «column_words» = 8; nodes = 27; visits = 25 }
+-- number 7
+pub sizes-13 : sizesOf (2 ∷ 0 ∷ 20 ∷ 0 ∷ 20 ∷ 1 ∷ 24 ∷ 1 ∷ 26 ∷ 3 ∷ 38 ∷ 1 ∷ 39 ∷ 1 ∷ 40 ∷ 1 ∷ 42 ∷ 0 ∷ 42 ∷ 0 ∷ 5 ∷ 7 ∷ 7 ∷ 9 ∷ 1 ∷ 0 ∷ 5 ∷ 1 ∷ 0 ∷ 2147483648 ∷ 5 ∷ 0 ∷ 0 ∷ 2147483648 ∷ 13 ∷ 0 ∷ 0 ∷ 0 ∷ 2 ∷ 1 ∷ 0 ∷ 1 ∷ []) ≡ record { number = 7; «column_words» = 0; nodes = 0; visits = 0 }
 unfolding everything
 sizes-13 = refl
 
--- number 0
-pub sizes-14 : sizesOf (3 ∷ 0 ∷ 20 ∷ 1 ∷ 21 ∷ 3 ∷ 45 ∷ 1 ∷ 47 ∷ 13 ∷ 99 ∷ 1 ∷ 100 ∷ 1 ∷ 101 ∷ 2 ∷ 105 ∷ 3 ∷ 108 ∷ 7 ∷ 2 ∷ 0 ∷ 1 ∷ 1 ∷ 0 ∷ 1 ∷ 0 ∷ 0 ∷ 0 ∷ 0 ∷ 5 ∷ 11 ∷ 17 ∷ 17 ∷ 23 ∷ 0 ∷ 5 ∷ 0 ∷ 6 ∷ 6 ∷ 6 ∷ 6 ∷ 6 ∷ 0 ∷ 6 ∷ 2 ∷ 0 ∷ 5 ∷ 1 ∷ 0 ∷ 2147483648 ∷ 5 ∷ 4 ∷ 0 ∷ 2147483649 ∷ 5 ∷ 4 ∷ 0 ∷ 2147483648 ∷ 7 ∷ 2 ∷ 0 ∷ 0 ∷ 8 ∷ 1 ∷ 3 ∷ 0 ∷ 5 ∷ 5 ∷ 0 ∷ 2147483648 ∷ 7 ∷ 5 ∷ 0 ∷ 0 ∷ 8 ∷ 4 ∷ 6 ∷ 0 ∷ 9 ∷ 0 ∷ 7 ∷ 0 ∷ 5 ∷ 4 ∷ 0 ∷ 2147483648 ∷ 5 ∷ 2 ∷ 0 ∷ 2147483648 ∷ 5 ∷ 5 ∷ 0 ∷ 2147483648 ∷ 5 ∷ 3 ∷ 0 ∷ 2147483648 ∷ 8 ∷ 2 ∷ 9 ∷ 10 ∷ 11 ∷ 12 ∷ 2 ∷ 2 ∷ 3 ∷ 0 ∷ 1 ∷ 4 ∷ 1 ∷ 0 ∷ 2 ∷ 4 ∷ 2 ∷ 5 ∷ 1 ∷ 5 ∷ 2 ∷ 5 ∷ 4 ∷ []) ≡ record { number = 0; «column_words» = 80; nodes = 131; visits = 116 }
+-- number 8
+pub sizes-14 : sizesOf (2 ∷ 0 ∷ 20 ∷ 0 ∷ 20 ∷ 1 ∷ 24 ∷ 1 ∷ 26 ∷ 3 ∷ 38 ∷ 1 ∷ 39 ∷ 1 ∷ 40 ∷ 1 ∷ 42 ∷ 0 ∷ 42 ∷ 0 ∷ 5 ∷ 7 ∷ 7 ∷ 9 ∷ 1 ∷ 0 ∷ 5 ∷ 1 ∷ 0 ∷ 2147483648 ∷ 5 ∷ 0 ∷ 0 ∷ 2147483648 ∷ 5 ∷ 2 ∷ 0 ∷ 2147483648 ∷ 2 ∷ 1 ∷ 0 ∷ 1 ∷ []) ≡ record { number = 8; «column_words» = 0; nodes = 0; visits = 0 }
 unfolding everything
 sizes-14 = refl
 
--- number 1
-pub sizes-15 : sizesOf (2 ∷ 0 ∷ 20 ∷ 0 ∷ 20 ∷ 1 ∷ []) ≡ record { number = 1; «column_words» = 0; nodes = 0; visits = 0 }
+-- number 9
+pub sizes-15 : sizesOf (2 ∷ 0 ∷ 20 ∷ 0 ∷ 20 ∷ 1 ∷ 24 ∷ 1 ∷ 26 ∷ 2 ∷ 34 ∷ 0 ∷ 34 ∷ 2 ∷ 36 ∷ 1 ∷ 38 ∷ 0 ∷ 38 ∷ 0 ∷ 5 ∷ 7 ∷ 7 ∷ 9 ∷ 1 ∷ 0 ∷ 5 ∷ 1 ∷ 0 ∷ 2147483648 ∷ 5 ∷ 0 ∷ 0 ∷ 2147483648 ∷ 1 ∷ 0 ∷ 0 ∷ 1 ∷ []) ≡ record { number = 9; «column_words» = 0; nodes = 0; visits = 0 }
 unfolding everything
 sizes-15 = refl
 
--- number 2
-pub sizes-16 : sizesOf (0 ∷ 0 ∷ 20 ∷ 0 ∷ 20 ∷ 1 ∷ 24 ∷ 1 ∷ 26 ∷ 2 ∷ 34 ∷ 0 ∷ 34 ∷ 1 ∷ 35 ∷ 1 ∷ 37 ∷ 0 ∷ 37 ∷ 0 ∷ 5 ∷ 7 ∷ 7 ∷ 9 ∷ 1 ∷ 0 ∷ 5 ∷ 1 ∷ 0 ∷ 2147483648 ∷ 5 ∷ 0 ∷ 0 ∷ 2147483648 ∷ 1 ∷ 0 ∷ 1 ∷ []) ≡ record { number = 2; «column_words» = 0; nodes = 0; visits = 0 }
+-- number 10
+pub sizes-16 : sizesOf (2 ∷ 2 ∷ 20 ∷ 0 ∷ 20 ∷ 1 ∷ 24 ∷ 1 ∷ 26 ∷ 6 ∷ 50 ∷ 1 ∷ 51 ∷ 1 ∷ 52 ∷ 1 ∷ 54 ∷ 0 ∷ 54 ∷ 0 ∷ 5 ∷ 7 ∷ 7 ∷ 9 ∷ 1 ∷ 0 ∷ 5 ∷ 1 ∷ 0 ∷ 2147483648 ∷ 5 ∷ 0 ∷ 0 ∷ 2147483648 ∷ 2 ∷ 0 ∷ 0 ∷ 0 ∷ 2 ∷ 0 ∷ 0 ∷ 0 ∷ 9 ∷ 2 ∷ 3 ∷ 0 ∷ 10 ∷ 4 ∷ 0 ∷ 0 ∷ 5 ∷ 1 ∷ 0 ∷ 1 ∷ []) ≡ record { number = 10; «column_words» = 0; nodes = 0; visits = 0 }
 unfolding everything
 sizes-16 = refl
 
--- number 3
-pub sizes-17 : sizesOf (2 ∷ 34 ∷ 20 ∷ 0 ∷ 20 ∷ 1 ∷ 24 ∷ 1 ∷ 26 ∷ 2 ∷ 34 ∷ 0 ∷ 34 ∷ 1 ∷ 35 ∷ 1 ∷ 37 ∷ 0 ∷ 37 ∷ 0 ∷ 5 ∷ 7 ∷ 7 ∷ 9 ∷ 1 ∷ 0 ∷ 5 ∷ 1 ∷ 0 ∷ 2147483648 ∷ 5 ∷ 0 ∷ 0 ∷ 2147483648 ∷ 1 ∷ 0 ∷ 1 ∷ []) ≡ record { number = 3; «column_words» = 0; nodes = 0; visits = 0 }
+-- number 11
+pub sizes-17 : sizesOf (2 ∷ 0 ∷ 20 ∷ 0 ∷ 20 ∷ 1 ∷ 24 ∷ 1 ∷ 26 ∷ 2 ∷ 34 ∷ 0 ∷ 34 ∷ 1 ∷ 35 ∷ 1 ∷ 37 ∷ 1 ∷ 38 ∷ 0 ∷ 5 ∷ 7 ∷ 7 ∷ 9 ∷ 1 ∷ 0 ∷ 5 ∷ 1 ∷ 0 ∷ 2147483648 ∷ 5 ∷ 0 ∷ 0 ∷ 2147483648 ∷ 1 ∷ 0 ∷ 1 ∷ 0 ∷ []) ≡ record { number = 11; «column_words» = 0; nodes = 0; visits = 0 }
 unfolding everything
 sizes-17 = refl
 
--- number 4
-pub sizes-18 : sizesOf (2 ∷ 0 ∷ 20 ∷ 0 ∷ 20 ∷ 1 ∷ 24 ∷ 1 ∷ 26 ∷ 2 ∷ 14 ∷ 0 ∷ 34 ∷ 1 ∷ 35 ∷ 1 ∷ 37 ∷ 0 ∷ 37 ∷ 0 ∷ 5 ∷ 7 ∷ 7 ∷ 9 ∷ 1 ∷ 0 ∷ 5 ∷ 1 ∷ 0 ∷ 2147483648 ∷ 5 ∷ 0 ∷ 0 ∷ 2147483648 ∷ 1 ∷ 0 ∷ 1 ∷ []) ≡ record { number = 4; «column_words» = 0; nodes = 0; visits = 0 }
+-- number 0
+pub sizes-18 : sizesOf (1 ∷ 0 ∷ 20 ∷ 0 ∷ 20 ∷ 0 ∷ 20 ∷ 1 ∷ 22 ∷ 1 ∷ 26 ∷ 1 ∷ 27 ∷ 0 ∷ 27 ∷ 0 ∷ 27 ∷ 0 ∷ 27 ∷ 0 ∷ 1 ∷ 0 ∷ 1 ∷ 0 ∷ 0 ∷ 0 ∷ 0 ∷ []) ≡ record { number = 0; «column_words» = 0; nodes = 3; visits = 3 }
 unfolding everything
 sizes-18 = refl
 
--- number 5
-pub sizes-19 : sizesOf (2 ∷ 0 ∷ 20 ∷ 0 ∷ 20 ∷ 1 ∷ 24 ∷ 1 ∷ 26 ∷ 2 ∷ 34 ∷ 0 ∷ 34 ∷ 1 ∷ 35 ∷ 1 ∷ 37 ∷ 0 ∷ 37 ∷ 0 ∷ 5 ∷ 7 ∷ 7 ∷ 9 ∷ 0 ∷ 0 ∷ 5 ∷ 1 ∷ 0 ∷ 2147483648 ∷ 5 ∷ 0 ∷ 0 ∷ 2147483648 ∷ 1 ∷ 0 ∷ 1 ∷ []) ≡ record { number = 5; «column_words» = 0; nodes = 0; visits = 0 }
+-- number 0
+pub sizes-19 : sizesOf (1 ∷ 0 ∷ 20 ∷ 0 ∷ 20 ∷ 0 ∷ 20 ∷ 1 ∷ 22 ∷ 0 ∷ 22 ∷ 0 ∷ 22 ∷ 0 ∷ 22 ∷ 0 ∷ 22 ∷ 1 ∷ 23 ∷ 1 ∷ 1 ∷ 0 ∷ 1 ∷ 0 ∷ 1 ∷ []) ≡ record { number = 0; «column_words» = 4; nodes = 34; visits = 32 }
 unfolding everything
 sizes-19 = refl
 
--- number 6
-pub sizes-20 : sizesOf (2 ∷ 0 ∷ 20 ∷ 1 ∷ 21 ∷ 0 ∷ 21 ∷ 1 ∷ 23 ∷ 1 ∷ 27 ∷ 1 ∷ 28 ∷ 0 ∷ 28 ∷ 0 ∷ 28 ∷ 1 ∷ 29 ∷ 2 ∷ 1 ∷ 1 ∷ 0 ∷ 1 ∷ 7 ∷ 7 ∷ 18446744069414584321 ∷ 0 ∷ 2 ∷ 0 ∷ 1 ∷ 1 ∷ 2 ∷ []) ≡ record { number = 6; «column_words» = 0; nodes = 0; visits = 0 }
+-- number 0
+pub sizes-20 : sizesOf (2 ∷ 0 ∷ 20 ∷ 0 ∷ 20 ∷ 1 ∷ 24 ∷ 1 ∷ 26 ∷ 2 ∷ 34 ∷ 0 ∷ 34 ∷ 1 ∷ 35 ∷ 1 ∷ 37 ∷ 0 ∷ 37 ∷ 0 ∷ 5 ∷ 6 ∷ 7 ∷ 8 ∷ 1 ∷ 0 ∷ 5 ∷ 1 ∷ 0 ∷ 2147483648 ∷ 5 ∷ 0 ∷ 0 ∷ 2147483648 ∷ 1 ∷ 0 ∷ 1 ∷ []) ≡ record { number = 0; «column_words» = 16; nodes = 27; visits = 25 }
 unfolding everything
 sizes-20 = refl
 
--- number 7
-pub sizes-21 : sizesOf (2 ∷ 0 ∷ 20 ∷ 0 ∷ 20 ∷ 1 ∷ 24 ∷ 1 ∷ 26 ∷ 3 ∷ 38 ∷ 1 ∷ 39 ∷ 1 ∷ 40 ∷ 1 ∷ 42 ∷ 0 ∷ 42 ∷ 0 ∷ 5 ∷ 7 ∷ 7 ∷ 9 ∷ 1 ∷ 0 ∷ 5 ∷ 1 ∷ 0 ∷ 2147483648 ∷ 5 ∷ 0 ∷ 0 ∷ 2147483648 ∷ 13 ∷ 0 ∷ 0 ∷ 0 ∷ 2 ∷ 1 ∷ 0 ∷ 1 ∷ []) ≡ record { number = 7; «column_words» = 0; nodes = 0; visits = 0 }
+-- number 0
+pub sizes-21 : sizesOf (2 ∷ 0 ∷ 20 ∷ 0 ∷ 20 ∷ 2 ∷ 28 ∷ 1 ∷ 30 ∷ 4 ∷ 46 ∷ 0 ∷ 46 ∷ 1 ∷ 47 ∷ 2 ∷ 51 ∷ 0 ∷ 51 ∷ 0 ∷ 5 ∷ 6 ∷ 7 ∷ 8 ∷ 9 ∷ 10 ∷ 11 ∷ 12 ∷ 2 ∷ 0 ∷ 5 ∷ 2 ∷ 0 ∷ 2147483648 ∷ 5 ∷ 0 ∷ 0 ∷ 2147483648 ∷ 5 ∷ 3 ∷ 0 ∷ 2147483648 ∷ 5 ∷ 1 ∷ 0 ∷ 2147483648 ∷ 2 ∷ 0 ∷ 1 ∷ 2 ∷ 3 ∷ []) ≡ record { number = 0; «column_words» = 16; nodes = 47; visits = 37 }
 unfolding everything
 sizes-21 = refl
 
--- number 8
-pub sizes-22 : sizesOf (2 ∷ 0 ∷ 20 ∷ 0 ∷ 20 ∷ 1 ∷ 24 ∷ 1 ∷ 26 ∷ 3 ∷ 38 ∷ 1 ∷ 39 ∷ 1 ∷ 40 ∷ 1 ∷ 42 ∷ 0 ∷ 42 ∷ 0 ∷ 5 ∷ 7 ∷ 7 ∷ 9 ∷ 1 ∷ 0 ∷ 5 ∷ 1 ∷ 0 ∷ 2147483648 ∷ 5 ∷ 0 ∷ 0 ∷ 2147483648 ∷ 5 ∷ 2 ∷ 0 ∷ 2147483648 ∷ 2 ∷ 1 ∷ 0 ∷ 1 ∷ []) ≡ record { number = 8; «column_words» = 0; nodes = 0; visits = 0 }
+-- number 0
+pub sizes-22 : sizesOf (2 ∷ 0 ∷ 20 ∷ 0 ∷ 20 ∷ 1 ∷ 24 ∷ 1 ∷ 26 ∷ 4 ∷ 42 ∷ 0 ∷ 42 ∷ 2 ∷ 44 ∷ 2 ∷ 48 ∷ 0 ∷ 48 ∷ 0 ∷ 5 ∷ 6 ∷ 7 ∷ 8 ∷ 2 ∷ 0 ∷ 5 ∷ 1 ∷ 0 ∷ 2147483648 ∷ 5 ∷ 0 ∷ 0 ∷ 2147483648 ∷ 5 ∷ 2 ∷ 0 ∷ 2147483648 ∷ 5 ∷ 0 ∷ 0 ∷ 2147483648 ∷ 1 ∷ 1 ∷ 0 ∷ 1 ∷ 2 ∷ 3 ∷ []) ≡ record { number = 0; «column_words» = 32; nodes = 53; visits = 48 }
 unfolding everything
 sizes-22 = refl
 
--- number 9
-pub sizes-23 : sizesOf (2 ∷ 0 ∷ 20 ∷ 0 ∷ 20 ∷ 1 ∷ 24 ∷ 1 ∷ 26 ∷ 2 ∷ 34 ∷ 0 ∷ 34 ∷ 2 ∷ 36 ∷ 1 ∷ 38 ∷ 0 ∷ 38 ∷ 0 ∷ 5 ∷ 7 ∷ 7 ∷ 9 ∷ 1 ∷ 0 ∷ 5 ∷ 1 ∷ 0 ∷ 2147483648 ∷ 5 ∷ 0 ∷ 0 ∷ 2147483648 ∷ 1 ∷ 0 ∷ 0 ∷ 1 ∷ []) ≡ record { number = 9; «column_words» = 0; nodes = 0; visits = 0 }
+-- number 0
+pub sizes-23 : sizesOf (2 ∷ 0 ∷ 20 ∷ 0 ∷ 20 ∷ 0 ∷ 20 ∷ 1 ∷ 22 ∷ 0 ∷ 22 ∷ 0 ∷ 22 ∷ 0 ∷ 22 ∷ 0 ∷ 22 ∷ 1 ∷ 23 ∷ 2 ∷ 2 ∷ 0 ∷ 2 ∷ 0 ∷ 1 ∷ 1 ∷ 2 ∷ []) ≡ record { number = 0; «column_words» = 16; nodes = 57; visits = 54 }
 unfolding everything
 sizes-23 = refl
 
--- number 10
-pub sizes-24 : sizesOf (2 ∷ 2 ∷ 20 ∷ 0 ∷ 20 ∷ 1 ∷ 24 ∷ 1 ∷ 26 ∷ 6 ∷ 50 ∷ 1 ∷ 51 ∷ 1 ∷ 52 ∷ 1 ∷ 54 ∷ 0 ∷ 54 ∷ 0 ∷ 5 ∷ 7 ∷ 7 ∷ 9 ∷ 1 ∷ 0 ∷ 5 ∷ 1 ∷ 0 ∷ 2147483648 ∷ 5 ∷ 0 ∷ 0 ∷ 2147483648 ∷ 2 ∷ 0 ∷ 0 ∷ 0 ∷ 2 ∷ 0 ∷ 0 ∷ 0 ∷ 9 ∷ 2 ∷ 3 ∷ 0 ∷ 10 ∷ 4 ∷ 0 ∷ 0 ∷ 5 ∷ 1 ∷ 0 ∷ 1 ∷ []) ≡ record { number = 10; «column_words» = 0; nodes = 0; visits = 0 }
+-- number 0
+pub sizes-24 : sizesOf (2 ∷ 0 ∷ 20 ∷ 0 ∷ 20 ∷ 0 ∷ 20 ∷ 1 ∷ 22 ∷ 12 ∷ 70 ∷ 2 ∷ 72 ∷ 0 ∷ 72 ∷ 0 ∷ 72 ∷ 0 ∷ 72 ∷ 0 ∷ 1 ∷ 1 ∷ 5 ∷ 0 ∷ 0 ∷ 2147483648 ∷ 5 ∷ 0 ∷ 0 ∷ 2147483648 ∷ 7 ∷ 1 ∷ 0 ∷ 0 ∷ 8 ∷ 0 ∷ 2 ∷ 0 ∷ 1 ∷ 0 ∷ 0 ∷ 0 ∷ 1 ∷ 0 ∷ 0 ∷ 0 ∷ 1 ∷ 0 ∷ 0 ∷ 0 ∷ 6 ∷ 0 ∷ 0 ∷ 0 ∷ 12 ∷ 6 ∷ 0 ∷ 0 ∷ 12 ∷ 5 ∷ 8 ∷ 1 ∷ 12 ∷ 4 ∷ 9 ∷ 1 ∷ 11 ∷ 7 ∷ 10 ∷ 0 ∷ 3 ∷ 11 ∷ []) ≡ record { number = 0; «column_words» = 0; nodes = 18; visits = 13 }
 unfolding everything
 sizes-24 = refl
-
--- number 11
-pub sizes-25 : sizesOf (2 ∷ 0 ∷ 20 ∷ 0 ∷ 20 ∷ 1 ∷ 24 ∷ 1 ∷ 26 ∷ 2 ∷ 34 ∷ 0 ∷ 34 ∷ 1 ∷ 35 ∷ 1 ∷ 37 ∷ 1 ∷ 38 ∷ 0 ∷ 5 ∷ 7 ∷ 7 ∷ 9 ∷ 1 ∷ 0 ∷ 5 ∷ 1 ∷ 0 ∷ 2147483648 ∷ 5 ∷ 0 ∷ 0 ∷ 2147483648 ∷ 1 ∷ 0 ∷ 1 ∷ 0 ∷ []) ≡ record { number = 11; «column_words» = 0; nodes = 0; visits = 0 }
-unfolding everything
-sizes-25 = refl
