@@ -336,5 +336,5 @@ fn stored_answers() {
         }
         calls += 1;
     }
-    assert!(calls >= 55, "{calls} blocks");
+    assert!(calls >= 54, "{calls} blocks");
 }
