@@ -1,5 +1,6 @@
 // The field type. A field value is held as a word, any word that is its number modulo p: `from_u64` takes the word as it is, each
 // operation reduces what it must, and `to_u64` gives the number below p. `word` promises no more than some word of the element.
+use crate::Inverse;
 use crate::MODULUS;
 use crate::invert_u64;
 use crate::neg_u64;
@@ -13,12 +14,19 @@ ghost use lib.ListN.{length, getD};
 ghost use Rattle.field.specs.Field.{𝔾, el, val};
 ghost use Rattle.field.specs.Parse.{parsed};
 ghost use Rattle.field.specs.Element.{elem, isZero};
+ghost use Rattle.field.specs.Inverse.{inverseIn, inverted};
 
 pub struct Goldilocks(u64);
 
 pub enum Parsed {
     Element(Goldilocks),
     TooLarge,
+}
+
+// What `invert` answers: the inverse, or that there is none (specs/Inverse.antt).
+pub enum Inverted {
+    Element(Goldilocks),
+    Zero,
 }
 
 impl Goldilocks {
@@ -114,10 +122,14 @@ impl Goldilocks {
         Goldilocks(product_word(self.0, b.0))
     }
 
-    // The inverse, and 0 for 0.
-    pub fn inverse(self) -> Goldilocks
-        ensures { λ r. ⌜ elem r ≡ 𝔾 .inv (elem self) ⌝ }
+    // The inverse, or `Zero` for 0.
+    pub fn invert(self) -> Inverted
+        ensures { λ r. ⌜ inverted r ≡ inverseIn 𝔾 (elem self) ⌝ }
     {
-        Goldilocks(invert_u64(self.0))
+        let inverse = invert_u64(self.0);
+        match inverse {
+            Inverse::Value(x) => Inverted::Element(Goldilocks(x)),
+            Inverse::Zero => Inverted::Zero,
+        }
     }
 }

@@ -8,3 +8,4 @@ pub mod Lent
 pub mod PowerSums
 pub mod Z
 pub mod Instance
+pub mod Denominators

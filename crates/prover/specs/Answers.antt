@@ -1,16 +1,19 @@
--- `Found`, what the search for an input's table row answers, with document 01's number and values for each case: "an input is
--- counted at the last equal table row. The search from the last row down stops at the first equal row; none gives 15." Over any
--- field.
-use mathlib.Core.Bool.{cond}
+-- What the stages answer, with the papers' number and values for each case. `Found`, of the search for an input's table row: "an input
+-- is counted at the last equal table row. The search from the last row down stops at the first equal row; none gives 15." Over any
+-- field. `Outcome`, of h and z, by Item 2 of document 02: "The inverse must answer either a value or "zero", and h and z must pass that
+-- upward."
+use mathlib.Core.Bool.{Bool, cond}
 use mathlib.Core.List.{List, [], _∷_, map}
 use mathlib.Core.Option.{Option, none, some}
 use Prim.Native.Nat.{ℕ}
 use lib.Dec.{eqb}
-use lib.ListN.{replicate}
+use lib.ListN.{length, replicate}
 use Rattle.field.specs.Algebra.{Field}
 use Rattle.lists.specs.Lists.{tabulate, range, total}
 use Rattle.prover.specs.declared.Found.{Found}
 use Rattle.prover.specs.declared.Found.the-variants.{At, Nothing}
+use Rattle.prover.specs.declared.Outcome.{Outcome}
+use Rattle.prover.specs.declared.Outcome.the-variants.{Written, ZeroDenominator}
 use Rattle.prover.specs.Lookup.{lastEqual}
 
 -- `At` the last equal row, `Nothing` where there is none
@@ -48,3 +51,19 @@ firstNumber (a ∷ rest) = cond (eqb (foundNumber a) 0) (firstNumber rest) (foun
 unfoldable pub mWords : ℕ → List Found → List ℕ
 mWords rows answers =
     cond (eqb (firstNumber answers) 0) (tabulate (λ j. total (map (countedAt j) answers)) rows) (replicate rows 0)
+
+-- ---- h and z
+
+-- is a denominator zero? Then `ZeroDenominator`
+abbrev pub outcomeOf : Bool → Outcome
+outcomeOf zero = cond zero ZeroDenominator Written
+
+-- the number: "Number 17, asked after 15, is given exactly if a denominator of document 01 is zero"; "0 is success"
+abbrev pub outcomeNumber : Outcome → ℕ
+outcomeNumber Written = 0
+outcomeNumber ZeroDenominator = 17
+
+-- the words: those of the columns; with 17 zeros, "and zeroes the column words as 15 does"
+abbrev pub outcomeWords : Outcome → List ℕ → List ℕ
+outcomeWords Written words = words
+outcomeWords ZeroDenominator words = replicate (length words) 0

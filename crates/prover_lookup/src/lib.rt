@@ -6,13 +6,13 @@ pub mod m;
 use crate::h::lookup_h_poly;
 use crate::m::lookup_m_poly;
 use field::goldilocks::Goldilocks;
+use prover::Outcome;
 ghost use mathlib.Core.Path.{_≡_};
 ghost use Prim.Native.Nat.{_+_, _*_, _≤_};
 ghost use lib.ListN.{length, getD};
 ghost use Rattle.field.specs.Element.{elem};
-ghost use Rattle.lists.specs.Lists.{writeAt};
 ghost use Rattle.prover.specs.Words.{Small};
-ghost use Rattle.prover_lookup.specs.Lookups.{CountsWritten, hsFrom};
+ghost use Rattle.prover_lookup.specs.Lookups.{CountsWritten, HsWritten};
 
 // The counts of all lookups. Stops, and answers false, at the first lookup with an input that no table row equals.
 pub fn lookup_m_polys(
@@ -41,7 +41,7 @@ pub fn lookup_m_polys(
     true
 }
 
-// h of all lookups.
+// h of all lookups. Stops at the first lookup that has a denominator that is zero.
 pub fn lookup_h_polys(
     columns: &mut [u64],
     lookups: usize,
@@ -50,9 +50,9 @@ pub fn lookup_h_polys(
     h: usize,
     gamma: Goldilocks,
     rows: usize,
-)
+) -> Outcome
     requires { ⌜ (compressed + lookups * 2 * rows ≤ h) × (m + lookups * rows ≤ h) × (h + lookups * rows ≤ length (now columns)) ⌝ }
-    ensures { λ _. ⌜ now (columns .exit) ≡ writeAt (now (columns .entry)) h (hsFrom (now (columns .entry)) compressed rows (elem gamma) m lookups) ⌝ }
+    ensures { λ r. ⌜ HsWritten (now (columns .entry)) lookups compressed m h rows (elem gamma) r (now (columns .exit)) ⌝ }
 {
     let mut input = compressed;
     let mut counts = m;
@@ -60,10 +60,17 @@ pub fn lookup_h_polys(
     let mut j: usize = 0;
     while j < lookups {
         let table = input + rows;
-        lookup_h_poly(columns, input, table, counts, to, gamma, rows);
+        let outcome = lookup_h_poly(columns, input, table, counts, to, gamma, rows);
+        match outcome {
+            Outcome::Written => {}
+            Outcome::ZeroDenominator => {
+                return Outcome::ZeroDenominator;
+            }
+        }
         input = table + rows;
         counts += rows;
         to += rows;
         j += 1;
     }
+    Outcome::Written
 }
