@@ -1,6 +1,6 @@
 -- What the building call's questions say, and that the row sum's are then yes.
 use mathlib.Core.Path.{_≡_, refl, sym, ap₂, _∙_}
-use mathlib.Core.Bool.{Bool, true, _&&_}
+use mathlib.Core.Bool.{Bool, true, false, cond, _&&_}
 use mathlib.Core.List.{List, [], _∷_, _++_, map}
 use Prim.Native.Nat.{ℕ, _+_, _*_, _<_}
 use native.Mathlib.Omega.{arith}
@@ -8,7 +8,7 @@ use lib.ListN.{length, getD, length-append}
 use lib.Dec.{eqb}
 use borrow.Author.Tests.{eq-eqb, eqb-true, ltb-true, lt-ltb}
 use Rattle.field.specs.Prime.{P}
-use Rattle.lists.specs.Lists.{total, allOf, questionOf, firstNo, All}
+use Rattle.lists.specs.Lists.{total, allOf, Question, questionOf, firstNo, All}
 use Rattle.lists.proofs.Tests.{all-each, and-left, and-right, same-words}
 use Rattle.lists.proofs.All.{all-from, all-join}
 use Rattle.lists.proofs.First.{first-yes, first-append, first-both, first-of, numbered-of}
@@ -79,3 +79,22 @@ sum-yes ws instances witness challenges columns y α lent cl cs αs yl ys =
       all-small (challenges ++ (α ∷ [])) (all-join (λ w. w < P) challenges (α ∷ []) (lent .challenges-small) (αs, tt)),
       all-small y ys,
     ))
+
+-- ---- the numbers of questions 1 to 14
+first-below : {A : Type 0} (qs : List (Question A)) (x : A) (m : ℕ) → 0 < m → All (λ q. q .number < m) qs → firstNo qs x < m
+unfolding firstNo
+first-below [] x m h a = h
+first-below (q ∷ qs) x m h a = go (q .test x) (first-below qs x m h (a .1))
+  where
+    go : (t : Bool) → firstNo qs x < m → cond t (firstNo qs x) (q .number) < m
+    go true r = r
+    go false r = a .0
+
+asked-numbers : All (λ (q : Question Lent). q .number < 15) buildQuestions
+unfolding buildQuestions circuitQuestions
+asked-numbers = omega arith
+
+-- they are below 15, so 15 and 17 are given only where all of these are yes
+pub asked-below : (l : Lent) → checkBuild l < 15
+unfolding checkBuild
+asked-below l = first-below buildQuestions l 15 (omega arith) asked-numbers

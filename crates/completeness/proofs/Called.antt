@@ -1,9 +1,9 @@
 -- What the one call returns and leaves, from what its two parts do.
 use mathlib.Core.Path.{_≡_, refl, sym, ap, ap₂, _∙_, subst}
 use mathlib.Core.Logic.{_≢_}
-use mathlib.Core.Bool.{Bool, true, false, cond}
+use mathlib.Core.Bool.{Bool, cond}
 use mathlib.Core.List.{List, [], _∷_, _++_}
-use Prim.Native.Nat.{ℕ, zero, suc, _-_, _*_, _≤_, _<_}
+use Prim.Native.Nat.{ℕ, suc, _-_, _*_, _≤_, _<_}
 use native.Mathlib.Omega.{arith}
 use lib.ListN.{length, take, drop, length-append}
 use lib.Seq.{take-suc, take-all}
@@ -14,11 +14,11 @@ use Rattle.backend.specs.Circuit.{circuitOf, rowsOf}
 use Rattle.preprocessor.specs.Compose.{composedWords}
 use Rattle.preprocessor.proofs.Composed.{composed-length}
 use Rattle.prover.specs.Log.{Log}
-use Rattle.prover.specs.Columns.{allCovered, writtenPolys}
-use Rattle.hyperplonk_spec.specs.Build.{Output, logOf, wordsOf, checkBuild, made, zeroed, buildOf, lentBuild}
+use Rattle.prover.specs.Columns.{writtenPolys}
+use Rattle.hyperplonk_spec.specs.Build.{Output, logOf, wordsOf, made, buildOf, lentBuild}
 use Rattle.hyperplonk_spec.specs.RowSum.{rowSumOf, lentSum}
 use Rattle.hyperplonk_spec.specs.declared.RowSum.{RowSum}
-use Rattle.hyperplonk_spec.proofs.Building.{columns-length, refused-by, fifteen-by, built-by}
+use Rattle.hyperplonk_spec.proofs.Building.{columns-length, built-by, zero-yes}
 use Rattle.hyperplonk_spec.specs.BuildAndSum.{beforeAlpha, alphaWord, Left, sized, sumOfBuilt, buildAndSumOf}
 
 -- the challenges are those before α, and α
@@ -49,28 +49,10 @@ module _ (ws instances witness challenges columns nodes : List ℕ) where
         nodes-fit = omega (arith, n, length-append ns (drop (length ns) nodes));
       }
 
-  is-fifteen : zeroed (logOf ws instances witness challenges .circuit) columns nodes .answer .number ≡ 15
-  unfolding zeroed
-  is-fifteen = refl
-
   fits : out .answer .number ≡ 0 → Fits out
-  fits z = go (checkBuild (lentBuild ws instances witness challenges columns nodes)) refl (allCovered 𝔾 (logOf ws instances witness challenges)) refl
-    where
-      late : (n : ℕ) → n ≡ 15 → n ≡ 0 → ⊥
-      late n a b = omega arith
-
-      early : (m n : ℕ) → m ≡ suc n → m ≡ 0 → ⊥
-      early m n a b = omega arith
-
-      go : (n : ℕ) → checkBuild (lentBuild ws instances witness challenges columns nodes) ≡ n → (t : Bool)
-          → allCovered 𝔾 (logOf ws instances witness challenges) ≡ t
-          → Fits out
-      go zero e true f = subst Fits (sym (built-by ws instances witness challenges columns nodes e f)) made-fits
-      go zero e false f =
-          absurd
-          (late _ (ap (λ (o : Output). o .answer .number) (fifteen-by ws instances witness challenges columns nodes e f) ∙ is-fifteen) z)
-      go (suc n) e t f =
-          absurd (early _ n (ap (λ (o : Output). o .answer .number) (refused-by ws instances witness challenges columns nodes n e)) z)
+  fits z =
+      let y = zero-yes ws instances witness challenges columns nodes z in
+      subst Fits (sym (built-by ws instances witness challenges columns nodes (y .asked-yes) (y .covered-yes) (y .none-zero))) made-fits
 
   pub room : (o : Output) → o ≡ out → o .answer .number ≡ 0 → Fits o
   room o e z = subst Fits (sym e) (fits (sym (ap (λ (o : Output). o .answer .number) e) ∙ z))

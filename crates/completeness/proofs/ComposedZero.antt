@@ -19,7 +19,7 @@ use Rattle.preprocessor.specs.Compose.{composedConstraints, compose}
 use Rattle.prover.specs.Lookup.{sumRows, hAt}
 use Rattle.prover.specs.Log.{Log}
 use Rattle.prover.specs.Columns.{powerSum, inputAt, tableAt, mAt, lookupHAt, allCovered, composedEnvironment}
-use Rattle.hyperplonk_spec.specs.Meaning.{Embeds, Admitted, EachRow, Premises}
+use Rattle.hyperplonk_spec.specs.Meaning.{Embeds, Admitted, EachRow, NoneZero, Premises}
 use Rattle.hyperplonk_spec.specs.Composed.{zeroCheckIn, column-at, alphaIn, LookupHolds}
 use Rattle.hyperplonk_spec.proofs.ConstraintZero.{lookup-zero}
 use Rattle.hyperplonk_spec.proofs.Powers.{compose-value, sum-composed, power-zeros}
@@ -58,7 +58,7 @@ module _ (𝓕 : Field) where
         )
         (h-fits 𝓕 (g .γ) (inputAt 𝓕 g (getD (g .circuit .lookups) j [])) (tableAt 𝓕 g (getD (g .circuit .lookups) j [])) (mAt 𝓕 g (getD (g .circuit .lookups) j [])) b p q)
 
-    pub lookup-zeros : Premises 𝓕 g → All Zero (lookupConstraints (g .circuit))
+    pub lookup-zeros : NoneZero 𝓕 g → All Zero (lookupConstraints (g .circuit))
     unfolding lookupConstraints
     lookup-zeros p =
         all-tabulate Zero (lookupConstraint (g .circuit)) (numLookups (g .circuit))

@@ -8,7 +8,8 @@ use mathlib.Core.Option.{Option, none, some, Option·none-ne-some}
 use Prim.Native.Nat.{ℕ, zero, suc, _+_, _<_}
 use Rattle.field.specs.Algebra.{Field}
 use Rattle.lists.specs.Lists.{tabulate, range, allOf, lastWhere, isSome, isAt}
-use Rattle.lists.proofs.Tests.{false-true, cond-ite, cond-eqb, all-each, all-not, all-append}
+use Rattle.lists.proofs.Tests.{false-true, cond-ite, cond-eqb, all-each, all-not, all-append, true-all}
+use Rattle.lists.proofs.All.{all-from}
 use Rattle.identities.proofs.Totals.{upTo-cong, count-upTo}
 use Rattle.identities.specs.Counts as Counts
 use Rattle.identities.specs.Counts.{lastRow, hit, andFound, given, multiplicities, allFound, counted, AllStand}
@@ -20,7 +21,7 @@ use Rattle.backend.specs.Circuit.{rowsOf}
 use Rattle.prover.specs.Lookup.{sumCounts, same, lastEqual, multiplicity, covered, hAt, sumRows, Turns}
 use Rattle.prover.specs.Log.{Log}
 use Rattle.prover.specs.Columns.{inputAt, tableAt, countAt, mAt, lookupHAt, allCovered}
-use Rattle.hyperplonk_spec.specs.Meaning.{Embeds, EachLookup, NoCounts}
+use Rattle.hyperplonk_spec.specs.Meaning.{Embeds, EachLookup, NoCounts, HasCounts}
 use Rattle.hyperplonk_spec.proofs.Embeds.{embeds-num}
 
 -- ---- what all of a list hold
@@ -119,6 +120,16 @@ module _ (𝓕 : Field) where
             (turns-agree (multiplicities (𝓕 .decide) rows rows input table) .1
             (count-turns (𝓕 .decide) rows rows input table (covered-stand e))))
 
+    -- covered exactly if some column does
+    pub covered-turns : (covered 𝓕 rows input table ≡ true) ↔ ((m : ℕ → ℕ) × Turns 𝓕 rows input table m)
+    covered-turns = (
+      λ e. (
+        multiplicities (𝓕 .decide) rows rows input table,
+        turns-agree (multiplicities (𝓕 .decide) rows rows input table) .1 (count-turns (𝓕 .decide) rows rows input table (covered-stand e)),
+      ),
+      λ t. stand-covered (turns-stand (𝓕 .decide) rows rows input table (t .0) (turns-agree (t .0) .0 (t .1))),
+    )
+
     pub counts-sum : covered 𝓕 rows input table ≡ true → sumCounts rows (multiplicity 𝓕 rows input table) ≡ rows
     counts-sum e =
         upTo-cong _+_ 0 (multiplicity 𝓕 rows input table) (multiplicities (𝓕 .decide) rows rows input table) rows (λ j l. counts-agree j)
@@ -157,6 +168,17 @@ module _ (𝓕 : Field) where
         go n true e =
             false-true
             (sym (uncovered (rowsOf (g .circuit)) (inputAt 𝓕 g _) (tableAt 𝓕 g _) .1 (n .2)) ∙ covered-each e (n .0) (n .1))
+
+    -- Meaning's covered-when
+    pub covered-when : (allCovered 𝓕 g ≡ true) ↔ HasCounts 𝓕 g
+    unfolding allCovered
+    covered-when = (
+      λ e i l. covered-turns (rowsOf (g .circuit)) (inputAt 𝓕 g _) (tableAt 𝓕 g _) .0 (covered-each e i l),
+      λ h.
+          true-all (λ l. covered 𝓕 (rowsOf (g .circuit)) (inputAt 𝓕 g l) (tableAt 𝓕 g l)) (g .circuit .lookups)
+          (all-from (λ l. covered 𝓕 (rowsOf (g .circuit)) (inputAt 𝓕 g l) (tableAt 𝓕 g l) ≡ true) (g .circuit .lookups) []
+          (λ i l. covered-turns (rowsOf (g .circuit)) (inputAt 𝓕 g _) (tableAt 𝓕 g _) .1 (h i l))),
+    )
 
     pub m-sums : allCovered 𝓕 g ≡ true → EachLookup 𝓕 g (λ l. sumCounts (rowsOf (g .circuit)) (countAt 𝓕 g l) ≡ rowsOf (g .circuit))
     unfolding countAt

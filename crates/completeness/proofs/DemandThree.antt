@@ -1,7 +1,7 @@
 -- Demand 3: DemandThree of Demand.
 use mathlib.Core.Path.{_≡_, refl, sym, ap, ap₂, _∙_, subst}
-use mathlib.Core.Logic.{_≢_, _↔_}
-use mathlib.Core.Bool.{Bool, true, false}
+use mathlib.Core.Logic.{_↔_}
+use mathlib.Core.Bool.{true, false}
 use mathlib.Core.List.{List, [], _∷_, _++_}
 use Prim.Native.Nat.{ℕ, zero, _-_, _<_}
 use native.Mathlib.Omega.{arith}
@@ -18,14 +18,15 @@ use Rattle.backend.proofs.Passed.{yes-all}
 use Rattle.preprocessor.specs.Compose.{compose, composedWords, composedNodes}
 use Rattle.prover.specs.Log.{Log}
 use Rattle.prover.specs.Columns.{allCovered, writtenPolys, composedEnvironment}
+use Rattle.prover.specs.Denominators.{zeroDenominator}
 use Rattle.prover.proofs.Words.{words-small}
-use Rattle.hyperplonk_spec.specs.Build.{Output, logOf, wordsOf, checkBuild, buildOf, made, zeroed, lentBuild}
+use Rattle.hyperplonk_spec.specs.Build.{Output, logOf, wordsOf, checkBuild, buildOf, lentBuild}
 use Rattle.hyperplonk_spec.specs.RowSum.{rowSumOf, sumOf, rowSumEnvironment, lentSum}
 use Rattle.hyperplonk_spec.specs.Meaning.{Each, Admitted, Premises, Conclusions}
 use Rattle.hyperplonk_spec.specs.Demand.{Succeeds, Demand3, DemandThreeAt, DemandThree}
 use Rattle.field.proofs.Elements.{val-zero}
 use Rattle.hyperplonk_spec.proofs.Embeds.{embeds}
-use Rattle.hyperplonk_spec.proofs.Building.{columns-length, fifteen-by, built-by, written-by}
+use Rattle.hyperplonk_spec.proofs.Building.{columns-length, Given, given, Yes, yes-unless, fifteen-number, seventeen-number, written-by}
 use Rattle.hyperplonk_spec.proofs.ReadsBack.{reads-back}
 use Rattle.completeness.proofs.Passed.{k-small}
 use Rattle.completeness.proofs.Asked.{Lending, lending, sum-yes}
@@ -57,30 +58,24 @@ module _ (ws instances witness challenges columns nodes : List ℕ) (asked : che
   abbrev out : Output
   out = buildOf (lentBuild ws instances witness challenges columns nodes)
 
-  is-fifteen : allCovered 𝔾 log ≡ false → out .answer .number ≡ 15
-  unfolding zeroed
-  is-fifteen e = ap (λ (o : Output). o .answer .number) (fifteen-by ws instances witness challenges columns nodes asked e)
-
-  not-fifteen : allCovered 𝔾 log ≡ true → out .answer .number ≡ 0
-  unfolding made
-  not-fifteen e = ap (λ (o : Output). o .answer .number) (built-by ws instances witness challenges columns nodes asked e)
-
   fifteen : (out .answer .number ≡ 15) ↔ (allCovered 𝔾 log ≡ false)
-  fifteen = (λ e. go e (allCovered 𝔾 log) refl, is-fifteen)
+  fifteen = (λ e. go e (given ws instances witness challenges columns nodes asked), fifteen-number ws instances witness challenges columns nodes asked)
     where
-      go : out .answer .number ≡ 15 → (t : Bool) → allCovered 𝔾 log ≡ t → allCovered 𝔾 log ≡ false
-      go e false q = q
-      go e true q = absurd (bad e (not-fifteen q))
-        where
-          bad : out .answer .number ≡ 15 → out .answer .number ≡ 0 → ⊥
-          bad a b = omega arith
+      go : out .answer .number ≡ 15 → Given ws instances witness challenges columns nodes → allCovered 𝔾 log ≡ false
+      go e (Given.uncovered f q) = f
+      go e (Given.divided f h q) = absurd (let r = sym q ∙ e in omega arith)
+      go e (Given.built f h q) = absurd (let r = sym q ∙ e in omega arith)
 
-  covered-unless : out .answer .number ≢ 15 → allCovered 𝔾 log ≡ true
-  covered-unless n = go (allCovered 𝔾 log) refl
+  pub seventeen : (out .answer .number ≡ 17) ↔ ((allCovered 𝔾 log ≡ true) × (zeroDenominator 𝔾 log ≡ true))
+  seventeen = (
+    λ e. go e (given ws instances witness challenges columns nodes asked),
+    λ p. seventeen-number ws instances witness challenges columns nodes asked (p .0) (p .1),
+  )
     where
-      go : (t : Bool) → allCovered 𝔾 log ≡ t → allCovered 𝔾 log ≡ true
-      go true q = q
-      go false q = absurd (n (is-fifteen q))
+      go : out .answer .number ≡ 17 → Given ws instances witness challenges columns nodes → (allCovered 𝔾 log ≡ true) × (zeroDenominator 𝔾 log ≡ true)
+      go e (Given.uncovered f q) = absurd (let r = sym q ∙ e in omega arith)
+      go e (Given.divided f h q) = (f, h)
+      go e (Given.built f h q) = absurd (let r = sym q ∙ e in omega arith)
 
   abbrev lent : List ℕ
   lent = wordsOf (rowsOf (circuitOf ws)) (writtenPolys 𝔾 log)
@@ -105,10 +100,10 @@ module _ (ws instances witness challenges columns nodes : List ℕ) (asked : che
         val-zero,
       )
 
-  succeeds : Premises 𝔾 log → allCovered 𝔾 log ≡ true → Succeeds ws instances witness challenges columns nodes out
-  succeeds p e =
-      let w = written-by ws instances witness challenges columns nodes asked e in
-      let c = concluded 𝔾 log admitted p e in
+  succeeds : Premises 𝔾 log → Yes ws instances witness challenges columns nodes → Succeeds ws instances witness challenges columns nodes out
+  succeeds p y =
+      let w = written-by ws instances witness challenges columns nodes asked (y .covered-yes) (y .none-zero) in
+      let c = concluded 𝔾 log admitted p (y .covered-yes) (y .none-zero) in
       record {
         written = w;
         nodes-read = ap (λ (ns : List ℕ). exprOf ns (composedNodes (circuitOf ws) - 1)) (w .nodes-written) ∙ reads-back ws;
@@ -123,7 +118,11 @@ module _ (ws instances witness challenges columns nodes : List ℕ) (asked : che
       let d = demand-3-of 𝔾 log admitted in
       record {
         fifteen = (λ e. d .refused-when .0 (fifteen .0 e), λ n. fifteen .1 (d .refused-when .1 n));
-        otherwise = λ p n. succeeds p (covered-unless n);
+        seventeen = (
+          λ e. let r = seventeen .0 e in (d .covered-when .0 (r .0), d .some-zero-when .0 (r .1)),
+          λ p. seventeen .1 (d .covered-when .1 (p .0), d .some-zero-when .1 (p .1)),
+        );
+        otherwise = λ p a b. succeeds p (yes-unless ws instances witness challenges columns nodes asked a b);
       }
 
 pub row-sum-zero : RowSumZero

@@ -19,8 +19,10 @@ use Rattle.backend.proofs.Passed.{Yes, yes-all}
 use Rattle.preprocessor.specs.Compose.{numZ, startConstraint, partConstraint, permutationConstraints, composedConstraints, constraintTrees, lookupTreeOf, paramsOf, permutationTrees}
 use Rattle.prover.specs.Log.{Log}
 use Rattle.prover.specs.Columns.{allCovered, composedEnvironment}
-use Rattle.hyperplonk_spec.specs.Meaning.{Admitted, EachRow, Premises, Conclusions, Demand3Of, DemandThreeOf}
-use Rattle.completeness.proofs.Counts.{refused-when, m-sums, h-sums}
+use Rattle.prover.specs.Denominators.{zeroDenominator}
+use Rattle.hyperplonk_spec.specs.Meaning.{Admitted, EachRow, NoneZero, Premises, Conclusions, Demand3Of, DemandThreeOf}
+use Rattle.completeness.proofs.Counts.{refused-when, covered-when, m-sums, h-sums}
+use Rattle.completeness.proofs.Denominators.{some-zero-when, none-zero-when}
 use Rattle.completeness.proofs.Passed.{k-pos, k-small}
 use Rattle.completeness.proofs.ComposedZero.{user-zeros, lookup-zeros, composed-zero}
 use Rattle.completeness.proofs.PermutationZero.{start-zeros, part-zeros}
@@ -40,7 +42,7 @@ module _ (𝓕 : Field) (g : Log 𝓕) (ad : Admitted 𝓕 g) where
   pub eleven-yes : q11 (g .circuit) ≡ true
   eleven-yes = ap q11 (ad .read) ∙ yes-words .eleven
 
-  module _ (p : Premises 𝓕 g) (α : F) (y : ℕ → F) where
+  module _ (p : Premises 𝓕 g) (nz : NoneZero 𝓕 g) (α : F) (y : ℕ → F) where
     abbrev Zero : Expr → Type 0
     Zero e = EachRow 𝓕 g (λ b. valueAt 𝓕 (composedEnvironment 𝓕 g α y) e b ≡ nil)
 
@@ -52,8 +54,8 @@ module _ (𝓕 : Field) (g : Log 𝓕) (ad : Admitted 𝓕 g) where
             → All Zero (cond t [] (startConstraint (g .circuit) ∷ tabulate (partConstraint (g .circuit)) (numZ (g .circuit))))
         go true e = tt
         go false e = (
-          start-zeros 𝓕 g pos k-positive k-below-21 eleven-yes ad p α y,
-          all-tabulate Zero (partConstraint (g .circuit)) (numZ (g .circuit)) (part-zeros 𝓕 g pos k-positive k-below-21 eleven-yes ad p α y),
+          start-zeros 𝓕 g pos k-positive k-below-21 eleven-yes ad p nz α y,
+          all-tabulate Zero (partConstraint (g .circuit)) (numZ (g .circuit)) (part-zeros 𝓕 g pos k-positive k-below-21 eleven-yes ad p nz α y),
         )
           where
             pos : 0 < numCopied (g .circuit)
@@ -67,19 +69,27 @@ module _ (𝓕 : Field) (g : Log 𝓕) (ad : Admitted 𝓕 g) where
     unfolding constraintTrees lookupTreeOf lookupConstraint lookupConstraints paramsOf
     all-zeros =
         all-join Zero (g .circuit .constraints) _ (user-zeros 𝓕 g ad α y p)
-        (all-join Zero (lookupConstraints (g .circuit)) (permutationConstraints (g .circuit)) (lookup-zeros 𝓕 g ad α y p) permutation-zeros)
+        (all-join Zero (lookupConstraints (g .circuit)) (permutationConstraints (g .circuit)) (lookup-zeros 𝓕 g ad α y nz) permutation-zeros)
 
-  pub concluded : Premises 𝓕 g → allCovered 𝓕 g ≡ true → Conclusions 𝓕 g
-  concluded p e =
+  pub concluded : Premises 𝓕 g → allCovered 𝓕 g ≡ true → zeroDenominator 𝓕 g ≡ false → Conclusions 𝓕 g
+  concluded p e z =
+      let nz : NoneZero 𝓕 g = none-zero-when 𝓕 g .0 z in
       record {
-        constraints-zero = λ α y i l. all-get (Zero p α y) (composedConstraints (g .circuit)) (all-zeros p α y) i (Expr.constant 0) l;
+        constraints-zero = λ α y i l. all-get (Zero p nz α y) (composedConstraints (g .circuit)) (all-zeros p nz α y) i (Expr.constant 0) l;
         h-sums = h-sums 𝓕 g (ad .embeds) e;
         m-sums = m-sums 𝓕 g e;
-        composed-sum = λ α y. composed-zero 𝓕 g ad α y (all-zeros p α y) e;
+        composed-sum = λ α y. composed-zero 𝓕 g ad α y (all-zeros p nz α y) e;
       }
 
   pub demand-3-of : Demand3Of 𝓕 g
-  demand-3-of = record { refused-when = refused-when 𝓕 g; holds-when = concluded }
+  demand-3-of =
+      record {
+        refused-when = refused-when 𝓕 g;
+        covered-when = covered-when 𝓕 g;
+        some-zero-when = some-zero-when 𝓕 g;
+        none-zero-when = none-zero-when 𝓕 g;
+        holds-when = concluded;
+      }
 
 pub demand-three-of : DemandThreeOf
 demand-three-of 𝓕 g ad = demand-3-of 𝓕 g ad

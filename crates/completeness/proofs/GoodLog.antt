@@ -1,15 +1,15 @@
 -- A good log is not turned away: ReadingsCovered, GoodLog and ZeroWhen of Insurer.
 use mathlib.Core.Path.{_≡_, refl, sym, ap, ap₂, _∙_}
 use mathlib.Core.Logic.{_≢_, _↔_}
-use mathlib.Core.Bool.{Bool, true, false}
+use mathlib.Core.Bool.{true}
 use mathlib.Core.List.{List, [], _∷_, map}
-use Prim.Native.Nat.{ℕ, zero, suc}
+use Prim.Native.Nat.{ℕ}
 use native.Mathlib.Omega.{arith}
 use lib.ListN.{getD}
 use Rattle.field.specs.Algebra.{Field}
 use Rattle.field.specs.Field.{𝔾}
 use Rattle.lists.specs.Lists.{All}
-use Rattle.lists.proofs.Tests.{true-all}
+use Rattle.lists.proofs.Tests.{true-all, false-true}
 use Rattle.lists.proofs.All.{all-from}
 use Rattle.expression.specs.Value.{valueAt}
 use Rattle.backend.specs.Circuit.{Pair, rowsOf}
@@ -17,11 +17,14 @@ use Rattle.backend.specs.Constraints.{inputsOf, tablesOf}
 use Rattle.prover.specs.Lookup.{covered}
 use Rattle.prover.specs.Log.{Log}
 use Rattle.prover.specs.Columns.{powerSum, instancePolys, preprocessPolys, witnessPolys, givenPolys, userEnvironment, compressedAt, inputAt, tableAt, allCovered}
-use Rattle.hyperplonk_spec.specs.Build.{Output, logOf, checkBuild, buildOf, made, zeroed, lentBuild}
-use Rattle.hyperplonk_spec.specs.Meaning.{Premises}
-use Rattle.hyperplonk_spec.specs.Insurer.{noPair, drawn, ReadingsStand, ReadingsCovered, SumsToZero, GoodLog, ZeroWhen}
-use Rattle.hyperplonk_spec.proofs.Building.{refused-by, fifteen-by, built-by}
-use Rattle.completeness.proofs.Counts.{stand-covered}
+use Rattle.hyperplonk_spec.specs.Build.{Output, logOf, checkBuild, buildOf, lentBuild}
+use Rattle.hyperplonk_spec.specs.declared.Built.{Built}
+use Rattle.hyperplonk_spec.specs.Meaning.{HasCounts, NoneZero, SomeZero, Premises}
+use Rattle.hyperplonk_spec.specs.Demand.{Demand3}
+use Rattle.hyperplonk_spec.specs.Insurer.{noPair, drawn, ReadingsStand, ReadingsCovered, Passes, GoodLog, ZeroWhen}
+use Rattle.hyperplonk_spec.proofs.Building.{Given, given, zero-yes, zero-number}
+use Rattle.completeness.proofs.Counts.{stand-covered, covered-when}
+use Rattle.completeness.proofs.Denominators.{none-zero-when}
 use Rattle.completeness.proofs.DemandThree.{demand-three}
 
 module _ (𝓕 : Field) where
@@ -67,45 +70,41 @@ module _ (ws instances witness challenges columns nodes : List ℕ) where
   abbrev out : Output
   out = buildOf (lentBuild ws instances witness challenges columns nodes)
 
-  pub zero-by : checkBuild (lentBuild ws instances witness challenges columns nodes) ≡ 0 → allCovered 𝔾 log ≡ true → out .answer .number ≡ 0
-  unfolding made
-  zero-by a e = ap (λ (o : Output). o .answer .number) (built-by ws instances witness challenges columns nodes a e)
+  pub zero-when-at : (out .answer .number ≡ 0)
+      ↔ ((checkBuild (lentBuild ws instances witness challenges columns nodes) ≡ 0) × HasCounts 𝔾 log × NoneZero 𝔾 log)
+  zero-when-at = (
+    λ z.
+        let y = zero-yes ws instances witness challenges columns nodes z in
+        (y .asked-yes, covered-when 𝔾 log .0 (y .covered-yes), none-zero-when 𝔾 log .0 (y .none-zero)),
+    λ p. zero-number ws instances witness challenges columns nodes (p .0) (covered-when 𝔾 log .1 (p .1)) (none-zero-when 𝔾 log .1 (p .2)),
+  )
 
-  fifteen-is : checkBuild (lentBuild ws instances witness challenges columns nodes) ≡ 0 → allCovered 𝔾 log ≡ false → out .answer .number ≡ 15
-  unfolding zeroed
-  fifteen-is a e = ap (λ (o : Output). o .answer .number) (fifteen-by ws instances witness challenges columns nodes a e)
+  module _ (a : checkBuild (lentBuild ws instances witness challenges columns nodes) ≡ 0) (s : ReadingsStand 𝔾 log) where
+    not-15 : out .answer .number ≢ 15
+    not-15 e = go (given ws instances witness challenges columns nodes a)
+      where
+        go : Given ws instances witness challenges columns nodes → ⊥
+        go (Given.uncovered f q) = false-true (sym f ∙ stand-all 𝔾 log s)
+        go (Given.divided f h q) = let r = sym q ∙ e in omega arith
+        go (Given.built f h q) = let r = sym q ∙ e in omega arith
 
-  pub asked-yes : out .answer .number ≡ 0 → checkBuild (lentBuild ws instances witness challenges columns nodes) ≡ 0
-  asked-yes z = go (checkBuild (lentBuild ws instances witness challenges columns nodes)) refl
-    where
-      go : (n : ℕ) → checkBuild (lentBuild ws instances witness challenges columns nodes) ≡ n → checkBuild (lentBuild ws instances witness challenges columns nodes) ≡ 0
-      go zero e = e
-      go (suc n) e = absurd (bad (sym (ap (λ (o : Output). o .answer .number) (refused-by ws instances witness challenges columns nodes n e)) ∙ z))
-        where
-          bad : suc n ≡ 0 → ⊥
-          bad q = omega arith
+    d : Demand3 ws instances witness challenges columns nodes out
+    d = demand-three ws instances witness challenges columns nodes a
 
-  pub covered-yes : checkBuild (lentBuild ws instances witness challenges columns nodes) ≡ 0 → out .answer .number ≢ 15 → allCovered 𝔾 log ≡ true
-  covered-yes a n = go (allCovered 𝔾 log) refl
-    where
-      go : (t : Bool) → allCovered 𝔾 log ≡ t → allCovered 𝔾 log ≡ true
-      go true e = e
-      go false e = absurd (n (fifteen-is a e))
+    seventeen-when : (out .answer .number ≡ 17) ↔ SomeZero 𝔾 log
+    seventeen-when = (λ e. d .seventeen .0 e .1, λ z. d .seventeen .1 (covered-when 𝔾 log .0 (stand-all 𝔾 log s), z))
 
-  not-15 : out .answer .number ≡ 0 → out .answer .number ≢ 15
-  not-15 z q = omega arith
+    pub passes-by : Premises 𝔾 log → out .answer .number ≢ 17 → Passes ws instances witness challenges columns nodes
+    passes-by p n =
+        let t = d .otherwise p not-15 n in
+        record { number = ap (λ (b : Built). b .number) (t .written .answer); row-sum = t .row-sum }
 
-  pub zero-when-at : (out .answer .number ≡ 0) ↔ ((checkBuild (lentBuild ws instances witness challenges columns nodes) ≡ 0) × (out .answer .number ≢ 15))
-  zero-when-at = (λ z. (asked-yes z, not-15 z), λ p. zero-by (p .0) (covered-yes (p .0) (p .1)))
-
-  pub passes-by : checkBuild (lentBuild ws instances witness challenges columns nodes) ≡ 0 → out .answer .number ≡ 0 → Premises 𝔾 log
-      → SumsToZero ws instances witness challenges columns nodes
-  passes-by a z p = demand-three ws instances witness challenges columns nodes a .otherwise p (not-15 z) .row-sum
+    pub good-at : (out .answer .number ≢ 15) × ((out .answer .number ≡ 17) ↔ SomeZero 𝔾 log)
+        × (Premises 𝔾 log → out .answer .number ≢ 17 → Passes ws instances witness challenges columns nodes)
+    good-at = (not-15, seventeen-when, passes-by)
 
 pub good-log : GoodLog
-good-log ws instances witness challenges columns nodes a s =
-    let z = zero-by ws instances witness challenges columns nodes a (stand-all 𝔾 (logOf ws instances witness challenges) s) in
-    (z, passes-by ws instances witness challenges columns nodes a z)
+good-log ws instances witness challenges columns nodes a s = good-at ws instances witness challenges columns nodes a s
 
 pub zero-when : ZeroWhen
 zero-when ws instances witness challenges columns nodes = zero-when-at ws instances witness challenges columns nodes

@@ -1,6 +1,8 @@
 pub mod Passed
 pub mod WellFormed
 pub mod Counts
+pub mod Some
+pub mod Denominators
 pub mod CellNumbers
 pub mod CycleNumbers
 pub mod Cuts

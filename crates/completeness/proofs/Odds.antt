@@ -1,4 +1,4 @@
--- Few γ make a denominator zero: Odds of Insurer.
+-- Few γ make a denominator zero: OddsOf of Insurer.
 use mathlib.Core.Path.{_≡_, refl, sym, ap, _∙_, subst}
 use mathlib.Core.Logic.{_≢_, _↔_}
 use mathlib.Core.List.{List, [], _++_}
@@ -14,7 +14,8 @@ use Rattle.lists.proofs.Walks.{entry-inside}
 use Rattle.backend.specs.Circuit.{rowsOf, numCopied, numLookups}
 use Rattle.prover.specs.Log.{Log}
 use Rattle.prover.specs.Columns.{instancePolys, preprocessPolys, witnessPolys, givenPolys, userEnvironment, compressedAt, inputAt, tableAt, permutationAt, copiedAt, permutationFactorAt}
-use Rattle.hyperplonk_spec.specs.Insurer.{drawn, denominators, NoneZero, Odds}
+use Rattle.hyperplonk_spec.specs.Insurer.{drawn, denominators, OddsOf}
+use Rattle.hyperplonk_spec.specs.Meaning.{NoneZero}
 
 -- ---- all of a grid
 module _ {A : Type 0} (Q : A → Type 0) (rows : ℕ) (f : ℕ → ℕ → A) (n : ℕ) where
@@ -141,5 +142,5 @@ module _ (𝓕 : Field) where
       pub none-when : NoneZero 𝓕 now ↔ All Apart unlucky
       none-when = (none-apart, apart-none)
 
-pub odds : Odds
-odds 𝓕 g = (unlucky 𝓕 g, few 𝓕 g, none-when 𝓕 g)
+pub odds-of : OddsOf
+odds-of 𝓕 g = (unlucky 𝓕 g, few 𝓕 g, none-when 𝓕 g)

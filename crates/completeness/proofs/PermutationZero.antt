@@ -53,7 +53,7 @@ use Rattle.prover.specs.Columns.{
   zAt,
   composedEnvironment,
 }
-use Rattle.hyperplonk_spec.specs.Meaning.{Admitted, EachRow, Premises}
+use Rattle.hyperplonk_spec.specs.Meaning.{Admitted, EachRow, NoneZero, Premises}
 use Rattle.hyperplonk_spec.specs.Composed.{column-at, nextIn, over-part, PartHolds}
 use Rattle.hyperplonk_spec.proofs.ConstraintZero.{start-zero, part-zero}
 use Rattle.completeness.proofs.CellNumbers.{label-agree}
@@ -138,14 +138,14 @@ module _ (𝓕 : Field) (g : Log 𝓕) where
         ∙ sym (z-after i r)
 
     -- with true copies and no zero denominator, z meets the constraints
-    pub met : Premises 𝓕 g → Met 𝓕 (g .circuit .k) (numZ (g .circuit)) A B (zCol 𝓕 (g .circuit .k) (numZ (g .circuit)) A B)
-    met p =
+    pub met : Premises 𝓕 g → NoneZero 𝓕 g → Met 𝓕 (g .circuit .k) (numZ (g .circuit)) A B (zCol 𝓕 (g .circuit .k) (numZ (g .circuit)) A B)
+    met p nz =
         copies-meet 𝓕 (g .circuit .k) (numCopied (g .circuit)) size (copiedAt 𝓕 g) φ Cs (numZ (g .circuit)) kp ks (covers (g .circuit) n-pos)
         (cycles-good (g .circuit) y)
         (copied-good 𝓕 g y (p .equal-cells))
-        (λ i b l q m e. p .factor-denominators i l b m q (factor-agree i b l m ∙ e))
+        (λ i b l q m e. nz .factor-denominators i l b m q (factor-agree i b l m ∙ e))
 
-    module _ (ad : Admitted 𝓕 g) (p : Premises 𝓕 g) (α : F) (x : ℕ → F) where
+    module _ (ad : Admitted 𝓕 g) (p : Premises 𝓕 g) (nz : NoneZero 𝓕 g) (α : F) (x : ℕ → F) where
       abbrev scene : Environment 𝓕
       scene = composedEnvironment 𝓕 g α x
 
@@ -201,7 +201,7 @@ module _ (𝓕 : Field) (g : Log 𝓕) where
 
       part-holds : (i b : ℕ) → i < numZ (g .circuit) → b < rowsOf (g .circuit) → PartHolds 𝓕 scene (g .circuit) i b
       part-holds i b l m =
-          ap₂ mul (column-z i b l) (over-ids i b) ∙ met p .parts i b l m ∙ sym (ap₂ mul (next-agree i b l) (over-perms i b m))
+          ap₂ mul (column-z i b l) (over-ids i b) ∙ met p nz .parts i b l m ∙ sym (ap₂ mul (next-agree i b l) (over-perms i b m))
 
       abbrev Zero : Expr → Type 0
       Zero e = EachRow 𝓕 g (λ b. valueAt 𝓕 scene e b ≡ nil)
@@ -220,5 +220,5 @@ module _ (𝓕 : Field) (g : Log 𝓕) where
           go (yes e) =
               ap (valueAt 𝓕 scene (startConstraint (g .circuit))) e
               ∙ start-zero 𝓕 scene (g .circuit) (embeds-in 𝓕 g ad α x) scene-k .at-one .1
-              (column-z 0 1 (z-pos (g .circuit) n-pos) ∙ met p .start)
+              (column-z 0 1 (z-pos (g .circuit) n-pos) ∙ met p nz .start)
           go (no n) = start-zero 𝓕 scene (g .circuit) (embeds-in 𝓕 g ad α x) scene-k .elsewhere b n

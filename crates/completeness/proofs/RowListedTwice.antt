@@ -27,13 +27,12 @@ use Rattle.prover.proofs.Lengths.{instances-length, permutations-length, compre
 use Rattle.hyperplonk_spec.specs.Build.{Output, wordsOf, logOf, checkBuild, buildOf, made, lentBuild}
 use Rattle.hyperplonk_spec.specs.Papers.{fraction, paperH}
 use Rattle.hyperplonk_spec.specs.Insurer.{mWord, hWord, CountsUnspoilt, RowListedTwice}
-use Rattle.hyperplonk_spec.proofs.Building.{built-by}
+use Rattle.hyperplonk_spec.proofs.Building.{built-by, Yes, zero-yes}
 use Rattle.hyperplonk_spec.proofs.Embeds.{embeds}
 use Rattle.completeness.proofs.Passed.{k-small}
 use Rattle.completeness.proofs.Asked.{lending}
 use Rattle.completeness.proofs.Counts.{covered-each, counts-sum, h-sums}
 use Rattle.completeness.proofs.Habock.{counts-turn, same-totals, is-habock-h, habock-identity, shared-identity}
-use Rattle.completeness.proofs.GoodLog.{asked-yes, covered-yes, zero-when}
 
 module _ (g : Log 𝔾) where
   abbrev rows : ℕ
@@ -90,15 +89,18 @@ module _ (ws instances witness challenges columns nodes : List ℕ) (z : buildOf
   abbrev left : List ℕ
   left = buildOf (lentBuild ws instances witness challenges columns nodes) .columns
 
+  pub yes-all-asked : Yes ws instances witness challenges columns nodes
+  yes-all-asked = zero-yes ws instances witness challenges columns nodes z
+
   pub asked : checkBuild (lentBuild ws instances witness challenges columns nodes) ≡ 0
-  asked = asked-yes ws instances witness challenges columns nodes z
+  asked = yes-all-asked .asked-yes
 
   all-covered : allCovered 𝔾 log ≡ true
-  all-covered = covered-yes ws instances witness challenges columns nodes asked (zero-when ws instances witness challenges columns nodes .0 z .1)
+  all-covered = yes-all-asked .covered-yes
 
   pub left-is : left ≡ writePrefix (wordsOf (rowsOf c) (writtenPolys 𝔾 log)) columns
   unfolding made logOf
-  left-is = ap (λ (o : Output). o .columns) (built-by ws instances witness challenges columns nodes asked all-covered)
+  left-is = ap (λ (o : Output). o .columns) (built-by ws instances witness challenges columns nodes asked all-covered (yes-all-asked .none-zero))
 
   rows-small : rowsOf c < P
   rows-small =

@@ -39,13 +39,14 @@ use Rattle.hyperplonk_spec.specs.Build.{logOf, buildOf, lentBuild}
 use Rattle.hyperplonk_spec.specs.Meaning.{Admitted}
 use Rattle.hyperplonk_spec.specs.Copies.{copiedCell, σ, wholeRunning, paperZ, cellsBefore}
 use Rattle.hyperplonk_spec.specs.RunningProduct.{zWord, ProductCloses, RunningProduct}
+use Rattle.completeness.proofs.Denominators.{none-zero-when}
 use Rattle.completeness.proofs.DemandThree.{admitted}
 use Rattle.completeness.proofs.DemandThreeOf.{eleven-yes, k-positive, k-below-21}
 use Rattle.completeness.proofs.Permuted.{labels, permutes, labels-small}
 use Rattle.completeness.proofs.Plonk.{step-at}
 use Rattle.completeness.proofs.PaperZ.{is-paper-z}
 use Rattle.completeness.proofs.Copies.{closes}
-use Rattle.completeness.proofs.RowListedTwice.{word-at, asked, left-is}
+use Rattle.completeness.proofs.RowListedTwice.{word-at, yes-all-asked, asked, left-is}
 
 module _ (g : Log 𝔾) where
   -- the permutation and z columns among those written
@@ -160,7 +161,9 @@ module _ (ws instances witness challenges columns nodes : List ℕ) (z : buildOf
             ap (λ (x : 𝔾 .F). 𝔾 .mul x (partAt 𝔾 log (getD (zCut c) i []) (rowAt (c .k) (suc t))))
             (z-is i t (omega arith) (omega arith) ∙ sym (is-paper-z 𝔾 log .at-place i t (omega arith) (omega arith)))
             ∙ last-step log i t l m;
-        closes = λ e n. closes 𝔾 log ad e n;
+        closes = λ e.
+            closes 𝔾 log ad e
+            (none-zero-when 𝔾 log .0 (yes-all-asked ws instances witness challenges columns nodes z .none-zero) .factor-denominators);
       }
 
 pub running-product : RunningProduct

@@ -3,7 +3,7 @@ use mathlib.Core.Path.{_≡_, refl, sym, ap, _∙_, subst}
 use mathlib.Core.Logic.{_≢_}
 use mathlib.Core.Bool.{Bool, true, false}
 use mathlib.Core.List.{List, [], _∷_, _++_, map}
-use Prim.Native.Nat.{ℕ, _-_, _*_, _<_}
+use Prim.Native.Nat.{ℕ, suc, _-_, _*_, _<_}
 use native.Mathlib.Omega.{arith}
 use native.Mathlib.Decide.{ℕ-discrete}
 use lib.ListN.{length, take, length-take}
@@ -28,7 +28,7 @@ use Rattle.hyperplonk_spec.specs.BuildAndSum.{beforeAlpha, alphaWord, Left, siz
 use Rattle.completeness.specs.DemandWhole.{Concluded, Demanded, DemandThreeWhole}
 use Rattle.completeness.proofs.Called.{with-alpha, refused-left, summed-left}
 
--- where questions 1 to 11 are yes, the row sum gives no 15
+-- where questions 1 to 11 are yes, the row sum gives 0 or 16, so neither 15 nor 17
 module _ (ws witness columns nodes challenges y : List ℕ) (accepted : firstNo circuitQuestions ws ≡ 0) where
   abbrev lent : LentSum
   lent = record { circuit = ws; witness = witness; columns = columns; nodes = nodes; challenges = challenges; y = y }
@@ -48,15 +48,9 @@ module _ (ws witness columns nodes challenges y : List ℕ) (accepted : firstNo 
       (first-of (λ (l : LentSum). l .circuit) circuitQuestions lent ∙ accepted)
       (numbered-of (λ (l : LentSum). l .circuit) circuitQuestions numbered)
 
-  asked-16 : (t : Bool) → q16 (circuitOf ws) witness columns nodes challenges y ≡ t → number ≢ 15
-  asked-16 true e n = nought (sym (only ∙ first-next _ _ lent e ∙ first-none lent) ∙ n)
-    where
-      nought : _≡_ {A = ℕ} 0 15 → ⊥
-      nought e = omega arith
-  asked-16 false e n = sixteen (sym (only ∙ first-number _ _ lent e) ∙ n)
-    where
-      sixteen : _≡_ {A = ℕ} 16 15 → ⊥
-      sixteen e = omega arith
+  asked-16 : (t : Bool) → q16 (circuitOf ws) witness columns nodes challenges y ≡ t → (m : ℕ) → m ≢ 0 → m ≢ 16 → number ≢ m
+  asked-16 true e m a b n = a (sym n ∙ only ∙ first-next _ _ lent e ∙ first-none lent)
+  asked-16 false e m a b n = b (sym n ∙ only ∙ first-number _ _ lent e)
 
   number-is : rowSumOf (lentSum ws witness columns nodes challenges y) .number ≡ number
   unfolding rowSumOf
@@ -66,8 +60,8 @@ module _ (ws witness columns nodes challenges y : List ℕ) (accepted : firstNo 
       go (yes e) = rw e
       go (no h) = rw (ne-eqb number 0 h)
 
-  pub no-fifteen : rowSumOf (lentSum ws witness columns nodes challenges y) .number ≢ 15
-  no-fifteen e = asked-16 (q16 (circuitOf ws) witness columns nodes challenges y) refl (sym number-is ∙ e)
+  pub no-other : (m : ℕ) → m ≢ 0 → m ≢ 16 → rowSumOf (lentSum ws witness columns nodes challenges y) .number ≢ m
+  no-other m a b e = asked-16 (q16 (circuitOf ws) witness columns nodes challenges y) refl m a b (sym number-is ∙ e)
 
 module _ (ws instances witness challenges y columns nodes : List ℕ) (question : checkBuild (lentBuild ws instances witness (beforeAlpha challenges) columns nodes) ≡ 0) where
   abbrev log : Log 𝔾
@@ -92,27 +86,37 @@ module _ (ws instances witness challenges y columns nodes : List ℕ) (question 
       let a = l .challenges-length in
       omega (arith, length-take (length challenges - 1) challenges)
 
-  -- 15 is given by the call exactly when the build gives it
-  fifteen-left : built .answer .number ≡ 15 → after .answer .number ≡ 15
-  fifteen-left e =
-      sym (ap (λ (x : Left). x .answer .number) (refused-left ws instances witness challenges y columns nodes built refl (bad _ e))) ∙ e
-    where
-      bad : (n : ℕ) → n ≡ 15 → n ≢ 0
-      bad n a b = omega arith
+  -- a number but 0 and 16, as 15 and 17, is given by the call exactly when the build gives it
+  module _ (m : ℕ) (not-0 : m ≢ 0) (not-16 : m ≢ 16) where
+    given-left : built .answer .number ≡ m → after .answer .number ≡ m
+    given-left e =
+        sym
+        (ap (λ (x : Left). x .answer .number)
+        (refused-left ws instances witness challenges y columns nodes built refl (λ z. not-0 (sym e ∙ z))))
+        ∙ e
 
-  fifteen-built : after .answer .number ≡ 15 → built .answer .number ≡ 15
-  fifteen-built e = go (ℕ-discrete (built .answer .number) 0)
-    where
-      go : Dec (built .answer .number ≡ 0) → built .answer .number ≡ 15
-      go (yes z) =
-          absurd
-          (no-fifteen ws witness (take (built .answer .«column_words») (built .columns)) (take (built .answer .nodes * 4) (built .nodes)) challenges y (l .circuit-yes)
-          (ap (λ (x : Left). x .answer .number) (summed-left ws instances witness challenges y columns nodes built _ refl z refl) ∙ e))
-      go (no h) =
-          ap (λ (x : Left). x .answer .number) (refused-left ws instances witness challenges y columns nodes built refl h) ∙ e
+    given-built : after .answer .number ≡ m → built .answer .number ≡ m
+    given-built e = go (ℕ-discrete (built .answer .number) 0)
+      where
+        go : Dec (built .answer .number ≡ 0) → built .answer .number ≡ m
+        go (yes z) =
+            absurd
+            (no-other ws witness (take (built .answer .«column_words») (built .columns)) (take (built .answer .nodes * 4) (built .nodes)) challenges y (l .circuit-yes)
+            m
+            not-0
+            not-16
+            (ap (λ (x : Left). x .answer .number) (summed-left ws instances witness challenges y columns nodes built _ refl z refl) ∙ e))
+        go (no h) =
+            ap (λ (x : Left). x .answer .number) (refused-left ws instances witness challenges y columns nodes built refl h) ∙ e
 
-  unless-built : after .answer .number ≢ 15 → built .answer .number ≢ 15
-  unless-built n e = n (fifteen-left e)
+  not-0 : (m n : ℕ) → m ≡ suc n → m ≢ 0
+  not-0 m n e z = omega arith
+
+  fifteen-16 : _≡_ {A = ℕ} 15 16 → ⊥
+  fifteen-16 e = omega arith
+
+  seventeen-16 : _≡_ {A = ℕ} 17 16 → ⊥
+  seventeen-16 e = omega arith
 
   -- the build gave 0 and the row sum 0 and 0
   module _ (s : Succeeds ws instances witness (beforeAlpha challenges) columns nodes built) where
@@ -170,19 +174,20 @@ module _ (ws instances witness challenges y columns nodes : List ℕ) (question 
   unfolding logOf
   demanded =
       record {
-        fifteen = (λ e. d .fifteen .0 (fifteen-built e), λ n. fifteen-left (d .fifteen .1 n));
-        otherwise = λ zero-constraints equal-cells input-denominators table-denominators factor-denominators cuts-alike not-15 α-small y-length y-small.
+        fifteen = (
+          λ e. d .fifteen .0 (given-built 15 (not-0 15 14 refl) fifteen-16 e),
+          λ n. given-left 15 (not-0 15 14 refl) fifteen-16 (d .fifteen .1 n),
+        );
+        seventeen = (
+          λ e. d .seventeen .0 (given-built 17 (not-0 17 16 refl) seventeen-16 e),
+          λ n. given-left 17 (not-0 17 16 refl) seventeen-16 (d .seventeen .1 n),
+        );
+        otherwise = λ zero-constraints equal-cells cuts-alike not-15 not-17 α-small y-length y-small.
             let premises : Premises 𝔾 log =
-            record {
-              zero-constraints = zero-constraints;
-              equal-cells = equal-cells;
-              input-denominators = input-denominators;
-              table-denominators = table-denominators;
-              factor-denominators = factor-denominators;
-              cuts-alike = cuts-alike;
-            } in
+            record { zero-constraints = zero-constraints; equal-cells = equal-cells; cuts-alike = cuts-alike } in
             let s : Succeeds ws instances witness (beforeAlpha challenges) columns nodes built =
-            d .otherwise premises (unless-built not-15) in
+            d .otherwise premises (λ e. not-15 (given-left 15 (not-0 15 14 refl) fifteen-16 e))
+            (λ e. not-17 (given-left 17 (not-0 17 16 refl) seventeen-16 e)) in
             concluded s after (left-zero s (s .row-sum (alphaWord challenges) y α-small y-length y-small));
       }
 

@@ -58,7 +58,7 @@ use Rattle.hyperplonk_spec.specs.Copies.{
   MustClose,
   IsPaperZ,
 }
-use Rattle.hyperplonk_spec.specs.Insurer.{ReadingsCovered, Odds, OddsLimit, GoodLog, FewTurnedAway, RowListedTwice, ZeroWhen}
+use Rattle.hyperplonk_spec.specs.Insurer.{ReadingsCovered, OddsOf, Odds, OddsLimit, GoodLog, FewTurnedAway, RowListedTwice, ZeroWhen}
 use Rattle.hyperplonk_spec.specs.RunningProduct.{RunningProduct}
 use Rattle.hyperplonk_spec.specs.Sizes.{sizesOf, Foretells, CircuitForest, VisitedValue, VisitsSame, VisitsWritten}
 use Rattle.completeness.specs.Scope.{Scoped}
@@ -102,6 +102,7 @@ pub record Claims : Type 1 where
   pub readings-covered : ReadingsCovered
   pub good-log : GoodLog
   pub few-turned-away : FewTurnedAway
+  pub odds-of : OddsOf
   pub odds : Odds
   pub odds-limit : OddsLimit
   pub row-listed-twice : RowListedTwice

@@ -20,11 +20,10 @@ use Rattle.hyperplonk_spec.specs.Meaning.{
   EachRow,
   EachLookup,
   NoCounts,
+  HasCounts,
+  SomeZero,
   ZeroConstraints,
   EqualCells,
-  NoZeroInput,
-  NoZeroTable,
-  NoZeroFactor,
 }
 use Rattle.hyperplonk_spec.specs.BuildAndSum.{beforeAlpha, alphaWord, beforeSum, Left}
 
@@ -66,19 +65,18 @@ module _ (lent : Lent) (y : List ℕ) (left : Left) where
   pub record Demanded : Type 0 where
     -- "Then 15 is given exactly when, for some lookup, no column of whole counts turns the compressed table into the compressed inputs."
     pub fifteen : (left .answer .number ≡ 15) ↔ NoCounts 𝔾 log
+    -- "Number 17, asked after 15, is given exactly if a denominator of document 01 is zero"
+    pub seventeen : (left .answer .number ≡ 17) ↔ (HasCounts 𝔾 log × SomeZero 𝔾 log)
     pub otherwise :
         -- "Let further every user constraint be zero on every row,"
         ZeroConstraints 𝔾 log
         -- "the cells of each cycle equal,": "a cycle's cells are equal if all hold one value"
         → EqualCells 𝔾 log
-        -- "no denominator zero,": "γ + input and γ + table on all rows, and the inverted factors on every row but 0"
-        → NoZeroInput 𝔾 log
-        → NoZeroTable 𝔾 log
-        → NoZeroFactor 𝔾 log
         -- "and both cuts of the copied columns alike."
         → CutsAlike circuit
-        -- "Then, unless 15 is given, …"
+        -- "unless 15 or 17 is given"
         → left .answer .number ≢ 15
+        → left .answer .number ≢ 17
         -- "for every alpha and every y": "any α and any k values y of the field"
         → alphaWord (lent .challenges) < P
         → length y ≡ circuit .k

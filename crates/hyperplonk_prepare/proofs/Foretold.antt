@@ -1,6 +1,6 @@
 -- What the numbers of `sizes` tell of the building call and of an evaluation: Foretells of Sizes.
 use mathlib.Core.Path.{_≡_, refl, sym, ap, ap₂, _∙_, subst}
-use mathlib.Core.Logic.{_⊎_, inl, inr, ⊎-elim}
+use mathlib.Core.Logic.{_≢_, inl, inr, ⊎-elim}
 use mathlib.Core.Bool.{Bool, true, false, cond, _&&_}
 use mathlib.Core.List.{List}
 use Prim.Native.Nat.{ℕ, zero, suc, _-_, _*_, _≤_, _<_}
@@ -17,12 +17,11 @@ use Rattle.expression.proofs.Visits.{visited-value, visits-same, visits-written
 use Rattle.backend.specs.Circuit.{Circuit, circuitOf}
 use Rattle.backend.specs.Questions.{circuitQuestions}
 use Rattle.preprocessor.specs.Compose.{paramsOf, compose, composedWords, composedNodes}
-use Rattle.prover.specs.Columns.{allCovered}
-use Rattle.hyperplonk_spec.specs.Build.{Output, logOf, columnWords, q12, q13, q14, checkBuild, buildOf, lentBuild, made, zeroed}
+use Rattle.hyperplonk_spec.specs.Build.{Output, logOf, columnWords, q12, q13, q14, checkBuild, buildOf, lentBuild, made}
 use Rattle.hyperplonk_spec.specs.RowSum.{rowSumEnvironment}
 use Rattle.hyperplonk_spec.specs.Sizes.{composedVisits, noSizes, circuitSizes, sizesOf, mostColumnWords, TooShort, ForetellsBuild, ForetellsRow, readComposed, Foretells}
 use Rattle.hyperplonk_spec.specs.declared.Sizes.{Sizes}
-use Rattle.hyperplonk_spec.proofs.Building.{refused-by, fifteen-by, built-by}
+use Rattle.hyperplonk_spec.proofs.Building.{built-by, refused-number, Given, given, zero-yes}
 use Rattle.hyperplonk_spec.proofs.ReadsBack.{reads-back}
 use Rattle.hyperplonk_prepare.specs.Prepared.{Accepted}
 use Rattle.hyperplonk_prepare.proofs.Asked.{circuit-no, no-14, no-none}
@@ -63,37 +62,19 @@ module _ (ws instances witness challenges columns nodes : List ℕ) where
   abbrev output : Output
   output = buildOf (lentBuild ws instances witness challenges columns nodes)
 
-  refused-number : (n : ℕ) → checkBuild (lentBuild ws instances witness challenges columns nodes) ≡ suc n → output .answer .number ≡ suc n
-  refused-number n e = ap (λ (o : Output). o .answer .number) (refused-by ws instances witness challenges columns nodes n e)
-
-  -- with 1 to 14 yes the number is 0 or 15
-  passed-number : checkBuild (lentBuild ws instances witness challenges columns nodes) ≡ 0
-      → (output .answer .number ≡ 0) ⊎ (output .answer .number ≡ 15)
-  unfolding made zeroed
-  passed-number e = go (allCovered 𝔾 (logOf ws instances witness challenges)) refl
-    where
-      go : (t : Bool) → allCovered 𝔾 (logOf ws instances witness challenges) ≡ t
-          → (output .answer .number ≡ 0) ⊎ (output .answer .number ≡ 15)
-      go true f = inl (ap (λ (o : Output). o .answer .number) (built-by ws instances witness challenges columns nodes e f))
-      go false f = inr (ap (λ (o : Output). o .answer .number) (fifteen-by ws instances witness challenges columns nodes e f))
-
-  -- 0 is given only where 1 to 15 are yes
   zero-made : output .answer .number ≡ 0 → output ≡ made (logOf ws instances witness challenges) columns nodes
-  unfolding zeroed
-  zero-made z = go (checkBuild (lentBuild ws instances witness challenges columns nodes)) refl
-    where
-      covered : checkBuild (lentBuild ws instances witness challenges columns nodes) ≡ 0 → (t : Bool)
-          → allCovered 𝔾 (logOf ws instances witness challenges) ≡ t
-          → output ≡ made (logOf ws instances witness challenges) columns nodes
-      covered e true f = built-by ws instances witness challenges columns nodes e f
-      covered e false f =
-          absurd
-          (let q = sym z ∙ ap (λ (o : Output). o .answer .number) (fifteen-by ws instances witness challenges columns nodes e f) in omega arith)
+  zero-made z =
+      let y = zero-yes ws instances witness challenges columns nodes z in
+      built-by ws instances witness challenges columns nodes (y .asked-yes) (y .covered-yes) (y .none-zero)
 
-      go : (n : ℕ) → checkBuild (lentBuild ws instances witness challenges columns nodes) ≡ n
-          → output ≡ made (logOf ws instances witness challenges) columns nodes
-      go zero e = covered e (allCovered 𝔾 (logOf ws instances witness challenges)) refl
-      go (suc n) e = absurd (let q = sym z ∙ refused-number n e in omega arith)
+  -- with 1 to 14 yes the number is not 14
+  passed-number : checkBuild (lentBuild ws instances witness challenges columns nodes) ≡ 0 → output .answer .number ≢ 14
+  passed-number e n = go (given ws instances witness challenges columns nodes e)
+    where
+      go : Given ws instances witness challenges columns nodes → ⊥
+      go (Given.uncovered f q) = let r = sym q ∙ n in omega arith
+      go (Given.divided f h q) = let r = sym q ∙ n in omega arith
+      go (Given.built f h q) = let r = sym q ∙ n in omega arith
 
   -- ---- questions 1 to 11 are yes
   module _ (a : Accepted ws) where
@@ -101,7 +82,7 @@ module _ (ws instances witness challenges columns nodes : List ℕ) where
         → TooShort (circuitSizes (circuitOf ws)) columns nodes
         → output .answer .number ≡ 14
     fourteen-is twelve thirteen h =
-        refused-number 13 (no-14 ws instances witness challenges columns nodes a twelve thirteen (short-14 (circuitOf ws) columns nodes h))
+        refused-number ws instances witness challenges columns nodes 13 (no-14 ws instances witness challenges columns nodes a twelve thirteen (short-14 (circuitOf ws) columns nodes h))
 
     enough-is : q12 (circuitOf ws) instances witness challenges ≡ true → q13 instances witness challenges ≡ true
         → (TooShort (circuitSizes (circuitOf ws)) columns nodes → ⊥)
@@ -116,10 +97,7 @@ module _ (ws instances witness challenges columns nodes : List ℕ) where
       where
         go : Dec (TooShort (circuitSizes (circuitOf ws)) columns nodes) → TooShort (circuitSizes (circuitOf ws)) columns nodes
         go (yes h) = h
-        go (no h) =
-            absurd
-            (⊎-elim (λ q. let r = sym q ∙ e in omega arith) (λ q. let r = sym q ∙ e in omega arith)
-            (passed-number (enough-is twelve thirteen h)))
+        go (no h) = absurd (passed-number (enough-is twelve thirteen h) e)
 
     accepted-build : ForetellsBuild ws (circuitSizes (circuitOf ws)) instances witness challenges columns nodes
     unfolding made logOf
@@ -138,7 +116,7 @@ module _ (ws instances witness challenges columns nodes : List ℕ) where
   module _ (n : ℕ) (e : firstNo circuitQuestions ws ≡ suc n) where
     refused-build : ForetellsBuild ws (noSizes (suc n)) instances witness challenges columns nodes
     refused-build =
-        let r = refused-number n (circuit-no ws instances witness challenges columns nodes n e) in
+        let r = refused-number ws instances witness challenges columns nodes n (circuit-no ws instances witness challenges columns nodes n e) in
         record {
           refused = λ h. r;
           fourteen = λ z. absurd (omega arith);

@@ -1,4 +1,4 @@
--- The building call: questions 12 to 15, and what is returned and written.
+-- The building call: questions 12 to 15 and 17, and what is returned and written.
 use mathlib.Core.Bool.{Bool, true, false, cond, _&&_}
 use mathlib.Core.List.{List, [], _∷_, _++_, map}
 use Prim.Native.Nat.{ℕ, _+_, _*_}
@@ -11,6 +11,7 @@ use Rattle.backend.specs.Questions.{circuitQuestions, small}
 use Rattle.preprocessor.specs.Compose.{numZ, composedWords, composedNodes}
 use Rattle.prover.specs.Log.{Log}
 use Rattle.prover.specs.Columns.{allCovered, writtenPolys}
+use Rattle.prover.specs.Denominators.{zeroDenominator}
 unfoldable pub use Rattle.prover.specs.Words.{wordsOf}
 use Rattle.hyperplonk_spec.specs.declared.Built.{Built}
 
@@ -91,13 +92,14 @@ refused n = record { number = n; «column_words» = 0; nodes = 0; «z_columns» 
 abbrev pub success : Circuit → Built
 success c = record { number = 0; «column_words» = columnWords c; nodes = composedNodes c; «z_columns» = numZ c }
 
--- "Words past those written stay untouched. Refusals write nothing, except 15: the column words needed become 0."
+-- "Words past those written stay untouched. Refusals write nothing, except 15: the column words needed become 0." Item 2 of document 02,
+-- of 17: it "zeroes the column words as 15 does", "and only 15 and 17 change a buffer"
 abbrev pub refusal : ℕ → List ℕ → List ℕ → Output
 refusal n columns nodes = record { answer = refused n; columns = columns; nodes = nodes }
 
-unfoldable pub zeroed : Circuit → List ℕ → List ℕ → Output
-zeroed c columns nodes =
-    record { answer = refused 15; columns = writePrefix (replicate (columnWords c) 0) columns; nodes = nodes }
+unfoldable pub zeroed : ℕ → Circuit → List ℕ → List ℕ → Output
+zeroed n c columns nodes =
+    record { answer = refused n; columns = writePrefix (replicate (columnWords c) 0) columns; nodes = nodes }
 
 unfoldable pub made : Log 𝔾 → List ℕ → List ℕ → Output
 made g columns nodes =
@@ -107,12 +109,12 @@ made g columns nodes =
       nodes = writePrefix (composedWords (g .circuit)) nodes;
     }
 
--- question 15 and after
+-- question 15 and after: "Number 17, asked after 15, is given exactly if a denominator of document 01 is zero"
 unfoldable pub buildLog : Log 𝔾 → List ℕ → List ℕ → Output
 buildLog g columns nodes =
-    let yes-15 = made g columns nodes in
-    let no-15 = zeroed (g .circuit) columns nodes in
-    cond (allCovered 𝔾 g) yes-15 no-15
+    let no-15 = zeroed 15 (g .circuit) columns nodes in
+    let no-17 = zeroed 17 (g .circuit) columns nodes in
+    cond (allCovered 𝔾 g) (cond (zeroDenominator 𝔾 g) no-17 (made g columns nodes)) no-15
 
 -- the building call
 unfoldable pub buildOf : Lent → Output

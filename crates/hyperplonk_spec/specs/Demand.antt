@@ -12,7 +12,7 @@ use Rattle.preprocessor.specs.Compose.{compose, composedWords, composedNodes}
 use Rattle.prover.specs.Columns.{writtenPolys}
 use Rattle.hyperplonk_spec.specs.Build.{Lent, Output, logOf, wordsOf, columnWords, lentBuild, checkBuild, success, buildOf}
 use Rattle.hyperplonk_spec.specs.RowSum.{rowSumOf, lentSum}
-use Rattle.hyperplonk_spec.specs.Meaning.{Each, NoCounts, Premises, Conclusions}
+use Rattle.hyperplonk_spec.specs.Meaning.{Each, NoCounts, HasCounts, SomeZero, Premises, Conclusions}
 
 -- what a building call that was lent these words and buffers returned, and what both buffers then held
 module _ (ws instances witness challenges columns nodes : List ℕ) (output : Output) where
@@ -46,8 +46,13 @@ module _ (ws instances witness challenges columns nodes : List ℕ) (output : Ou
   pub record Demand3 : Type 0 where
     -- "Then 15 is given exactly when, for some lookup, no column of whole counts turns …"
     pub fifteen : (output .answer .number ≡ 15) ↔ NoCounts 𝔾 (logOf ws instances witness challenges)
-    -- "Let further … Then, unless 15 is given, …"
-    pub otherwise : Premises 𝔾 (logOf ws instances witness challenges) → output .answer .number ≢ 15 → Succeeds
+    -- Item 2 of document 02: "Number 17, asked after 15, is given exactly if a denominator of document 01 is zero"
+    pub seventeen :
+        (output .answer .number ≡ 17)
+        ↔ (HasCounts 𝔾 (logOf ws instances witness challenges) × SomeZero 𝔾 (logOf ws instances witness challenges))
+    -- "Let further … Then, unless 15 …": "Demand 3 then says "unless 15 or 17 is given" in place of the denominator premise"
+    pub otherwise : Premises 𝔾 (logOf ws instances witness challenges) → output .answer .number ≢ 15 → output .answer .number ≢ 17
+        → Succeeds
 
 -- "Let the building call be lent any words and buffers for which questions 1 to 14 are yes."
 abbrev pub DemandThreeAt : Lent → Output → Type 0

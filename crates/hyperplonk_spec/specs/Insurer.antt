@@ -6,10 +6,11 @@ use mathlib.Core.Bool.{true}
 use mathlib.Core.List.{List, [], _∷_, _++_}
 use Prim.Native.Nat.{ℕ, _+_, _*_, _^_, _≤_, _<_}
 use lib.ListN.{length, getD, take}
+use lib.Dec.{eqb}
 use Rattle.field.specs.Prime.{P}
 use Rattle.field.specs.Algebra.{Field}
 use Rattle.field.specs.Field.{𝔾, el}
-use Rattle.lists.specs.Lists.{All, firstNo}
+use Rattle.lists.specs.Lists.{All, anyOf, firstNo}
 use Rattle.expression.specs.Expr.{Expr}
 use Rattle.expression.specs.Value.{valueAt}
 use Rattle.backend.specs.Circuit.{Pair, Circuit, circuitOf, rowsOf, numInstance, numCopied, numLookups}
@@ -17,10 +18,10 @@ use Rattle.backend.specs.Questions.{circuitQuestions, largestK}
 use Rattle.preprocessor.specs.Compose.{CutsAlike, composedNodes}
 use Rattle.prover.specs.Lookup.{Turns, sumRows, sumCounts}
 use Rattle.prover.specs.Log.{Log}
-use Rattle.prover.specs.Columns.{userEnvironment, inputAt, tableAt, countAt, lookupHAt, permutationFactorAt, allCovered}
+use Rattle.prover.specs.Columns.{userEnvironment, inputAt, tableAt, countAt, lookupHAt, allCovered}
 use Rattle.hyperplonk_spec.specs.Build.{logOf, columnWords, checkBuild, buildOf, lentBuild}
 use Rattle.hyperplonk_spec.specs.RowSum.{rowSumOf, lentSum}
-use Rattle.hyperplonk_spec.specs.Meaning.{Each, EachRow, EachLookup, ZeroConstraints, EqualCells, NoZeroInput, NoZeroTable, NoZeroFactor, Premises}
+use Rattle.hyperplonk_spec.specs.Meaning.{Each, EachRow, EachLookup, HasCounts, ZeroConstraints, EqualCells, NoneZero, SomeZero, Premises}
 use Rattle.hyperplonk_spec.specs.Papers.{fraction, paperH, normalizedMultiplicity, totalOf, SharedHolds}
 
 -- what a lookup's list of pairs has past its end
@@ -66,12 +67,6 @@ module _ (𝓕 : Field) where
       pub equal-cells : EqualCells 𝓕 g
       pub cuts-alike : CutsAlike (g .circuit)
 
-    -- "no denominator zero": they "are γ + input and γ + table on all rows, and the inverted factors on every row but 0"
-    pub record NoneZero : Type 0 where
-      pub input-denominators : NoZeroInput 𝓕 g
-      pub table-denominators : NoZeroTable 𝓕 g
-      pub factor-denominators : NoZeroFactor 𝓕 g
-
 -- if each reading stands in the table, question 15 is yes, whatever β and γ are
 abbrev pub ReadingsCovered : Type 1
 ReadingsCovered = (𝓕 : Field) (g : Log 𝓕) → ReadingsStand 𝓕 g → (β γ : 𝓕 .F) → allCovered 𝓕 (drawn 𝓕 g β γ) ≡ true
@@ -82,8 +77,8 @@ denominators c = rowsOf c * (2 * numLookups c + numCopied c)
 
 -- all else fixed, no more γ than that make a denominator zero: they make a list of at most so many values, and no denominator is zero
 -- exactly when γ is none of these
-abbrev pub Odds : Type 1
-Odds =
+abbrev pub OddsOf : Type 1
+OddsOf =
     (𝓕 : Field) (g : Log 𝓕)
     → (unlucky : List (𝓕 .F))
     × (length unlucky ≤ denominators (g .circuit))
@@ -163,14 +158,28 @@ module _ (g : Log 𝔾) (left : List ℕ) (j : ℕ) where
     -- the words are the counts of `lookup_m_poly` themselves: none reaches p
     pub whole : (b : ℕ) → b < rows → m b ≡ countAt 𝔾 g lookup b
 
--- "Can a good log be turned away?" Let questions 1 to 14 be yes. If each reading stands in the table, the number is 0, and so not 15; with
--- the other premises of demand 3, the row sum of what was written answers 0 and 0
+-- "Can a good log be turned away?" Let questions 1 to 14 be yes. If each reading stands in the table, 15 is not given, and 17 is exactly
+-- if a denominator is zero; with the other premises of demand 3, and not 17, the number is 0 and the row sum of what was written
+-- answers 0 and 0
 abbrev pub GoodLog : Type 0
 GoodLog =
     (ws instances witness challenges columns nodes : List ℕ) → checkBuild (lentBuild ws instances witness challenges columns nodes) ≡ 0
     → ReadingsStand 𝔾 (logOf ws instances witness challenges)
-    → (buildOf (lentBuild ws instances witness challenges columns nodes) .answer .number ≡ 0)
-    × (Premises 𝔾 (logOf ws instances witness challenges) → SumsToZero ws instances witness challenges columns nodes)
+    → (buildOf (lentBuild ws instances witness challenges columns nodes) .answer .number ≢ 15)
+    × ((buildOf (lentBuild ws instances witness challenges columns nodes) .answer .number ≡ 17) ↔ SomeZero 𝔾 (logOf ws instances witness challenges))
+    × (Premises 𝔾 (logOf ws instances witness challenges) → buildOf (lentBuild ws instances witness challenges columns nodes) .answer .number ≢ 17
+    → Passes ws instances witness challenges columns nodes)
+
+-- how many γ can give 17: for any words but γ there is a list of at most as many words as there are denominators, and each γ with which
+-- the call gives 17, whatever buffers it is lent, is one of these
+abbrev pub Odds : Type 0
+Odds =
+    (ws instances witness user : List ℕ) (β : ℕ)
+    → (unlucky : List ℕ)
+    × (length unlucky ≤ denominators (circuitOf ws))
+    × ((γ : ℕ) (columns nodes : List ℕ)
+    → buildOf (lentBuild ws instances witness (user ++ (β ∷ γ ∷ [])) columns nodes) .answer .number ≡ 17
+    → anyOf (eqb γ) unlucky ≡ true)
 
 -- by no β, and by few γ: for any words but γ there is a list of at most as many words as there are denominators, and with a γ that is
 -- none of these each good log passes
@@ -192,10 +201,12 @@ RowListedTwice =
     → (j : ℕ) → j < numLookups (circuitOf ws)
     → CountsUnspoilt (logOf ws instances witness challenges) (buildOf (lentBuild ws instances witness challenges columns nodes) .columns) j
 
--- which it is exactly when questions 1 to 14 are yes and 15 is not given
+-- which it is exactly when questions 1 to 14 are yes, for each lookup some column of whole counts turns the table into the inputs, and no
+-- denominator is zero
 abbrev pub ZeroWhen : Type 0
 ZeroWhen =
     (ws instances witness challenges columns nodes : List ℕ)
     → (buildOf (lentBuild ws instances witness challenges columns nodes) .answer .number ≡ 0)
     ↔ ((checkBuild (lentBuild ws instances witness challenges columns nodes) ≡ 0)
-    × (buildOf (lentBuild ws instances witness challenges columns nodes) .answer .number ≢ 15))
+    × HasCounts 𝔾 (logOf ws instances witness challenges)
+    × NoneZero 𝔾 (logOf ws instances witness challenges))

@@ -1,6 +1,6 @@
 -- "The words of demand 3", over any field: what is supposed of a log, and what then holds.
 use mathlib.Core.Path.{_≡_}
-use mathlib.Core.Logic.{_≢_, _↔_}
+use mathlib.Core.Logic.{_≢_, _⊎_, _↔_}
 use mathlib.Core.Bool.{Bool, true, false}
 use mathlib.Core.List.{List, [], _∷_}
 use Prim.Native.Nat.{ℕ, suc, _+_, _<_}
@@ -25,6 +25,7 @@ use Rattle.prover.specs.Columns.{
   permutationFactorAt,
   composedEnvironment,
 }
+use Rattle.prover.specs.Denominators.{zeroDenominator}
 
 -- what a list of cells has past its end
 abbrev pub noCell : Cell
@@ -74,6 +75,10 @@ module _ (𝓕 : Field) where
         m
         → ⊥)
 
+    -- and the contrary: for each lookup some column of whole counts does
+    abbrev pub HasCounts : Type 0
+    HasCounts = EachLookup (λ l. (m : ℕ → ℕ) × Turns 𝓕 (rowsOf (g .circuit)) (inputAt 𝓕 g l) (tableAt 𝓕 g l) m)
+
     -- "every user constraint be zero on every row"
     abbrev pub ZeroConstraints : Type 0
     ZeroConstraints =
@@ -84,7 +89,7 @@ module _ (𝓕 : Field) where
     EqualCells =
         Each [] (g .circuit .cycles) (λ cycle. Each noCell cycle (λ x. Each noCell cycle (λ y. cellValue x ≡ cellValue y)))
 
-    -- "no denominator zero": they "are γ + input and γ + table on all rows, and the inverted factors on every row but 0"
+    -- no denominator is zero: they "are γ + input and γ + table on all rows, and the inverted factors on every row but 0"
     abbrev pub NoZeroInput : Type 0
     NoZeroInput = EachLookup (λ l. EachRow (λ b. add (g .γ) (inputAt 𝓕 g l b) ≢ zero))
 
@@ -94,17 +99,37 @@ module _ (𝓕 : Field) where
     abbrev pub NoZeroFactor : Type 0
     NoZeroFactor = (i : ℕ) → i < numCopied (g .circuit) → EachRow (λ b. 0 < b → permutationFactorAt 𝓕 g i b ≢ zero)
 
-    -- "Let further every user constraint be zero on every row, the cells of each cycle equal, no denominator zero, and both cuts of the
-    -- copied columns alike."
-    pub record Premises : Type 0 where
-      pub zero-constraints : ZeroConstraints
-      pub equal-cells : EqualCells
+    pub record NoneZero : Type 0 where
       pub input-denominators : NoZeroInput
       pub table-denominators : NoZeroTable
       pub factor-denominators : NoZeroFactor
+
+    -- "a denominator of document 01 is zero": there is a lookup and a row, or a copied column and a row but 0
+    abbrev pub SomeRow : (ℕ → Type 0) → Type 0
+    SomeRow Q = (b : ℕ) × (b < rowsOf (g .circuit)) × Q b
+
+    abbrev pub SomeLookup : (List Pair → Type 0) → Type 0
+    SomeLookup Q = (j : ℕ) × (j < length (g .circuit .lookups)) × Q (getD (g .circuit .lookups) j [])
+
+    abbrev pub ZeroInput : Type 0
+    ZeroInput = SomeLookup (λ l. SomeRow (λ b. add (g .γ) (inputAt 𝓕 g l b) ≡ zero))
+
+    abbrev pub ZeroTable : Type 0
+    ZeroTable = SomeLookup (λ l. SomeRow (λ b. add (g .γ) (tableAt 𝓕 g l b) ≡ zero))
+
+    abbrev pub ZeroFactor : Type 0
+    ZeroFactor = (i : ℕ) × (i < numCopied (g .circuit)) × SomeRow (λ b. (0 < b) × (permutationFactorAt 𝓕 g i b ≡ zero))
+
+    abbrev pub SomeZero : Type 0
+    SomeZero = ZeroInput ⊎ (ZeroTable ⊎ ZeroFactor)
+
+    -- "Let further every user constraint be zero on every row, the cells of each cycle equal, … and both cuts of the copied columns alike."
+    pub record Premises : Type 0 where
+      pub zero-constraints : ZeroConstraints
+      pub equal-cells : EqualCells
       pub cuts-alike : CutsAlike (g .circuit)
 
-    -- "Then, unless 15 is given, …"
+    -- "Then, unless 15 …": Item 2 of document 02: "unless 15 or 17 is given"
     pub record Conclusions : Type 0 where
       -- "every composed constraint is zero on every row"
       pub constraints-zero : (α : F) (y : ℕ → F)
@@ -120,7 +145,10 @@ module _ (𝓕 : Field) where
     -- demand 3, over any field
     pub record Demand3Of : Type 0 where
       pub refused-when : (allCovered 𝓕 g ≡ false) ↔ NoCounts
-      pub holds-when : Premises → allCovered 𝓕 g ≡ true → Conclusions
+      pub covered-when : (allCovered 𝓕 g ≡ true) ↔ HasCounts
+      pub some-zero-when : (zeroDenominator 𝓕 g ≡ true) ↔ SomeZero
+      pub none-zero-when : (zeroDenominator 𝓕 g ≡ false) ↔ NoneZero
+      pub holds-when : Premises → allCovered 𝓕 g ≡ true → zeroDenominator 𝓕 g ≡ false → Conclusions
 
 -- the claim behind demand 3 for every field into which words enter, so for pairs too
 abbrev pub DemandThreeOf : Type 1

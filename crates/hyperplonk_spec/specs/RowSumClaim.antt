@@ -16,7 +16,7 @@ use Rattle.hyperplonk_spec.specs.Meaning.{Each, Premises}
 use Rattle.hyperplonk_spec.specs.declared.RowSum.{RowSum}
 
 -- "The row sum is given that build's circuit words, witness and challenges, any α and any k values y of the field, and the column
--- and node words as written": a build whose questions 1 to 14 are yes, that does not give 15 and meets the premises of demand 3
+-- and node words as written": a build whose questions 1 to 14 are yes, that gives neither 15 nor 17 and meets the premises of demand 3
 pub record OfBuild (l : LentSum) : Type 0 where
   pub instances : List ℕ
   pub lent : List ℕ
@@ -26,6 +26,7 @@ pub record OfBuild (l : LentSum) : Type 0 where
   pub asked : checkBuild (lentBuild (l .circuit) instances (l .witness) lent columns-lent nodes-lent) ≡ 0
   pub premises : Premises 𝔾 (logOf (l .circuit) instances (l .witness) lent)
   pub not-15 : buildOf (lentBuild (l .circuit) instances (l .witness) lent columns-lent nodes-lent) .answer .number ≢ 15
+  pub not-17 : buildOf (lentBuild (l .circuit) instances (l .witness) lent columns-lent nodes-lent) .answer .number ≢ 17
   pub columns-are : l .columns ≡ take (columnWords (circuitOf (l .circuit))) (buildOf (lentBuild (l .circuit) instances (l .witness) lent columns-lent nodes-lent) .columns)
   pub nodes-are : l .nodes ≡ take (composedNodes (circuitOf (l .circuit)) * 4) (buildOf (lentBuild (l .circuit) instances (l .witness) lent columns-lent nodes-lent) .nodes)
   pub challenges-are : l .challenges ≡ lent ++ (α ∷ [])

@@ -11,7 +11,7 @@ use Rattle.preprocessor.specs.Permutation.{firstLabel}
 use Rattle.prover.specs.Log.{Log}
 use Rattle.prover.specs.Columns.{partAt}
 use Rattle.hyperplonk_spec.specs.Build.{logOf, buildOf, lentBuild}
-use Rattle.hyperplonk_spec.specs.Meaning.{Admitted, EqualCells, NoZeroFactor}
+use Rattle.hyperplonk_spec.specs.Meaning.{Admitted, EqualCells}
 use Rattle.hyperplonk_spec.specs.Copies.{copiedCell, σ, wholeRunning, Closed, paperZ}
 
 -- "The column buffer holds instance, permutation, compressed input and table per lookup, m, h, z, each 2^k words": the words of
@@ -40,8 +40,8 @@ module _ (g : Log 𝔾) (left : List ℕ) where
     -- it ends with the last word of the last z column times the factor of the last part there
     pub z-ends : (i t : ℕ) → suc i ≡ numZ c → suc (suc t) ≡ rowsOf c
         → 𝔾 .mul (el (zWord c left i (rowAt (c .k) (suc t)))) (partAt 𝔾 g (getD (zCut c) i []) (rowAt (c .k) (suc t))) ≡ wholeRunning 𝔾 g
-    -- and that is one, where the cells of each cycle are equal and no inverted factor is zero on a row but 0
-    pub closes : EqualCells 𝔾 g → NoZeroFactor 𝔾 g → Closed 𝔾 g
+    -- and that is one, where the cells of each cycle are equal: with 0 no inverted factor is zero on a row but 0
+    pub closes : EqualCells 𝔾 g → Closed 𝔾 g
 
 -- all that is supposed is that the number is 0
 abbrev pub RunningProduct : Type 0

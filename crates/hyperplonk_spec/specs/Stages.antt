@@ -9,6 +9,7 @@ use Rattle.lists.specs.Lists.{tabulate, allOf, writePrefix, question, firstNo}
 use Rattle.multilinear.specs.EqXY.{eqAt}
 use Rattle.backend.specs.Questions.{goodK, small}
 use Rattle.prover.specs.Lookup.{multiplicity, covered, hAt}
+use Rattle.prover.specs.Denominators.{someZero, lookupDenominators}
 pub use Rattle.prover.specs.Words.{elements}
 
 -- "return the number only, and treat their one output column as above"
@@ -36,11 +37,14 @@ mOf k input table out =
     let answer : Answer = cond (covered 𝔾 (2 ^ k) (elements input) (elements table)) yes-15 no-15 in
     cond (eqb number 0) answer (record { number = number; out = out })
 
+-- Item 2 of document 02: "the h stage called alone meets it last": 17, if a denominator is zero, and the column becomes 0
 unfoldable pub hOf : ℕ → List ℕ → List ℕ → List ℕ → ℕ → List ℕ → Answer
 hOf k input table m γ out =
     let number : ℕ = checkStage k (λ k. fits input k && fits table k && fits m k) (input ++ (table ++ (m ++ (γ ∷ [])))) out in
     let h : List ℕ = tabulate (λ b. val (hAt 𝔾 (el γ) (elements input) (elements table) (elements m) b)) (2 ^ k) in
-    let answer : Answer = record { number = 0; out = writePrefix h out } in
+    let yes-17 : Answer = record { number = 0; out = writePrefix h out } in
+    let no-17 : Answer = record { number = 17; out = writePrefix (replicate (2 ^ k) 0) out } in
+    let answer : Answer = cond (someZero 𝔾 (lookupDenominators 𝔾 (2 ^ k) (el γ) (elements input) (elements table))) no-17 yes-17 in
     cond (eqb number 0) answer (record { number = number; out = out })
 
 -- "`eq_xy` takes k and y of k values"
