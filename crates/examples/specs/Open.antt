@@ -119,6 +119,7 @@ use Rattle.prover.specs.Columns.{
   writtenPolys,
   composedEnvironment,
 }
+use Rattle.prover.specs.Denominators.{someZero, lookupDenominators, factorDenominators, denominatorsOf, zeroDenominator}
 use Rattle.hyperplonk_spec.specs.Build.{
   logOf,
   wordsOf,
@@ -138,5 +139,5 @@ use Rattle.hyperplonk_spec.specs.RowSum.{q16, lentPolys, rowSumEnvironment, sum
 use Rattle.hyperplonk_spec.specs.Sizes.{composedVisits, sizesOf}
 
 unfoldable pub everything : ℕ
-unfolding 𝔾 el val of decideB withBit powerWithin power product primitives xInvs primitive xInv stepWith backWith nextRow prevRow iter rowAt run order seek placeOf rotated modZ lagrangeRow upTo tabulate allOf anyOf filter total maximum concat split cut indexOf lastWhere sameWords firstNo running evaluate degreeOps degree queryOps usedQuery challengeOps exprsOf distributePowers productFrom productOf valueOps valueAt kindOf nodeOf itemOf guard exprAt exprOf itemsOf body flat bodyOf statedOf circuitOf numWitness numChallenges numPoly copiedIn copied lookupConstraint lookupConstraints leastD maxDegree q1 q2 q3 follow q4 q3-bodies q4-bodies q5 q6 names q7 q8 q9 q10 cyclesGood q11 laidOut nodesInRange circuitQuestions expressions wellFormed eqAt numZ paramsOf zCut identityTree permutationTree nextTree partTree startTree permutationTrees constraintTrees lookupTreeOf zeroTree composeTree outerTrees composedWords composedNodes lastCell beforeFrom before source firstLabel label lastEqual multiplicity covered hAt Turns pow powerSum instanceAt instancePolys preprocessPolys witnessPolys givenPolys userEnvironment compressedAt inputAt tableAt countAt mAt lookupHAt allCovered permutationAt copiedAt identityFactorAt permutationFactorAt ratioAt partAt stepAt runningAt zAtPlace zAt permutationPolys mPolys hPolys zPolys compressedPolys allPolys writtenPolys composedEnvironment logOf wordsOf columnWords q12 q13 q14 buildQuestions checkBuild zeroed made buildLog buildOf checkStage mOf hOf eqOf q16 lentPolys rowSumEnvironment sumOf sumQuestions checkSum rowSumOf visited unitOps visits composedVisits sizesOf decide ℕ-discrete
+unfolding 𝔾 el val of decideB withBit powerWithin power product primitives xInvs primitive xInv stepWith backWith nextRow prevRow iter rowAt run order seek placeOf rotated modZ lagrangeRow upTo tabulate allOf anyOf filter total maximum concat split cut indexOf lastWhere sameWords firstNo running evaluate degreeOps degree queryOps usedQuery challengeOps exprsOf distributePowers productFrom productOf valueOps valueAt kindOf nodeOf itemOf guard exprAt exprOf itemsOf body flat bodyOf statedOf circuitOf numWitness numChallenges numPoly copiedIn copied lookupConstraint lookupConstraints leastD maxDegree q1 q2 q3 follow q4 q3-bodies q4-bodies q5 q6 names q7 q8 q9 q10 cyclesGood q11 laidOut nodesInRange circuitQuestions expressions wellFormed eqAt numZ paramsOf zCut identityTree permutationTree nextTree partTree startTree permutationTrees constraintTrees lookupTreeOf zeroTree composeTree outerTrees composedWords composedNodes lastCell beforeFrom before source firstLabel label lastEqual multiplicity covered hAt Turns pow powerSum instanceAt instancePolys preprocessPolys witnessPolys givenPolys userEnvironment compressedAt inputAt tableAt countAt mAt lookupHAt allCovered someZero lookupDenominators factorDenominators denominatorsOf zeroDenominator permutationAt copiedAt identityFactorAt permutationFactorAt ratioAt partAt stepAt runningAt zAtPlace zAt permutationPolys mPolys hPolys zPolys compressedPolys allPolys writtenPolys composedEnvironment logOf wordsOf columnWords q12 q13 q14 buildQuestions checkBuild zeroed made buildLog buildOf checkStage mOf hOf eqOf q16 lentPolys rowSumEnvironment sumOf sumQuestions checkSum rowSumOf visited unitOps visits composedVisits sizesOf decide ℕ-discrete
 everything = 0

@@ -80,7 +80,7 @@ module _ (ws witness columns nodes challenges y : List ℕ) where
         zero = λ b.
             e
             ∙ same-lent columns _ nodes _ challenges _ (b .columns-are) (b .nodes-are) (b .challenges-are)
-            ∙ demand-three ws (b .instances) witness (b .lent) (b .columns-lent) (b .nodes-lent) (b .asked) .otherwise (b .premises) (b .not-15)
+            ∙ demand-three ws (b .instances) witness (b .lent) (b .columns-lent) (b .nodes-lent) (b .asked) .otherwise (b .premises) (b .not-15) (b .not-17)
             .row-sum (b .α) y (b .α-small) (b .y-length) (b .y-small);
       }
 

@@ -4,7 +4,7 @@ use mathlib.Core.Path.{_≡_, refl, sym, ap, _∙_}
 use mathlib.Core.Logic.{_≢_}
 use mathlib.Core.Bool.{Bool, true, not, _&&_}
 use mathlib.Core.List.{List, [], _∷_, _++_}
-use Prim.Native.Nat.{ℕ, _<_}
+use Prim.Native.Nat.{ℕ, suc, _<_}
 use native.Mathlib.Omega.{arith}
 use lib.ListN.{getD, replicate}
 use lib.Dec.{eqb, ltb}
@@ -13,10 +13,10 @@ use Rattle.field.specs.Field.{𝔾, val}
 use Rattle.lists.specs.Lists.{allOf, range, tabulate}
 use Rattle.expression.specs.Expr.{Expr}
 use Rattle.expression.specs.Value.{valueAt}
-use Rattle.backend.specs.Circuit.{Pair, rowsOf, numCopied, numLookups}
+use Rattle.backend.specs.Circuit.{Pair, rowsOf, numLookups}
 use Rattle.preprocessor.specs.Compose.{CutsAlike, numZ}
 use Rattle.prover.specs.Log.{Log}
-use Rattle.prover.specs.Columns.{userEnvironment, inputAt, tableAt, lookupHAt, permutationFactorAt, zAt}
+use Rattle.prover.specs.Columns.{userEnvironment, lookupHAt, zAt}
 use Rattle.hyperplonk_spec.specs.Build.{Output, logOf, checkBuild, buildOf, lentBuild}
 use Rattle.hyperplonk_spec.specs.Meaning.{Each, Premises, cellValue, noCell}
 use Rattle.hyperplonk_spec.specs.Demand.{Succeeds}
@@ -117,28 +117,6 @@ cells : allOf (λ cycle. allOf (λ x. allOf (λ y. same (cellValue 𝔾 log x) (
 unfolding everything cellValue
 cells = refl
 
--- what is inverted: γ + input, γ + table, and the permutation factors
-abbrev input-at : List Pair → ℕ → 𝔾 .F
-input-at l b = 𝔾 .add (log .γ) (inputAt 𝔾 log l b)
-
-inputs : allOf (λ l. allOf (λ b. not (same (input-at l b) (𝔾 .zero))) rows) (log .circuit .lookups) ≡ true
-unfolding everything
-inputs = refl
-
-abbrev table-at : List Pair → ℕ → 𝔾 .F
-table-at l b = 𝔾 .add (log .γ) (tableAt 𝔾 log l b)
-
-tables : allOf (λ l. allOf (λ b. not (same (table-at l b) (𝔾 .zero))) rows) (log .circuit .lookups) ≡ true
-unfolding everything
-tables = refl
-
-abbrev factor-at : ℕ → ℕ → 𝔾 .F
-factor-at i b = permutationFactorAt 𝔾 log i b
-
-factors : allOf (λ i. allOf (λ b. not (same (factor-at i b) (𝔾 .zero))) rows) (range (numCopied (log .circuit))) ≡ true
-unfolding everything
-factors = refl
-
 cuts : CutsAlike (log .circuit)
 unfolding everything
 cuts = refl
@@ -148,9 +126,6 @@ premises =
     record {
       zero-constraints = each _ _ _ _ (λ e. each-below _ _ _ (λ b. agree (valued e b) (𝔾 .zero))) zeros;
       equal-cells = each _ _ _ _ (λ cycle. each noCell _ _ _ (λ x. each noCell _ _ _ (λ y. agree (cellValue 𝔾 log x) (cellValue 𝔾 log y)))) cells;
-      input-denominators = each _ _ _ _ (λ l. each-below _ _ _ (λ b. apart (input-at l b) (𝔾 .zero))) inputs;
-      table-denominators = each _ _ _ _ (λ l. each-below _ _ _ (λ b. apart (table-at l b) (𝔾 .zero))) tables;
-      factor-denominators = each-below _ _ _ (λ i. each-below _ _ _ (λ b e _. apart (factor-at i b) (𝔾 .zero) e)) factors;
       cuts-alike = cuts;
     }
 
@@ -190,25 +165,24 @@ good =
 
 -- ---- the building call
 
--- questions 1 to 14 are yes, and 15 is not given
+-- questions 1 to 14 are yes, and neither 15 nor 17 is given
 asked : checkBuild (lentBuild circuit sheet witness challenges (replicate 80 9) (replicate 548 9)) ≡ 0
 unfolding everything
 asked = refl
 
-answered : build .answer .number ≢ 15
-unfolding everything
-answered e = absurd (bad e)
-  where
-    bad : _≡_ {A = ℕ} 0 15 → ⊥
-    bad e = omega arith
-
--- so for every α and y the row sum is 0, by demand 3
-pub succeeds : Succeeds circuit sheet witness challenges (replicate 80 9) (replicate 548 9) build
-succeeds = demand-three circuit sheet witness challenges (replicate 80 9) (replicate 548 9) asked .otherwise premises answered
-
 number-zero : build .answer .number ≡ 0
 unfolding everything
 number-zero = refl
+
+answered : (n : ℕ) → n ≢ 0 → build .answer .number ≢ n
+answered n h e = h (sym e ∙ number-zero)
+
+not-0 : (n m : ℕ) → n ≡ suc m → n ≢ 0
+not-0 n m e z = omega arith
+
+-- so for every α and y the row sum is 0, by demand 3
+pub succeeds : Succeeds circuit sheet witness challenges (replicate 80 9) (replicate 548 9) build
+succeeds = demand-three circuit sheet witness challenges (replicate 80 9) (replicate 548 9) asked .otherwise premises (answered 15 (not-0 15 14 refl)) (answered 17 (not-0 17 16 refl))
 
 -- the log is not turned away, neither by a number nor by the sum
 pub passes : Passes circuit sheet witness challenges (replicate 80 9) (replicate 548 9)
