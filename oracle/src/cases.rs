@@ -61,10 +61,10 @@ pub fn with_sizes(cases: impl Iterator<Item = Case>) -> impl Iterator<Item = Cas
     })
 }
 
-/// The row sum of a log that was built: its own columns, or any.
+/// The row sum of a log that is built: its own columns, or any. None where it is refused, by 15 or 17.
 pub fn row_sum_case(log: &Log, rng: &mut Rng) -> Option<Case> {
     let c = circuit(log);
-    let (built, zero) = columns(&c, &log.instance, &log.witness, &log.challenges).ok()?;
+    let built = columns(&c, &log.instance, &log.witness, &log.challenges).ok()?;
     let mut words = built.words();
     let altered = rng.once_in(3);
     if altered {
@@ -76,7 +76,7 @@ pub fn row_sum_case(log: &Log, rng: &mut Rng) -> Option<Case> {
     let y = (0..c.k).map(|_| value(rng, wide)).collect();
     let case =
         answer("row_sum", vec![log.sections.words(), log.witness.clone(), words, composed_words(&c), challenges, y]);
-    if log.meets && !altered && !zero && c.cuts_are_alike() {
+    if log.meets && !altered && c.cuts_are_alike() {
         assert_eq!(case.returned, [0, 0], "demand 3");
     }
     Some(case)
@@ -153,6 +153,42 @@ fn refused_row_sum(log: Log, rng: &mut Rng) -> Option<Case> {
     Some(case)
 }
 
+/// h alone, on columns written out: the number, k, input, table, m, γ and the buffer's words. Each zero denominator by
+/// itself, with the questions before 17 beside it.
+pub fn h_alone() -> Vec<Case> {
+    let (input, table, m) = ([7, 7, 5, 9], [5, 7, 7, 9], [1, 0, 2, 1]);
+    let of = |number: u64, k: u64, [input, table, m]: [&[u64]; 3], gamma: u64, room: usize| {
+        let out = (10..).take(room).collect();
+        let lent = vec![vec![k], input.to_vec(), table.to_vec(), m.to_vec(), vec![gamma], out];
+        let case = answer("lookup_h_poly", lent);
+        assert_eq!(case.returned, [number], "{case:?}");
+        case
+    };
+    let lookup = |number: u64, gamma: u64, room: usize| of(number, 2, [&input, &table, &m], gamma, room);
+    vec![
+        lookup(0, 1, 4),
+        lookup(0, P - 6, 5),
+        lookup(17, P - 5, 4),
+        lookup(17, P - 7, 6),
+        lookup(17, P - 9, 4),
+        // Of the input alone and of the table alone, on the first row and on the last; the table's where m is 0.
+        of(17, 2, [&[6, 7, 5, 9], &table, &m], P - 6, 4),
+        of(17, 2, [&[7, 7, 5, 6], &table, &m], P - 6, 4),
+        of(17, 2, [&input, &[6, 7, 7, 9], &[0, 0, 2, 1]], P - 6, 4),
+        of(17, 2, [&input, &[5, 7, 7, 6], &[1, 0, 2, 0]], P - 6, 4),
+        of(17, 1, [&[0, 1], &[1, 1], &[0, 0]], 0, 2),
+        // Earlier questions.
+        lookup(14, P - 5, 3),
+        lookup(14, P - 5, 0),
+        lookup(13, P, 4),
+        of(13, 2, [&input, &table, &[1, 0, P, 1]], P - 5, 4),
+        of(13, 1, [&[P, 1], &[1, 1], &[0, 0]], 0, 2),
+        of(12, 2, [&input, &table, &m[..3]], P - 5, 4),
+        of(2, 0, [&input, &table, &m], P - 5, 4),
+        of(2, 11, [&input, &table, &m], P - 5, 4),
+    ]
+}
+
 /// A stage called alone, now and then refused.
 fn stage_case(name: &str, rng: &mut Rng, small: bool) -> Case {
     let k = if !small && rng.once_in(20) { rng.range(6, 10) } else { rng.range(1, if small { 3 } else { 5 }) };
@@ -165,7 +201,7 @@ fn stage_case(name: &str, rng: &mut Rng, small: bool) -> Case {
         input = column(rng);
     }
     let m = if rng.once_in(2) { (0..rows).map(|_| rng.below(3) as u64).collect() } else { column(rng) };
-    let gamma = if rng.once_in(3) { neg(rng.pick(&table)) } else { value(rng, wide) };
+    let gamma = if rng.once_in(4) { neg(rng.pick(&table)) } else { value(rng, true) };
     let y = (0..k).map(|_| value(rng, wide)).collect();
     let out = length(rng, rows);
     let mut lent = match name {
@@ -256,15 +292,16 @@ pub fn refused_by(way: usize, fits: impl Fn(&Case, u64) -> bool) -> Option<Case>
 }
 
 /// The demo and the limits, built, and summed where they are accepted; every way
-/// to be refused.
+/// to be refused; h alone.
 pub fn fixed() -> Vec<Case> {
     let rng = &mut Rng::new(4);
     let mut out = vec![];
     for (number, log) in [(0, demo())].into_iter().chain(limits::all()) {
-        if number == 0 {
-            out.push(build_case(&log, rng));
+        if number == 0 || number == 17 {
+            let case = build_case(&log, rng);
+            assert_eq!(case.returned[0], number, "{log:?}");
+            out.push(case);
             out.extend(row_sum_case(&log, rng));
-            assert_eq!(out[out.len() - 2].returned[0], 0);
         } else {
             let case = answer("build", build_lent(&log, unwritten(rng, 40), unwritten(rng, 40)));
             assert_eq!(case.returned[0], number, "{:?}", log.sections);
@@ -272,5 +309,6 @@ pub fn fixed() -> Vec<Case> {
         }
     }
     out.extend((0..WAYS.len()).map(|way| refused_by(way, |_, _| true).expect("a log for each way")));
+    out.extend(h_alone());
     out
 }

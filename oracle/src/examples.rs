@@ -4,9 +4,11 @@ use super::super::{
     preprocessor::permutation_polys,
     prover::{lookup_compressed_polys, lookup_m_poly},
 };
+use super::cases::build_case;
+use super::generate;
 use super::given::{answer, build, f, words, Expr, Log, Poly};
 use super::limits::largest;
-use super::model::{self, m_column, next, order, prev, Tree, P};
+use super::model::{self, h_column, m_column, next, order, prev, Tree, P};
 use super::questions::read;
 use super::sections::*;
 use crate::util::{
@@ -42,6 +44,49 @@ pub fn sized() -> Vec<(Sections, [u64; 3])> {
     };
     sized(base(2, [1, 1], 0), &lists, [0, 18, 13]);
     out
+}
+
+/// Small logs about zero denominators, each with its number: table 5, 7, 7, 9 by γ and an input; a cell by its witness;
+/// a lookup whose input is copied, with an identity factor that is zero.
+pub fn denominators() -> Vec<(u64, generate::Log)> {
+    let base = |k: u64, table: &[u64]| {
+        let mut s = Sections { k, ..Default::default() };
+        s.bodies[ROUNDS] = vec![1, 0];
+        s.bodies[PREPROCESS] = table.to_vec();
+        s
+    };
+    let log = |sections: Sections, witness: &[u64], challenges: [u64; 2]| generate::Log {
+        sections,
+        instance: vec![],
+        witness: witness.to_vec(),
+        challenges: challenges.to_vec(),
+        meets: false,
+    };
+    let listed = |witness: [u64; 4], cycle: &[(u64, u64)], challenges: [u64; 2]| {
+        let mut s = base(2, &[5, 7, 7, 9]);
+        s.lookup(&[(Tree::Polynomial(1, 0), Tree::Polynomial(0, 0))]);
+        if !cycle.is_empty() {
+            s.cycle(cycle);
+        }
+        log(s, &witness, challenges)
+    };
+    let cell = |witness: [u64; 2]| {
+        let mut s = base(1, &[]);
+        s.cycle(&[(0, 1)]);
+        log(s, &witness, [2, 1])
+    };
+    let inputs = [7, 7, 5, 9];
+    vec![
+        (17, listed(inputs, &[], [10, P - 5])),
+        (17, listed(inputs, &[], [10, P - 7])),
+        (17, listed(inputs, &[], [10, P - 9])),
+        (0, listed(inputs, &[], [10, P - 6])),
+        (0, listed(inputs, &[], [10, 1])),
+        (15, listed([7, 6, 5, 9], &[], [10, P - 5])),
+        (0, cell([P - 1, 4])),
+        (17, cell([0, P - 3])),
+        (0, listed(inputs, &[(1, 1), (1, 2)], [3, P - 10])),
+    ]
 }
 
 pub fn examples() {
@@ -91,6 +136,22 @@ pub fn examples() {
     let c = read(&s.words()).unwrap();
     assert_eq!((c.copied().len(), c.d(), c.parts(), c.cuts_are_alike()), (5, 5, 2, false));
 
+    // Zero denominators. In the Rust 1/0 is 0, so only what is built is held to it.
+    let h = [768614336225607680, 16140901060737761281, 1537228672451215360, 0];
+    assert_eq!(h_column(&[7, 7, 5, 9], &table, &[1, 0, 2, 1], 1), Ok(h.to_vec()));
+    let cases = denominators().into_iter().map(|(number, log)| (number, build_case(&log, &mut Rng::narrow(1))));
+    let cases = cases.inspect(|(number, case)| assert_eq!(case.returned[0], *number)).collect_vec();
+    let built = |i: usize, at: usize, n: usize| &cases[i].1.after[0][at..at + n];
+    assert_eq!(built(4, 12, 4), h);
+    assert_eq!(built(6, 2, 2), [0, 1]);
+    assert_eq!(built(8, 20, 4), [0, 1, 0, 0]);
+    for (number, case) in cases.iter().filter(|(number, _)| *number != 0) {
+        let needed = answer("sizes", vec![case.lent[0].clone()]).returned[1] as usize;
+        assert_eq!(case.returned, [*number, 0, 0, 0]);
+        assert!(case.after[0][..needed].iter().all(|w| *w == 0) && case.after[1] == case.lent[5]);
+        assert_eq!(case.after[0][needed..], case.lent[4][needed..]);
+    }
+
     let largest = (largest().sections, [188416, 4190, 3844]);
     for (s, [columns, nodes, visits]) in sized().into_iter().chain([largest]) {
         assert_eq!(answer("sizes", vec![s.words()]).returned, [0, columns, nodes, visits]);
@@ -106,6 +167,6 @@ pub fn examples() {
     }
     assert!(values.iter().all(|a| *a == 0 || model::mul(*a, F::from(*a).invert().unwrap().value()) == 1));
     println!(
-        "document 01's examples hold, and the sizes; the field is Z/p; halving for k 0 to 31, full order for k 1 to 20"
+        "document 01's examples hold, and the sizes and zero denominators; the field is Z/p; halving for k 0 to 31, full order for k 1 to 20"
     );
 }

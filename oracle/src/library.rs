@@ -2,8 +2,8 @@
 //! a page that can't be read, once on its left and once on its right; shared ones
 //! can't be written. `Stub` puts the model in the library's place, whole or with
 //! one fault, to try the comparison itself.
-use super::calls::{self, call, Case, CALLS};
-use super::model::{compose, Tree};
+use super::calls::{self, call, lent_right, Case, CALLS};
+use super::model::{compose, is_denominator, log_zeros, lookup_zeros, Factor, Tree, Zero};
 use super::questions::read;
 use std::{
     ffi::c_void,
@@ -225,7 +225,7 @@ pub fn catch_faults() {
 
 // ---- the model in the library's place
 
-pub const FAULTS: [&str; 14] = [
+pub const FAULTS: [&str; 26] = [
     "none",
     "one word of the first buffer",
     "a word past those written",
@@ -240,7 +240,29 @@ pub const FAULTS: [&str; 14] = [
     "sizes: the words of one column too few",
     "sizes: a refusal keeps its numbers",
     "sizes: question 11 is not asked",
+    "17 leaves its buffer as it was",
+    "17 makes the nodes 0",
+    "17 keeps its numbers",
+    "17 is not given",
+    "17 before 15",
+    "17: row 0 of a copied column is asked",
+    "17: identity factors are asked",
+    "17: permutation factors are not asked",
+    "17: the table is not asked",
+    "17: row 0 of a lookup is not asked",
+    "lookup_h_poly: 17 before 14",
+    "lookup_h_poly: 17: the input is not asked",
 ];
+
+/// The factors of a build or of h alone that are zero, where their words pass 13 and, alone, 12 and 13.
+fn zeros(name: &str, lent: &[Vec<u64>]) -> Vec<Zero> {
+    let slices: Vec<&[u64]> = lent.iter().map(|s| &s[..]).collect();
+    match name {
+        "build" => lent_right(&slices).map_or(vec![], |c| log_zeros(&c, slices[1], slices[2], slices[3])),
+        "lookup_h_poly" => lookup_zeros(slices[1], slices[2], slices[4][0]),
+        _ => vec![],
+    }
+}
 
 /// The nodes visited if a list's base were for each of its expressions.
 fn visits_of_bases(t: &Tree) -> u64 {
@@ -250,6 +272,29 @@ fn visits_of_bases(t: &Tree) -> u64 {
         Tree::Sum(a, b) | Tree::Product(a, b) => of(a) + of(b),
         Tree::List(list, base) => list.iter().map(|e| of(e) + of(base)).sum(),
         _ => 0,
+    }
+}
+
+/// The number of a call that asks for other zeros than document 01's denominators, or asks at another time.
+fn numbered(fault: u64, name: &str, lent: &[Vec<u64>], number: u64) -> u64 {
+    let asked = |zero: &Zero| match fault {
+        17 => false,
+        19 => is_denominator(zero) || zero.0 == Factor::Permutation,
+        20 => is_denominator(zero) || (zero.0 == Factor::Identity && zero.1 > 0),
+        21 => is_denominator(zero) && zero.0 != Factor::Permutation,
+        22 => is_denominator(zero) && zero.0 != Factor::Table,
+        23 => is_denominator(zero) && (zero.1 > 0 || zero.0 == Factor::Permutation),
+        25 => is_denominator(zero) && !(name == "lookup_h_poly" && zero.0 == Factor::Input),
+        _ => is_denominator(zero),
+    };
+    let early = (fault == 18 && number == 15) || (fault == 24 && number == 14 && name == "lookup_h_poly");
+    if number != 0 && number != 17 && !early {
+        return number;
+    }
+    match zeros(name, lent).iter().any(asked) {
+        true => 17,
+        false if early => number,
+        false => 0,
     }
 }
 
@@ -279,7 +324,7 @@ fn stub(name: &str, a: &[usize], library: Library) -> u64 {
         1 if number == 0 => drop(bump(0)),
         2 if number == 0 => drop(bump(needed)),
         3 if number == 15 => case.after = case.lent[kind.buffers..].to_vec(),
-        4 if number != 0 && number != 15 => drop(bump(0)),
+        4 if ![0, 15, 17].contains(&number) => drop(bump(0)),
         5 => case.returned[last] ^= 1,
         6 if name == "row_sum" => case.returned[1] = 0,
         7 => {
@@ -287,6 +332,10 @@ fn stub(name: &str, a: &[usize], library: Library) -> u64 {
             drop(unsafe { ptr::read_volatile((a[first] as *const u64).add(a[first + 1])) })
         }
         8 => unsafe { ptr::write_volatile((places[kind.lent - 1] as *mut u64).sub(1), 0) },
+        14 if number == 17 => case.after = case.lent[kind.buffers..].to_vec(),
+        15 if number == 17 && name == "build" => case.after[1].fill(0),
+        16 if number == 17 && name == "build" => case.returned[1..].copy_from_slice(&[4, 34, 1]),
+        17.. => case.returned[0] = numbered(fault, name, &case.lent, number),
         _ if name != "sizes" => {}
         9 if number == 0 => case.returned[3] = case.returned[2],
         10 if number == 0 => case.returned[3] = visits_of_bases(&compose(&read(&case.lent[0]).unwrap())),

@@ -1,6 +1,6 @@
 //! Every limit of document 01, at and one past, as logs with the number known.
 use super::generate::Log;
-use super::model::{Tree, P};
+use super::model::{add, mul, neg, Tree, P};
 use super::refuse::of_degree;
 use super::sections::*;
 
@@ -52,6 +52,15 @@ fn value(place: usize, word: u64) -> Log {
         1 => log.witness[1] = word,
         _ => log.challenges[1] = word,
     }
+    log
+}
+
+/// One copied column, its labels 0, 1, …; or, where `turned`, 0, 2, 1, 3. On this row value + β × row + γ is zero.
+fn zero_factor(row: u64, turned: bool) -> Log {
+    let mut log = with(2, |s| s.cycle(if turned { &[(0, 1), (0, 2)] } else { &[(0, 1)] }));
+    let [beta, gamma] = log.challenges[..] else { unreachable!() };
+    log.witness[row as usize] = neg(add(gamma, mul(beta, row)));
+    log.meets = !turned;
     log
 }
 
@@ -140,6 +149,11 @@ pub fn all() -> Vec<(u64, Log)> {
     pair(11, &|n| with(3, |s| s.cycle(&[(0, n)])), 7);
     pair(11, &|n| with(3, |s| s.cycle(&[(n, 1)])), 0);
     (0..3).for_each(|place| pair(13, &|n| value(place, n), P - 1));
+    // A zero factor at row 0 is no denominator; nor is an identity factor that is zero where the permutation's is not.
+    pair(17, &|row| zero_factor(row, false), 0);
+    out.push((17, zero_factor(3, false)));
+    (1..3).for_each(|row| out.push((0, zero_factor(row, true))));
+    out.push((17, zero_factor(3, true)));
     out.push((3, with(1, |s| s.bodies[ROUNDS] = vec![])));
     out.push((11, with(3, |s| s.cycle(&[(0, 0)]))));
     out.push((0, with(3, |s| s.cycle(&[(0, 1)]))));

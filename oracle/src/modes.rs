@@ -52,10 +52,28 @@ pub fn main() {
     }
 }
 
+/// How many cases have a zero denominator: their answers are the model's alone.
+#[derive(Default)]
+struct LeftOut(BTreeMap<&'static str, u64>);
+
+impl LeftOut {
+    fn note(&mut self, case: &Case) {
+        *self.0.entry(case.call).or_insert(0) += (case.returned[0] == 17) as u64;
+    }
+    fn tell(&self) {
+        let of = |call: &str| self.0.get(call).unwrap_or(&0);
+        println!(
+            "held to the model and not to the Rust, a denominator being zero: {} builds, {} of h alone",
+            of("build"),
+            of("lookup_h_poly")
+        );
+    }
+}
+
 /// Runs the cases through the library, and after sizes the builds that these allow or do not; ends with
 /// 'N compared, M differ'.
 fn compare(library: Library, cases: impl Iterator<Item = Case>) {
-    let (mut compared, mut differ, mut skipped) = (0, 0, BTreeMap::new());
+    let (mut compared, mut differ, mut skipped, mut left_out) = (0, 0, BTreeMap::new(), LeftOut::default());
     if let Library::Stub(fault) = library {
         println!("the model stands in the library's place; fault: {}", FAULTS[fault as usize]);
     }
@@ -67,6 +85,7 @@ fn compare(library: Library, cases: impl Iterator<Item = Case>) {
             continue;
         }
         compared += 1;
+        left_out.note(&case);
         let builds = if library.has("build") { sized_builds(&case) } else { vec![] };
         let differs = |case: Case| library.differs(&case).map(|what| (case, what));
         if let Some((case, what)) = [case].into_iter().chain(builds).find_map(differs) {
@@ -85,6 +104,7 @@ fn compare(library: Library, cases: impl Iterator<Item = Case>) {
         let cases = skipped.get(call.name).unwrap_or(&0);
         println!("skipped: {} ({cases} cases), the library has no hyperplonk_{}", call.name, call.name);
     }
+    left_out.tell();
     println!("{compared} compared, {differ} differ");
     exit((differ > 0) as i32);
 }
@@ -92,8 +112,9 @@ fn compare(library: Library, cases: impl Iterator<Item = Case>) {
 /// What the seeded cases are made of.
 fn survey(cases: impl Iterator<Item = Case>) {
     let mut numbers = BTreeMap::new();
-    let mut seen = BTreeMap::new();
+    let (mut seen, mut left_out) = (BTreeMap::new(), LeftOut::default());
     for case in cases {
+        left_out.note(&case);
         *numbers.entry((case.call, case.returned[0])).or_insert(0) += 1;
         stored::features(&case).into_iter().for_each(|f| *seen.entry(f).or_insert(0) += 1);
     }
@@ -101,5 +122,6 @@ fn survey(cases: impl Iterator<Item = Case>) {
         let of = numbers.iter().filter(|n| n.0 .0 == call.name);
         println!("{}: {}", call.name, of.map(|(n, count)| format!("{}×{count}", n.1)).collect::<Vec<_>>().join(" "));
     }
+    left_out.tell();
     seen.into_iter().for_each(|(f, n)| println!("{n:>6} {f}"));
 }

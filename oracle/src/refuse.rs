@@ -1,7 +1,8 @@
 //! Refused circuits: an accepted log, broken in one way, the number known by
-//! construction. `WAYS` has every question from 1 to 15, with sums that would wrap.
+//! construction. `WAYS` has every question from 1 to 15 and 17, with sums that would wrap.
+use super::calls::lent_right;
 use super::generate::Log;
-use super::model::{Tree, P};
+use super::model::{add, columns, mul, neg, prev, sub, Tree, P};
 use super::sections::*;
 
 /// A log on its way to the call. Words past the sections are edited at the end.
@@ -112,11 +113,74 @@ fn room(s: &Sections) -> bool {
     s.count(NODES) <= 1024 && s.count(CONSTRAINTS) <= 32 && s.count(WIDTHS) <= 8
 }
 
+/// Is the log built as it stands? Then a zero denominator is one that a way brings.
+fn is_built(log: &Log) -> bool {
+    let words = log.sections.words();
+    let lent = [&words[..], &log.instance, &log.witness, &log.challenges];
+    lent_right(&lent).and_then(|c| columns(&c, lent[1], lent[2], lent[3])).is_ok()
+}
+
+/// −γ at one place of the row order, on every other row 1 − γ.
+fn zero_at(place: i64, gamma: u64) -> Tree {
+    let less = Tree::Negated(Tree::Lagrange(place).into());
+    Tree::Sum(Tree::Constant(sub(1, gamma)).into(), less.into())
+}
+fn nowhere_zero(gamma: u64) -> Tree {
+    Tree::Constant(sub(1, gamma))
+}
+/// γ + table is zero at this place. The input is never −γ, so the count there is 0.
+fn table_at(place: i64, gamma: u64) -> (Tree, Tree) {
+    (nowhere_zero(gamma), zero_at(place, gamma))
+}
+/// An input that is in no table row.
+const UNLISTED: (Tree, Tree) = (Tree::Constant(1), Tree::Constant(2));
+
+/// Lookups of one pair each, before all others and after them.
+fn lookups(b: &mut Broken, before: Option<(Tree, Tree)>, after: Option<(Tree, Tree)>) -> bool {
+    let s = &mut b.log.sections;
+    after.iter().for_each(|pair| s.lookup(&[pair.clone()]));
+    for (input, table) in before {
+        let roots = [s.node(&input), s.node(&table)];
+        s.bodies[PAIRS].splice(0..0, roots);
+        s.bodies[WIDTHS].insert(0, 1);
+    }
+    room(s)
+}
+
+/// A further witness column, the last, with a cycle over these rows of it. Its permutation factor is zero on one row,
+/// whose label is its own or, in the cycle, that of the cell before.
+fn zero_factor(b: &mut Broken, cycle: &[u64], row: u64, rng: &mut Rng) -> bool {
+    let Log { sections: s, witness, challenges, .. } = &mut b.log;
+    let [.., beta, gamma] = challenges[..] else { return false };
+    let Some(last) = s.bodies[ROUNDS].len().checked_sub(2) else { return false };
+    s.bodies[ROUNDS][last] += 1;
+    let p = s.polys() - 1;
+    let mut copied: Vec<u64> = s.bodies[CELLS].iter().step_by(2).copied().collect();
+    copied.sort();
+    copied.dedup();
+    s.cycle(&cycle.iter().map(|row| (p, *row)).collect::<Vec<_>>());
+    let before = cycle.iter().position(|r| *r == row).map(|i| cycle[(i + cycle.len() - 1) % cycle.len()]);
+    let label = ((copied.len() as u64) << s.k) + before.unwrap_or(row);
+    let mut column: Vec<u64> = (0..1 << s.k).map(|_| rng.word() % P).collect();
+    column[row as usize] = neg(add(gamma, mul(beta, label)));
+    witness.extend(column);
+    s.bodies[ROUNDS].iter().step_by(2).sum::<u64>() <= 32
+}
+/// The row at the last place of the order, from which `next` leads to 1.
+fn last_row(k: u64) -> u64 {
+    prev(k as usize, 1) as u64
+}
+
 /// A constraint of these nodes takes the log to the number given beside the way.
 macro_rules! node { ($($node:expr),+) => { |b, _| constraint_of(&mut b.log.sections, &[$($node),+]) } }
 macro_rules! tree { ($tree:expr) => { |b, _| { b.log.sections.constraint(&$tree); room(&b.log.sections) } } }
 macro_rules! rounds { ($($word:expr),+) => { |b, _| { b.log.sections.bodies[ROUNDS] = vec![$($word),+]; true } } }
 macro_rules! edit { ($edit:expr) => { |b, _| { b.edits.push($edit); true } } }
+/// Of a log that is built: γ by its name, and what then makes a denominator zero.
+macro_rules! zero { (|$b:ident, $gamma:ident, $rng:ident| $body:expr) => { |$b, $rng| {
+    let Some($gamma) = $b.log.challenges.last().copied() else { return false };
+    is_built(&$b.log) && $body
+} } }
 macro_rules! sections { (|$s:ident, $rng:ident| $body:expr) => { |b, $rng| { let $s = &mut b.log.sections; $body } } }
 
 const CONSTANT: [u64; 4] = [1, 0, 0, 0];
@@ -318,4 +382,32 @@ pub const WAYS: &[(u64, Way)] = &[
         s.bodies[WIDTHS].insert(0, 1);
         room(s)
     })),
+    // 15 beside a zero denominator: of an earlier lookup, of a later one, of the same, of a factor.
+    (15, zero!(|b, gamma, _rng| lookups(b, Some(table_at(0, gamma)), Some(UNLISTED)))),
+    (15, zero!(|b, gamma, _rng| lookups(b, Some(UNLISTED), Some(table_at(-1, gamma))))),
+    (15, zero!(|b, gamma, _rng| lookups(b, None, Some((zero_at(0, gamma), nowhere_zero(gamma)))))),
+    (15, zero!(|b, _gamma, rng| zero_factor(b, &[1], 1, rng) && lookups(b, None, Some(UNLISTED)))),
+    // 17: γ + table on row 0, the first in the order, and at the last place, where the count is 0.
+    (17, zero!(|b, gamma, _rng| lookups(b, None, Some(table_at(0, gamma))))),
+    (17, zero!(|b, gamma, _rng| lookups(b, None, Some(table_at(-1, gamma))))),
+    // γ + input at either end, γ + table at the other; both on every row; of a lookup of width 2.
+    (17, zero!(|b, gamma, _rng| lookups(b, None, Some((zero_at(0, gamma), zero_at(-1, gamma)))))),
+    (17, zero!(|b, gamma, _rng| lookups(b, None, Some((zero_at(-1, gamma), zero_at(0, gamma)))))),
+    (17, zero!(|b, gamma, _rng| lookups(b, None, Some((Tree::Constant(neg(gamma)), Tree::Constant(neg(gamma))))))),
+    (17, zero!(|b, gamma, _rng| {
+        let beta = b.log.challenges[b.log.challenges.len() - 2];
+        let first = Tree::Constant(neg(add(gamma, mul(beta, 3))));
+        b.log.sections.lookup(&[(first.clone(), first), (Tree::Constant(3), Tree::Constant(3))]);
+        room(&b.log.sections)
+    })),
+    // In the earlier and in the later of two lookups or more.
+    (17, zero!(|b, gamma, _rng| lookups(b, Some(table_at(1, gamma)), Some((nowhere_zero(gamma), nowhere_zero(gamma)))))),
+    (17, zero!(|b, gamma, _rng| lookups(b, Some((nowhere_zero(gamma), nowhere_zero(gamma))), Some(table_at(1, gamma))))),
+    // A factor: at place 1, at the last place, on a row that stands in no cycle, on one whose label moved.
+    (17, zero!(|b, _gamma, rng| zero_factor(b, &[1], 1, rng))),
+    (17, zero!(|b, _gamma, rng| { let row = last_row(b.log.sections.k); zero_factor(b, &[row], row, rng) })),
+    (17, zero!(|b, _gamma, rng| b.log.sections.k > 1 && zero_factor(b, &[1], 3, rng))),
+    (17, zero!(|b, _gamma, rng| b.log.sections.k > 1 && zero_factor(b, &[3, 1], 1, rng))),
+    // A lookup and a factor.
+    (17, zero!(|b, gamma, rng| zero_factor(b, &[1], 1, rng) && lookups(b, None, Some(table_at(0, gamma))))),
 ];

@@ -1,11 +1,13 @@
 //! Stored answers: the sample that the replay reads, a handful of small whole
 //! circuits, and what cases are made of.
 use super::calls::Case;
-use super::cases::{build_case, build_lent, case, demo, refused_build, refused_by, row_sum_case, sizes_case};
-use super::examples::sized;
+use super::cases::{
+    build_case, build_lent, case, demo, h_alone, refused_build, refused_by, row_sum_case, sizes_case,
+};
+use super::examples::{denominators, sized};
 use super::generate::Log;
 use super::given::answer;
-use super::model::{columns, Tree, P};
+use super::model::{is_denominator, log_zeros, Tree, P};
 use super::questions::read as read_circuit;
 use super::refuse::WAYS;
 use super::sections::*;
@@ -34,11 +36,11 @@ fn file(command: &str, cases: &[Case]) -> String {
 /// Of these builds, the sizes of the circuits of some: for each number the first and the last, of those accepted every fifth.
 fn some_sizes(builds: &[Case]) -> Vec<Case> {
     let numbered = |number: u64| builds.iter().filter(move |b| b.call == "build" && b.returned[0] == number);
-    let refused = (1..=15).flat_map(|number| numbered(number).next().into_iter().chain(numbered(number).last()));
+    let refused = (1..=15).chain([17]).flat_map(|number| numbered(number).next().into_iter().chain(numbered(number).last()));
     refused.chain(numbered(0).step_by(5)).map(sizes_case).collect()
 }
 
-/// Every way to be refused, on small circuits; then drawn cases, each short; then sizes.
+/// Every way to be refused, on small circuits; then drawn cases, each short; then h alone, and sizes.
 pub fn sample() -> String {
     let short = |case: &Case, seed: u64| case.text().len() < 900 || seed > 200;
     let mut cases: Vec<Case> = (0..WAYS.len()).filter_map(|way| refused_by(way, short)).collect();
@@ -47,18 +49,22 @@ pub fn sample() -> String {
         (0..).map(|n| case(7, n, true)).filter(fits)
     };
     cases.extend(drawn("build", false, 2600).take(60));
-    cases.extend(drawn("build", true, 1500).filter(|c| c.returned[0] == 15).take(8));
+    for number in [15, 17] {
+        cases.extend(drawn("build", true, 1500).filter(|c| c.returned[0] == number).take(8));
+    }
     cases.extend(drawn("row_sum", false, 1600).take(40));
     cases.extend(drawn("row_sum", true, 1200).take(30));
     for stage in ["lookup_m_poly", "lookup_h_poly", "eq_xy"] {
         cases.extend(drawn(stage, false, 1200).take(18));
         cases.extend(drawn(stage, true, 1200).take(10));
     }
+    cases.extend(h_alone());
     cases.extend(some_sizes(&cases));
     file("oracle/run sample", &cases)
 }
 
-/// Circuits by hand, k = 1 to 3, and one refusal of each number from 1 to 16; then their sizes, and those of more circuits.
+/// Circuits by hand, k = 1 to 3, each built and, where it is not refused, summed; one refusal of each number from 1 to 17;
+/// worked denominators, built and as h alone; then sizes of these circuits, and of more.
 pub fn small() -> String {
     let rng = &mut Rng::narrow(3);
     let poly = |p: u64, r: i64| Tree::Polynomial(p, r);
@@ -116,7 +122,7 @@ pub fn small() -> String {
         cases.push(build_case(log, rng));
         cases.extend(row_sum_case(log, rng));
     }
-    for number in 1..=15 {
+    for number in (1..=15).chain([17]) {
         let ways = (0..WAYS.len()).filter(|w| WAYS[*w].0 == number);
         let on = if number == 6 || number == 13 { 2 } else { 1 };
         cases.extend(ways.filter_map(|way| refused_build(logs[on].clone(), way, None, rng)).next());
@@ -124,17 +130,26 @@ pub fn small() -> String {
     let mut lent = row_sum_case(&logs[1], rng).unwrap().lent;
     lent[3][3] += 1;
     cases.push(answer("row_sum", lent));
-    let sizes: Vec<Case> = cases.iter().filter(|c| c.call == "build" && c.returned[0] < 12).map(sizes_case).collect();
+    cases.extend(denominators().into_iter().map(|(_, log)| build_case(&log, rng)));
+    // h alone: gamma 1, p − 6, and p − 5, by which a denominator is zero.
+    cases.extend(h_alone().into_iter().take(3));
     let worked: Vec<Case> = sized().into_iter().map(|(s, _)| answer("sizes", vec![s.words()])).collect();
-    cases.extend(sizes.into_iter().filter(|c| worked.iter().all(|w| w.lent != c.lent)));
-    cases.extend(worked);
+    let mut seen: Vec<Vec<u64>> = worked.iter().map(|w| w.lent[0].clone()).collect();
+    let mut sizes = vec![];
+    for build in cases.iter().filter(|c| c.call == "build" && ![12, 13, 14, 15].contains(&c.returned[0])) {
+        if !seen.contains(&build.lent[0]) {
+            seen.push(build.lent[0].clone());
+            sizes.push(sizes_case(build));
+        }
+    }
+    cases.extend(sizes.into_iter().chain(worked));
     file("oracle/run small", &cases)
 }
 
 /// What an accepted build shows, by name.
 pub fn features(case: &Case) -> BTreeSet<String> {
     let mut out = BTreeSet::new();
-    if case.call != "build" || (case.returned[0] != 0 && case.returned[0] != 15) {
+    if case.call != "build" || ![0, 15, 17].contains(&case.returned[0]) {
         return out;
     }
     let c = read_circuit(&case.lent[0]).unwrap();
@@ -200,8 +215,10 @@ pub fn features(case: &Case) -> BTreeSet<String> {
     if c.constraints.iter().any(|t| nested(t, false)) {
         saw("list in a list".into());
     }
-    if let Ok((_, zero)) = columns(&c, &case.lent[1], &case.lent[2], &case.lent[3]) {
-        saw(format!("a zero denominator: {zero}"));
+    for zero in log_zeros(&c, &case.lent[1], &case.lent[2], &case.lent[3]) {
+        let what = if is_denominator(&zero) { "denominator" } else { "factor, no denominator" };
+        let row = if zero.1 == 0 { "on row 0" } else { "past row 0" };
+        saw(format!("a zero {what}: {:?} {row}", zero.0));
     }
     for (i, what) in ["columns", "nodes"].iter().enumerate() {
         let written = if i == 0 { case.returned[1] } else { 4 * case.returned[2] } as usize;
