@@ -198,7 +198,11 @@ pub fn through_prove(seed: u64, count: u64) {
         let refused = columns(&c, &log.instance, &log.witness, &log.challenges).err();
         zero += (refused == Some(17)) as u64;
         let given = Log::of(&circuit, &log.instance, &log.witness, &log.challenges);
-        if !log.meets || refused.is_some() || !c.cuts_are_alike() || fails(&given, &build(&given, &mut |_| {}).unwrap().1) {
+        if !log.meets
+            || refused.is_some()
+            || !c.cuts_are_alike()
+            || fails(&given, &build(&given, &mut |_| {}).unwrap().1)
+        {
             passed_over += 1;
             continue;
         }

@@ -1,9 +1,7 @@
 //! Stored answers: the sample that the replay reads, a handful of small whole
 //! circuits, and what cases are made of.
 use super::calls::Case;
-use super::cases::{
-    build_case, build_lent, case, demo, h_alone, refused_build, refused_by, row_sum_case, sizes_case,
-};
+use super::cases::{build_case, build_lent, case, demo, h_alone, refused_build, refused_by, row_sum_case, sizes_case};
 use super::examples::{denominators, sized};
 use super::generate::Log;
 use super::given::answer;
@@ -36,13 +34,16 @@ fn file(command: &str, cases: &[Case]) -> String {
 /// Of these builds, the sizes of the circuits of some: for each number the first and the last, of those accepted every fifth.
 fn some_sizes(builds: &[Case]) -> Vec<Case> {
     let numbered = |number: u64| builds.iter().filter(move |b| b.call == "build" && b.returned[0] == number);
-    let refused = (1..=15).chain([17]).flat_map(|number| numbered(number).next().into_iter().chain(numbered(number).last()));
+    let refused =
+        (1..=15).chain([17]).flat_map(|number| numbered(number).next().into_iter().chain(numbered(number).last()));
     refused.chain(numbered(0).step_by(5)).map(sizes_case).collect()
 }
 
 /// Every way to be refused, on small circuits; then drawn cases, each short; then h alone, and sizes.
 pub fn sample() -> String {
-    let short = |case: &Case, seed: u64| case.text().len() < 900 || seed > 200;
+    // 15 and 17 want room for the columns.
+    let most = |case: &Case| if case.returned[0] < 15 { 900 } else { 1500 };
+    let short = |case: &Case, seed: u64| case.text().len() < most(case) || seed > 200;
     let mut cases: Vec<Case> = (0..WAYS.len()).filter_map(|way| refused_by(way, short)).collect();
     let drawn = |call: &'static str, refused: bool, most: usize| {
         let fits = move |c: &Case| c.call == call && (c.returned[0] != 0) == refused && c.text().len() < most;

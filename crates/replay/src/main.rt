@@ -1,6 +1,6 @@
 // Reads the stored answers (the file that its first argument names; oracle/README.md has the format), and counts
 // them by call. What document 01 says of every answer, whatever its columns, is looked at in each: slices have the
-// lengths they state; a refusal returns zeros after its number and leaves its buffers, but for 15; words past those
+// lengths they state; a refusal returns zeros after its number and leaves its buffers, but for 15 and 17; words past those
 // written stay. Then the call is made again on the lent words, where it is there: a line names each block whose stored
 // number or buffer is another.
 use libc::STDOUT_FILENO;
@@ -83,7 +83,7 @@ fn is_after(words: &[u64], a: usize, b: usize, number: u64, is_nodes: bool, writ
     if number == 0 {
         return kept(before, after, written);
     }
-    if (number == 15) & !is_nodes {
+    if ((number == 15) | (number == 17)) & !is_nodes {
         return zeroed(before, after);
     }
     kept(before, after, 0)
