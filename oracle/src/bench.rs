@@ -6,7 +6,7 @@ use super::generate::Log;
 use super::given::{self, f, rows, words, Expr, Poly};
 use super::laps::Laps;
 use super::library::Library;
-use super::model::{composed_words, Columns, Tree, P};
+use super::model::{composed_words, is_denominator, log_zeros, Columns, Tree, P};
 use super::questions::{read, Circuit};
 use super::sections::*;
 use super::stored::lent_for;
@@ -183,6 +183,8 @@ impl Sheet {
         let c = read(&lent[0]).unwrap();
         lent[5] = composed_words(&c);
         let given = given::Log::of(&lent[0], &lent[1], &lent[2], &lent[3]);
+        let zeros = log_zeros(&c, &lent[1], &lent[2], &lent[3]);
+        assert!(!zeros.iter().any(is_denominator), "a sheet with a zero denominator: the library answers 17");
         let (built, composed) = given::build(&given, &mut |_| {}).unwrap();
         let columns = built.words();
         let polys = super::calls::polys(&c, &lent[2], &columns).into_iter().map(f).collect();

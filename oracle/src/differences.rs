@@ -1,12 +1,12 @@
-//! Where the Rust and document 01 part, each run on the smallest input that shows
-//! it: the circuit words, the Rust's answer, document 01's number.
+//! Where the Rust and documents 01 and 02 part, each run on the smallest input that shows
+//! it: the circuit words, the Rust's answer, the documents' number.
 use super::super::{
     preprocessor::{compose, permutation_polys},
     prover::{instance_polys, lookup_compressed_polys, lookup_h_poly, lookup_m_poly},
     verifier::{pcs_query, point_offset},
 };
-use super::given::{build, f, info, rows, words, Expr, Info, Log, Poly};
-use super::model::{Tree, P};
+use super::given::{answer, build, f, info, rows, words, Expr, Info, Log, Poly};
+use super::model::{composed_words, Tree, P};
 use super::prove::proved;
 use super::questions::read;
 use super::refuse::of_degree;
@@ -51,6 +51,24 @@ fn well(i: &Info) -> String {
 
 fn zeros(k: u64) -> Poly {
     Poly::new(f(&vec![0; 1 << k]))
+}
+
+/// A log with a zero denominator: the Rust's h and z, the row sum over its columns at α = 31, y = 2; and the number.
+fn zero_denominator(what: &str, s: &Sections, witness: &[u64], challenges: [u64; 2]) {
+    let (circuit, challenges) = (s.words(), challenges.to_vec());
+    let built = build(&Log::of(&circuit, &[], witness, &challenges), &mut |_| {}).unwrap().0;
+    let (c, columns) = (read(&circuit).unwrap(), built.words());
+    let nodes = composed_words(&c);
+    let buffers = [vec![0; columns.len()], vec![0; nodes.len()]];
+    let lent = [vec![circuit.clone(), vec![], witness.to_vec(), challenges.clone()], buffers.to_vec()].concat();
+    let sum_lent = vec![circuit, witness.to_vec(), columns, nodes, [challenges, vec![31]].concat(), vec![2]];
+    println!(
+        "a zero denominator (k = 1, {what})\n  Rust: h {:?}, z {:?}, row sum {} (batch_invert is a stand-in)\n  document 02: {}",
+        built.h,
+        built.z,
+        answer("row_sum", sum_lent).returned[1],
+        answer("build", lent).returned[0]
+    );
 }
 
 pub fn differences() {
@@ -106,6 +124,22 @@ pub fn differences() {
     s.bodies[INSTANCES] = vec![0; 9];
     s.constraint(&Tree::Constant(0));
     show("a limit of question 3 passed: nine instance columns (each limit alike; k = 11 gives 2)", &s, well);
+    // γ + table is zero on row 0, γ + input on row 1.
+    let mut s = base(1, 1);
+    s.bodies[PREPROCESS] = vec![5, 7];
+    s.lookup(&[(Tree::Polynomial(1, 0), Tree::Polynomial(0, 0))]);
+    zero_denominator("table 5 7, inputs 7 5, β = 10, γ = p − 5", &s, &[7, 5], [10, P - 5]);
+    let mut s = base(1, 1);
+    s.cycle(&[(0, 1)]);
+    zero_denominator("one single-cell cycle, witness 0, p − 3, β = 2, γ = 1", &s, &[0, P - 3], [2, 1]);
+    let [input, table, m] = [[1, 1], [0, 1], [0, 2]];
+    let h = lookup_h_poly(&[Poly::new(f(&input)), Poly::new(f(&table))], &Poly::new(f(&m)), &F::from(P - 1));
+    let lent = vec![vec![1], input.to_vec(), table.to_vec(), m.to_vec(), vec![P - 1], vec![9; 2]];
+    println!(
+        "a zero denominator of h alone, k = 1, input 1 1, table 0 1, m 0 2, γ = p − 1\n  Rust: h {:?} (batch_invert is a stand-in)\n  document 02: {}",
+        words(&h.evals),
+        answer("lookup_h_poly", lent).returned[0]
+    );
 
     println!("\n-- the Rust panics, document 01 allows\n");
     let mut s = base(1, 1);
@@ -176,10 +210,5 @@ pub fn differences() {
     println!(
         "a table row listed twice, table 5 7 7 9, inputs 7 7 5 9: m {:?}; Haböck's paper shares: 1 1 1 1",
         words(&m.evals)
-    );
-    let h = lookup_h_poly(&[Poly::new(f(&[1, 1])), Poly::new(f(&[0, 1]))], &Poly::new(f(&[0, 2])), &F::from(P - 1));
-    println!(
-        "a zero denominator, input 1 1, table 0 1, m 0 2, γ = p − 1: h {:?} (batch_invert is a stand-in)",
-        words(&h.evals)
     );
 }
