@@ -8,11 +8,11 @@
  * and can be called from several threads at once. Trees are walked by recursion: a thread that makes calls should have 1 MiB of stack
  * (1024 nodes, one in another, were seen to take 0.2 MiB).
  *
- * NUMBERS. A field element is a word below p. Each call puts its questions in the order of their numbers and returns the number of the
- * first that is answered no, or 0 (HYPERPLONK_OK). 3 and then 4 are put to words 0 to 19, then 3 and then 4 to what follows. The
- * constants below name the numbers. On 0 the first words of a buffer are those that the call says (alone: the first 2^k are the
- * column). On 15 the column words needed become 0. On any other number no word of a buffer is written, those of `answer` aside. Words
- * past those needed are never written.
+ * NUMBERS. A field element is a word below p. Each call puts its questions in the order below and returns the number of the first that
+ * is answered no, or 0 (HYPERPLONK_OK). The order is 1 to 15, then 17; 16 is the row sum's, which asks it after 11. 3 and then 4 are put
+ * to words 0 to 19, then 3 and then 4 to what follows. The constants below name the numbers. On 0 the first words of a buffer are those
+ * that the call says (alone: the first 2^k are the column). On 15 and on 17 the column words needed become 0, and the nodes stay. On any
+ * other number no word of a buffer is written, those of `answer` aside. Words past those needed are never written.
  *
  * ROWS. A column has 2^k words: word b is its value at row b. Rows also have an order: row 0 first, then 1, next(1), next(next(1)) ...
  * next(b) is 2 * b and, if bit k of that is set, that exclusive-or PRIMITIVES[k]:
@@ -97,7 +97,9 @@
  *                    beta * label + gamma), the column's value and label at b. Every z is 0 at row 0; z_0 is 1 at row 1. On every row
  *                    but 0, z_(i+1) is z_i times the factor of part i; and z_0 at next(b) is the last z at b times the factor of the
  *                    last part at b, for each b but row 0 and the row at the last place.
- * The inverse of 0 is 0.
+ * Denominators are gamma + input and gamma + table of each lookup on every row, row 0 too and also where m is 0, and value + beta * label
+ * + gamma of each copied column on every row but 0. If one is 0, and 15 is answered yes for every lookup, the number is 17. A numerator,
+ * value + beta * (j * 2^k + b) + gamma, may be 0, and so may a copied column's factor on row 0.
  *
  * COMPOSED NODES are the constraints by powers of alpha, times EqXY(0); and then the h columns first, that product last, by powers of
  * alpha. Their challenges are the user's, then beta, gamma, alpha. The constraints are the user's, then these:
@@ -121,18 +123,17 @@
  * CHALLENGES must be drawn once the columns before them are fixed: a round's after its witness columns, beta after all witness columns,
  * gamma after the m columns, alpha and y after the h and z columns. Drawing them, and committing to columns, is no part of this
  * library: they are taken as they are lent, the user's first, round after round. The instance, permutation, compressed and m columns and
- * number 15 do not depend on gamma: for m before gamma is drawn, build with any gamma, and build again with the drawn one.
+ * number 15 do not depend on gamma: for m before gamma is drawn, build with any gamma that does not give 17, and build again with the
+ * drawn one. On 17 the log is not at fault: other challenges are to be drawn. For one log and beta at most 90112 values of gamma give it.
  *
  * THE ROW SUM is 0 for every alpha and every y where it is given what a build wrote with number 0 and that build's circuit, witness and
  * challenges, and
  *     every user constraint is 0 on every row, and the cells of each cycle hold one value;
- *     the cuts are alike: the permutation's constraints cut the copied columns into parts of D - 1, z into parts of n / N, rounded up;
- *     no denominator is 0: gamma + input and gamma + table of each lookup on every row, and value + beta * label + gamma of each
- *     copied column on every row but 0.
+ *     the cuts are alike: the permutation's constraints cut the copied columns into parts of D - 1, z into parts of n / N, rounded up.
  * So a sum that is not 0 says: the log does not meet its circuit; or the cuts differ, which n and D decide (n = 4 with D = 4 are the
- * smallest: 3, 1 and 2, 2); or a denominator is 0, and another gamma is to be drawn; or the words are not that build's. A sum of 0 at
- * one alpha and y does not by itself say that the log meets its circuit: y = 0, 0, ... looks at the constraints on row 0 only. The
- * compressed columns are measured and their words held below p, and not read.
+ * smallest: 3, 1 and 2, 2); or the words are not that build's. A sum of 0 at one alpha and y does not by itself say that the log meets
+ * its circuit: y = 0, 0, ... looks at the constraints on row 0 only. The compressed columns are measured and their words held below p,
+ * and not read.
  *
  * A SMALL CIRCUIT, k = 3. Polynomial 0 is an instance column of five values; polynomial 1 is the one witness column. On every row but
  * that at the last place: witness at rotation 1 = witness + instance value. As (1 - Lagrange(-1)) * (next - (here + value)), degree 2.
@@ -192,7 +193,7 @@ extern "C" {
 #define HYPERPLONK_DISTRIBUTE_POWERS UINT64_C(11)
 #define HYPERPLONK_ITEM UINT64_C(12)
 
-/* Numbers. */
+/* Numbers. 17 is asked after 15; 16 is the row sum's. */
 #define HYPERPLONK_OK UINT64_C(0)
 /* The circuit has fewer than 20 words. */
 #define HYPERPLONK_TOO_FEW_WORDS UINT64_C(1)
@@ -227,6 +228,8 @@ extern "C" {
 /* (Row sum.) Witness, columns, nodes, challenges or y have not the exact length, the node words are not those that building writes,
  * or another value is not below p. */
 #define HYPERPLONK_BAD_ROW_SUM_WORDS UINT64_C(16)
+/* (Build, h.) A denominator is 0: other challenges are to be drawn. */
+#define HYPERPLONK_ZERO_DENOMINATOR UINT64_C(17)
 
 /* Limits. k is 1 or more, and so are the rounds; witness columns, user challenges and cells are counted in all. The stated degree is
  * that of word 1, the degree that of any user or lookup constraint. */
@@ -263,7 +266,7 @@ uint64_t hyperplonk_sizes(const uint64_t *circuit, size_t circuit_len,
 /* The columns and the composed expression of a log. Instance words are the instance columns' values, witness words the witness columns;
  * challenges are the user's, then beta, gamma. Columns, 2^k words each: instance, permutation, compressed input and table per lookup,
  * m, h, z. Nodes, 4 words each: the root is the last. The first three words of the answer become column words written, nodes written,
- * z columns, all 0 when refused; a shorter answer is left as it is. Returns 0 to 15. */
+ * z columns, all 0 when refused; a shorter answer is left as it is. Returns 0 to 15, 17. */
 uint64_t hyperplonk_build(const uint64_t *circuit, size_t circuit_len,
                           const uint64_t *instance, size_t instance_len,
                           const uint64_t *witness, size_t witness_len,
@@ -290,7 +293,8 @@ uint64_t hyperplonk_lookup_m_poly(uint64_t k,
                                   const uint64_t *table, size_t table_len,
                                   uint64_t *m, size_t m_len);
 
-/* h: 1 / (gamma + input) - m / (gamma + table) on each row, where 1 / 0 is 0. Returns 0, 2, 12, 13, 14. */
+/* h: 1 / (gamma + input) - m / (gamma + table) on each row. If one of these denominators is 0, on any row and whatever m is there, the
+ * number is 17, the last that is asked. Returns 0, 2, 12, 13, 14, 17. */
 uint64_t hyperplonk_lookup_h_poly(uint64_t k,
                                   const uint64_t *input, size_t input_len,
                                   const uint64_t *table, size_t table_len,

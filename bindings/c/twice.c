@@ -1,4 +1,5 @@
-/* A log whose table lists a row twice: its counts, its row sum, and the answer to an input that is in no table row. */
+/* A log whose table lists a row twice: its counts, its row sum, the answer to an input that is in no table row, and that to a gamma by
+ * which a denominator is 0. */
 #include <hyperplonk.h>
 #include <inttypes.h>
 #include <stdio.h>
@@ -27,6 +28,7 @@ static const uint64_t circuit[] = {
 static const uint64_t witness[] = {7, 7, 5, 9};
 static const uint64_t unlisted[] = {7, 6, 5, 9};
 static const uint64_t challenges[] = {10, 100, 2}; /* beta, gamma, alpha */
+static const uint64_t unlucky[] = {10, HYPERPLONK_P - 5}; /* beta, gamma: gamma + table is 0 on row 0 */
 static const uint64_t y[] = {0, 2};
 
 /* compressed input and table, m, h */
@@ -51,5 +53,9 @@ int main(void) {
 
     number = hyperplonk_build(WORDS(circuit), instance, 0, WORDS(unlisted), challenges, 2, WORDS(columns), WORDS(nodes), WORDS(built));
     printf("build, input 6: number %" PRIu64 "\n", number);
+
+    number = hyperplonk_build(WORDS(circuit), instance, 0, WORDS(witness), WORDS(unlucky), WORDS(columns), WORDS(nodes), WORDS(built));
+    printf("build, gamma p - 5: number %" PRIu64 "%s\n", number,
+           number == HYPERPLONK_ZERO_DENOMINATOR ? ", other challenges are to be drawn" : "");
     return 0;
 }

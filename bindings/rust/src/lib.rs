@@ -1,6 +1,6 @@
 //! HyperPlonk's columns and composed expression over the Goldilocks field, from Rust.
 //!
-//! Each function makes one call of the proved library, libhyperplonk.a, and returns what it returns: a refusal, number 1 to 16, is a
+//! Each function makes one call of the proved library, libhyperplonk.a, and returns what it returns: a refusal, number 1 to 17, is a
 //! [`Refusal`]. Words are `u64`, and a field element is a word below [`P`]. The library allocates nothing and keeps nothing, so calls
 //! can run on several threads at once. Trees are walked by recursion: a thread that makes calls should have 1 MiB of stack, as Rust's
 //! have unless told otherwise.
@@ -118,7 +118,9 @@
 //! | h | One for each lookup: [`lookup_h_poly`]. |
 //! | z | N of them, z_0 first. The copied columns are cut into N parts of n / N, rounded up, the last perhaps shorter. The factor of a part at row b is the product, over its columns j, of (value + β × (j × 2^k + b) + γ) / (value + β × label + γ), the column's value and label at b. Every z is 0 at row 0; z_0 is 1 at row 1. On every row but 0, z_(i+1) is z_i times the factor of part i; and z_0 at next(b) is the last z at b times the factor of the last part at b, for each b but row 0 and the row at the last place. |
 //!
-//! The inverse of 0 is 0.
+//! Denominators are γ + input and γ + table of each lookup on every row, row 0 too and also where m is 0, and value + β × label + γ of
+//! each copied column on every row but 0. If one is 0, and 15 is answered yes for every lookup, the number is 17. A numerator, value +
+//! β × (j × 2^k + b) + γ, may be 0, and so may a copied column's factor on row 0.
 //!
 //! # Composed nodes
 //!
@@ -150,22 +152,21 @@
 //!
 //! They must be drawn once the columns before them are fixed: a round's after its witness columns, β after all witness columns, γ after
 //! the m columns, α and y after the h and z columns. Drawing them, and committing to columns, is no part of this library: they are taken
-//! as they are lent, the user's first, round after round. The instance, permutation, compressed and m columns and number 15 do not depend on γ: for m before γ is drawn,
-//! build with any γ, and build again with the drawn one.
+//! as they are lent, the user's first, round after round. The instance, permutation, compressed and m columns and number 15 do not
+//! depend on γ: for m before γ is drawn, build with any γ that does not give 17, and build again with the drawn one. On 17 the log is
+//! not at fault: other challenges are to be drawn. For one log and β at most 90,112 values of γ give it.
 //!
 //! # The row sum
 //!
 //! It is 0 for every α and every y where it is given what a [`build`] wrote and that build's circuit, witness and challenges, and
 //!
 //! - every user constraint is 0 on every row, and the cells of each cycle hold one value;
-//! - the cuts are alike: the permutation's constraints cut the copied columns into parts of D − 1, z into parts of n / N, rounded up;
-//! - no denominator is 0: γ + input and γ + table of each lookup on every row, and value + β × label + γ of each copied column on every
-//!   row but 0.
+//! - the cuts are alike: the permutation's constraints cut the copied columns into parts of D − 1, z into parts of n / N, rounded up.
 //!
 //! So a sum that is not 0 says: the log does not meet its circuit; or the cuts differ, which n and D decide (n = 4 with D = 4 are the
-//! smallest: 3, 1 and 2, 2); or a denominator is 0, and another γ is to be drawn; or the words are not that build's. A sum of 0 at one α
-//! and y does not by itself say that the log meets its circuit: y = 0, 0, … looks at the constraints on row 0 only. The compressed
-//! columns are measured and their words held below p, and not read.
+//! smallest: 3, 1 and 2, 2); or the words are not that build's. A sum of 0 at one α and y does not by itself say that the log meets its
+//! circuit: y = 0, 0, … looks at the constraints on row 0 only. The compressed columns are measured and their words held below p, and
+//! not read.
 //!
 //! # A small circuit
 //!
@@ -412,9 +413,10 @@ mod library {
 
 /// A refusal: the first question that is answered no.
 ///
-/// Questions are put in the order of their numbers; 3 and then 4 are put to words 0 to 19, then 3 and then 4 to what follows. [`build`]
-/// meets 1 to 15, [`sizes`] 1 to 11, [`row_sum`] 1 to 11 and then 16. The stages alone meet 2, 12, 13 and 14 of their own columns and
-/// buffer, and the counts 15. On 15 the column words needed become 0. On any other number no word of a buffer is written.
+/// Questions are put in the order 1 to 15, then 17; 16 is the row sum's. 3 and then 4 are put to words 0 to 19, then 3 and then 4 to
+/// what follows. [`build`] meets 1 to 15 and then 17, [`sizes`] 1 to 11, [`row_sum`] 1 to 11 and then 16. The stages alone meet 2, 12, 13
+/// and 14 of their own columns and buffer, the counts then 15, h then 17. On 15 and on 17 the column words needed become 0, and the
+/// nodes stay. On any other number no word of a buffer is written.
 ///
 /// ```
 /// let refusal = hyperplonk::eq_xy(11, &[0; 11], &mut [0; 8]).unwrap_err();
@@ -456,11 +458,13 @@ pub enum Refusal {
     NotInTable = 15,
     /// ([`row_sum`].) Witness, columns, nodes, challenges or y have not the exact length, the node words are not those that building writes, or another value is not below p.
     BadRowSumWords = 16,
+    /// ([`build`], [`lookup_h_poly`].) A [denominator](crate#columns) is 0: other challenges are to be drawn. Asked after 15.
+    ZeroDenominator = 17,
 }
 
 impl Refusal {
     /// All of them, by rising number.
-    pub const ALL: [Refusal; 16] = [
+    pub const ALL: [Refusal; 17] = [
         Refusal::TooFewWords,
         Refusal::BadK,
         Refusal::BadCount,
@@ -477,14 +481,15 @@ impl Refusal {
         Refusal::ShortBuffer,
         Refusal::NotInTable,
         Refusal::BadRowSumWords,
+        Refusal::ZeroDenominator,
     ];
 
-    /// The number of the question, 1 to 16.
+    /// The number of the question, 1 to 17.
     pub const fn number(self) -> u64 {
         self as u64
     }
 
-    /// The question, in the words of document 01, the library's scope.
+    /// The question, in the words of document 01, the library's scope; 17, which document 02 adds, as a question.
     pub const fn question(self) -> &'static str {
         match self {
             Refusal::TooFewWords => "Are there 20 words or more?",
@@ -503,6 +508,7 @@ impl Refusal {
             Refusal::ShortBuffer => "Have both output buffers at least the words needed?",
             Refusal::NotInTable => "Does each compressed input equal some compressed table row?",
             Refusal::BadRowSumWords => "(Row sum only.) Are witness, columns, nodes, challenges with α, and y (k values) of the exact length, the node words those that building writes, and all other values below p?",
+            Refusal::ZeroDenominator => "Is every denominator other than zero?",
         }
     }
 }
@@ -519,7 +525,7 @@ impl error::Error for Refusal {}
 fn told(number: u64) -> Result<(), Refusal> {
     match number {
         0 => Ok(()),
-        1..=16 => Err(Refusal::ALL[number as usize - 1]),
+        1..=17 => Err(Refusal::ALL[number as usize - 1]),
         _ => panic!("libhyperplonk.a is not the one of these bindings: it returned the number {number}"),
     }
 }
@@ -582,7 +588,8 @@ pub struct Built {
 ///
 /// # Errors
 ///
-/// Refusals 1 to 15. On 15 the column words needed become 0. On any other nothing is written.
+/// Refusals 1 to 15, and 17 after 15. On 15 and on 17 the column words needed become 0 and `nodes` stays as it was. On any other nothing
+/// is written.
 pub fn build(
     circuit: &[u64],
     instance: &[u64],
@@ -686,11 +693,24 @@ pub fn lookup_m_poly(k: u64, input: &[u64], table: &[u64], m: &mut [u64]) -> Res
     })
 }
 
-/// h: 1 / (γ + input) − m / (γ + table) on each row, where 1 / 0 is 0.
+/// h: 1 / (γ + input) − m / (γ + table) on each row.
+///
+/// ```
+/// use hyperplonk::{lookup_h_poly, Refusal, P};
+///
+/// let (input, table, m, mut h) = ([7, 7, 5, 9], [5, 7, 7, 9], [1, 0, 2, 1], [0; 4]);
+/// lookup_h_poly(2, &input, &table, &m, 1, &mut h)?;
+/// assert_eq!(h, [768614336225607680, 16140901060737761281, 1537228672451215360, 0]);
+/// // γ + table is 0 on row 0, and γ + input on row 2.
+/// assert_eq!(lookup_h_poly(2, &input, &table, &m, P - 5, &mut h), Err(Refusal::ZeroDenominator));
+/// assert_eq!(h, [0; 4]);
+/// # Ok::<(), Refusal>(())
+/// ```
 ///
 /// # Errors
 ///
-/// Refusals 2, 12, 13 and 14. It treats its buffer as [`lookup_m_poly`] does.
+/// Refusals 2, 12, 13, 14 as [`lookup_m_poly`] has them, and 17: γ + input or γ + table is 0 on some row, whatever m is there. On 17 the
+/// first 2^k words become 0. On any other nothing is written.
 pub fn lookup_h_poly(
     k: u64,
     input: &[u64],

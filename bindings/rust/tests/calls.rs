@@ -65,9 +65,41 @@ fn fractions() {
     assert_eq!(lookup_h_poly(2, &INPUT, &TABLE, &M, 100, &mut h), Ok(()));
     assert_eq!((&h[..4], h[4]), (&H[..], BEFORE));
     assert_eq!(h[..4].iter().fold(0, |sum, w| (sum + *w as u128) % P as u128), 0);
-    // The inverse of 2, and that of 0.
-    assert_eq!(lookup_h_poly(1, &[1, P - 1], &[1, 1], &[0, 0], 1, &mut h), Ok(()));
-    assert_eq!(h[..2], [9223372034707292161, 0]);
+    // The inverse of 2.
+    assert_eq!(lookup_h_poly(1, &[1, 1], &[1, 1], &[0, 0], 1, &mut h), Ok(()));
+    assert_eq!(h[..2], [9223372034707292161; 2]);
+    assert_eq!(lookup_h_poly(2, &INPUT, &TABLE, &M, 1, &mut h), Ok(()));
+    assert_eq!(h[..4], [768614336225607680, 16140901060737761281, 1537228672451215360, 0]);
+}
+
+/// γ + input or γ + table is 0 on some row, also where m is 0: 17, asked last, and the column becomes 0.
+#[test]
+fn zero_denominators() {
+    let other = [6, 7, 7, 9];
+    let cases: [(u64, &[u64], &[u64], &[u64], u64, usize); 12] = [
+        (0, &INPUT, &TABLE, &M, P - 6, 5),
+        (17, &INPUT, &TABLE, &M, P - 5, 5),
+        (17, &INPUT, &TABLE, &M, P - 7, 5),
+        (17, &INPUT, &TABLE, &M, P - 9, 4),
+        (17, &other, &TABLE, &M, P - 6, 5),
+        (17, &INPUT, &other, &[0; 4], P - 6, 5),
+        (17, &[1, 2, 3, 0], &[1; 4], &M, 0, 5),
+        (14, &INPUT, &TABLE, &M, P - 5, 3),
+        (13, &INPUT, &TABLE, &[1, 0, 2, P], P - 5, 5),
+        (13, &[0; 4], &TABLE, &M, P, 5),
+        (13, &[P; 4], &TABLE, &M, 0, 5),
+        (12, &INPUT, &TABLE, &M[..3], P - 5, 5),
+    ];
+    for (number, input, table, m, gamma, room) in cases {
+        let mut h = [BEFORE; 5];
+        let told = lookup_h_poly(2, input, table, m, gamma, &mut h[..room]);
+        assert_eq!(told.map_or_else(|refusal| refusal.number(), |()| 0), number);
+        match number {
+            0 => assert_eq!(h, [2, 1, P - 3, 0, BEFORE]),
+            17 => assert_eq!(h, [0, 0, 0, 0, BEFORE]),
+            _ => assert_eq!(h, [BEFORE; 5]),
+        }
+    }
 }
 
 #[test]
@@ -218,7 +250,22 @@ fn build_refuses() {
     let (mut columns, mut nodes) = ([BEFORE; 17], [BEFORE; 108]);
     assert_eq!(build(&TWICE, &[], &[7, 6, 5, 9], &[10, 100], &mut columns, &mut nodes), refused(15));
     assert_eq!((&columns[..16], columns[16], nodes), (&[0; 16][..], BEFORE, [BEFORE; 108]));
+    // γ + table is 0 on some row: 17, after 15.
+    for gamma in [P - 5, P - 7, P - 9] {
+        let (mut columns, mut nodes) = ([BEFORE; 17], [BEFORE; 108]);
+        assert_eq!(build(&TWICE, &[], &INPUT, &[10, gamma], &mut columns, &mut nodes), refused(17));
+        assert_eq!((&columns[..16], columns[16], nodes), (&[0; 16][..], BEFORE, [BEFORE; 108]));
+        assert_eq!(build(&TWICE, &[], &INPUT, &[10, gamma], &mut columns[..15], &mut nodes), refused(14));
+        assert_eq!(build(&TWICE, &[], &[7, 6, 5, 9], &[10, gamma], &mut columns, &mut nodes), refused(15));
+    }
+    assert!(build(&TWICE, &[], &INPUT, &[10, P - 6], &mut columns, &mut nodes).is_ok());
     assert!(build(&TWICE, &[], &INPUT, &[P - 1, P - 1], &mut columns, &mut nodes).is_ok());
+    // β = 2, γ = 1: the cell's factor is 0 at row 0, which is no denominator; then at row 1.
+    let (mut columns, mut nodes) = ([BEFORE; 4], [BEFORE; 136]);
+    assert!(build(&CELL, &[], &[P - 1, 4], &[2, 1], &mut columns, &mut nodes).is_ok());
+    assert_eq!(columns, [0, 1, 0, 1]);
+    assert_eq!(build(&CELL, &[], &[0, P - 3], &[2, 1], &mut columns, &mut nodes), refused(17));
+    assert_eq!(columns, [0; 4]);
 }
 
 #[test]
@@ -325,6 +372,12 @@ fn stored_answers() {
                 let sum = row_sum(circuit, witness, columns, nodes, challenges, y);
                 assert_eq!(sum.map_or_else(|refusal| [refusal.number(), 0], |sum| [0, sum]), returned[..], "{block}");
             }
+            ("lookup_h_poly", [k, input, table, m, gamma, h, returned, h_after]) => {
+                let mut h = h.clone();
+                let told = lookup_h_poly(k[0], input, table, m, gamma[0], &mut h);
+                assert_eq!([told.map_or_else(|refusal| refusal.number(), |()| 0)], returned[..], "{block}");
+                assert_eq!(&h, h_after, "{block}");
+            }
             ("sizes", [circuit, returned]) => {
                 let words = sizes(circuit).map_or_else(
                     |refusal| [refusal.number(), 0, 0, 0],
@@ -336,5 +389,5 @@ fn stored_answers() {
         }
         calls += 1;
     }
-    assert!(calls >= 54, "{calls} blocks");
+    assert!(calls >= 68, "{calls} blocks");
 }
