@@ -73,7 +73,7 @@ fn zero_denominator(what: &str, s: &Sections, witness: &[u64], challenges: [u64;
 
 pub fn differences() {
     set_hook(Box::new(|_| {}));
-    println!("-- the Rust accepts, document 01 refuses\n");
+    println!("-- the Rust accepts, documents 01 and 02 refuse\n");
     let mut s = base(0, 1);
     s.lookup(&[(Tree::Constant(1), Tree::Constant(1)), (Tree::Constant(1), Tree::Constant(1))]);
     show("k = 0 (a column of one value counts as the zero polynomial: β = 10 is lost)", &s, |i| {
