@@ -1,6 +1,6 @@
 -- Tests and sums of a list, walked by index.
 use mathlib.Core.Path.{_≡_, refl, sym, ap, ap₂, _∙_}
-use mathlib.Core.Bool.{Bool, true, false, _&&_, and-true, and-false}
+use mathlib.Core.Bool.{Bool, true, false, _&&_, _||_, and-true, and-false}
 use mathlib.Core.List.{List, [], _∷_, _++_, map}
 use Prim.Native.Nat.{ℕ, zero, suc, _+_, _-_, _*_, _≤_, _<_, min}
 use native.Mathlib.Nat.{add-zero, min-eq-left, min-eq-right, mul-le-mul-right, suc-mul}
@@ -10,8 +10,8 @@ use native.Mathlib.Decide.{decLt}
 use lib.ListN.{length, getD, take, drop}
 use lib.Dec.{ltb}
 use borrow.Author.Tests.{lt-ltb, le-ltb}
-use Rattle.lists.specs.Lists.{tabulate, allOf, total, concat}
-use Rattle.lists.proofs.Tests.{and-both, all-append}
+use Rattle.lists.specs.Lists.{tabulate, allOf, anyOf, total, concat}
+use Rattle.lists.proofs.Tests.{and-both, all-append, any-append}
 use Rattle.lists.proofs.Columns.{tabulate-of, concat-parts}
 use Rattle.lists.proofs.Totals.{total-append}
 
@@ -52,6 +52,11 @@ module _ {A : Type 0} (p : A → Bool) where
   all-concat [] = refl
   all-concat (xs ∷ xss) = ap (λ (b : Bool). allOf p xs && b) (all-concat xss) ∙ sym (all-append p xs (concat xss))
 
+  pub any-lists : (xss : List (List A)) → anyOf (anyOf p) xss ≡ anyOf p (concat xss)
+  unfolding anyOf concat
+  any-lists [] = refl
+  any-lists (xs ∷ xss) = ap (λ (b : Bool). anyOf p xs || b) (any-lists xss) ∙ sym (any-append p xs (concat xss))
+
   -- parts of s words each, all together
   pub all-parts : (s : ℕ) (xs : List A) (n : ℕ) → allOf (allOf p) (tabulate (λ i. take s (drop (i * s) xs)) n) ≡ allOf p (take (n * s) xs)
   all-parts s xs n = all-concat (tabulate (λ i. take s (drop (i * s) xs)) n) ∙ ap (allOf p) (concat-parts s xs n)
@@ -60,6 +65,11 @@ pub all-map : {A B : Type 0} (p : B → Bool) (f : A → B) (xs : List A) → al
 unfolding allOf
 all-map p f [] = refl
 all-map p f (x ∷ xs) = ap (λ (b : Bool). p (f x) && b) (all-map p f xs)
+
+pub any-map : {A B : Type 0} (p : B → Bool) (f : A → B) (xs : List A) → anyOf p (map f xs) ≡ anyOf (λ x. p (f x)) xs
+unfolding anyOf
+any-map p f [] = refl
+any-map p f (x ∷ xs) = ap (λ (b : Bool). p (f x) || b) (any-map p f xs)
 
 pub all-same : {A : Type 0} (p q : A → Bool) → ((x : A) → p x ≡ q x) → (xs : List A) → allOf p xs ≡ allOf q xs
 unfolding allOf

@@ -9,3 +9,4 @@ pub mod PowerSums
 pub mod Z
 pub mod Instance
 pub mod Denominators
+pub mod NoneZero
