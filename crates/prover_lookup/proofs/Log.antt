@@ -1,4 +1,4 @@
--- A log's count and h columns, from a buffer that holds the words of its compressed columns from word `at` on.
+-- A log's count and h columns and its questions 15 and, of the lookups, 17, from a buffer that holds the words of its compressed columns from word `at` on.
 use mathlib.Core.Path.{_≡_, refl, sym, ap, _∙_}
 use mathlib.Core.Bool.{Bool}
 use mathlib.Core.List.{List, [], _∷_, map}
@@ -8,22 +8,31 @@ use native.Mathlib.Omega.{arith}
 use lib.ListN.{length, getD, length-map}
 use Rattle.field.specs.Prime.{P}
 use Rattle.field.specs.Field.{𝔾, el, val, P-pos, el-val, val-el}
-use Rattle.lists.specs.Lists.{tabulate, range, concat, allOf}
+use Rattle.lists.specs.Lists.{tabulate, range, concat, allOf, anyOf}
 use Rattle.lists.proofs.All.{all-getD}
 use Rattle.lists.proofs.Columns.{tabulate-cong, tabulate-of, map-tabulate}
 use Rattle.lists.proofs.Lists.{get-map}
-use Rattle.lists.proofs.Walks.{all-map}
+use Rattle.lists.proofs.Walks.{all-map, any-map}
 use Rattle.lists.proofs.Turns.{grid-lt}
 use Rattle.expression.specs.Value.{polyOf}
 use Rattle.backend.specs.Circuit.{Pair, rowsOf, numLookups}
 use Rattle.prover.specs.Lookup.{multiplicity, covered, hAt}
 use Rattle.prover.specs.Log.{Log}
 use Rattle.prover.specs.Columns.{inputAt, tableAt, countAt, mAt, lookupHAt, allCovered, compressedPolys, mPolys, hPolys}
+use Rattle.prover.specs.Denominators.{someZero, lookupDenominators}
 use Rattle.prover.specs.Words.{wordsOf, elementsFrom, Small}
 use Rattle.prover.proofs.Words.{words-get, words-small}
 use Rattle.prover.proofs.Lengths.{compressed-length}
-use Rattle.prover_lookup.specs.Lookups.{inputFrom, tableFrom, coveredFrom, countsFrom, hsFrom}
-use Rattle.prover_lookup.proofs.Same.{all-agree, covered-same, multiplicity-same, multiplicity-le, h-agree}
+use Rattle.prover_lookup.specs.Lookups.{inputFrom, tableFrom, coveredFrom, countsFrom, zeroFrom, hsFrom}
+use Rattle.prover_lookup.proofs.Same.{
+  all-agree,
+  any-agree,
+  covered-same,
+  denominators-same,
+  multiplicity-same,
+  multiplicity-le,
+  h-agree,
+}
 
 -- ---- lists
 
@@ -115,6 +124,24 @@ module _ (g : Log 𝔾) (d : List ℕ) (at : ℕ)
     where
       test : List Pair → Bool
       test l = covered 𝔾 rows (inputAt 𝔾 g l) (tableAt 𝔾 g l)
+
+  -- question 17, of the lookups
+  pub zero-lookups-is : (γ : 𝔾 .F) → g .γ ≡ γ
+      → zeroFrom d at rows γ n
+      ≡ anyOf (λ l. someZero 𝔾 (lookupDenominators 𝔾 rows (g .γ) (inputAt 𝔾 g l) (tableAt 𝔾 g l))) (g .circuit .lookups)
+  zero-lookups-is γ γ-is =
+      ap (λ (x : 𝔾 .F). zeroFrom d at rows x n) (sym γ-is)
+      ∙ any-agree (λ j. someZero 𝔾 (lookupDenominators 𝔾 rows (g .γ) (inputFrom d at rows j) (tableFrom d at rows j)))
+      (λ j. test (lookup j)) n
+      (λ j l.
+      ap (someZero 𝔾)
+      (denominators-same rows (inputFrom d at rows j) (inputAt 𝔾 g (lookup j)) (tableFrom d at rows j) (tableAt 𝔾 g (lookup j))
+      (input-is j l) (table-is j l) (g .γ)))
+      ∙ sym (any-map test lookup (range n))
+      ∙ ap (anyOf test) (map-tabulate lookup (λ i. i) n ∙ tabulate-of (g .circuit .lookups) [])
+    where
+      test : List Pair → Bool
+      test l = someZero 𝔾 (lookupDenominators 𝔾 rows (g .γ) (inputAt 𝔾 g l) (tableAt 𝔾 g l))
 
   pub counts-are : g .el ≡ el → rows ≤ 1048576 → countsFrom d at rows n ≡ wordsOf rows (mPolys 𝔾 g)
   unfolding mPolys mAt countAt

@@ -1,16 +1,17 @@
--- Counts, coverage and h depend on the first rows alone.
+-- Counts, coverage, denominators and h depend on the first rows alone.
 use mathlib.Core.Path.{_≡_, sym, ap, ap₂, _∙_}
 use mathlib.Core.Bool.{Bool}
-use mathlib.Core.List.{List}
+use mathlib.Core.List.{List, _++_}
 use mathlib.Core.Option.{Option}
 use Prim.Native.Nat.{ℕ, _≤_, _<_}
 use native.Mathlib.Omega.{arith}
 use Rattle.field.specs.Field.{𝔾}
-use Rattle.lists.specs.Lists.{range, countOf, allOf, isSome, isAt}
+use Rattle.lists.specs.Lists.{range, countOf, allOf, anyOf, isSome, isAt}
 use Rattle.lists.proofs.Columns.{tabulate-cong, map-below, below-length}
 use Rattle.lists.proofs.Searches.{count-le, count-map}
-use Rattle.lists.proofs.Walks.{all-map}
+use Rattle.lists.proofs.Walks.{all-map, any-map}
 use Rattle.prover.specs.Lookup.{same, lastEqual, multiplicity, covered, hAt}
+use Rattle.prover.specs.Denominators.{lookupDenominators}
 use Rattle.prover.proofs.Search.{last-same}
 
 -- ---- tests that agree on the first numbers
@@ -20,6 +21,12 @@ all-agree p q n h =
     sym (all-map (λ (t : Bool). t) p (range n))
     ∙ ap (allOf (λ (t : Bool). t)) (map-below p n ∙ tabulate-cong p q n h ∙ sym (map-below q n))
     ∙ all-map (λ (t : Bool). t) q (range n)
+
+pub any-agree : (p q : ℕ → Bool) (n : ℕ) → ((b : ℕ) → b < n → p b ≡ q b) → anyOf p (range n) ≡ anyOf q (range n)
+any-agree p q n h =
+    sym (any-map (λ (t : Bool). t) p (range n))
+    ∙ ap (anyOf (λ (t : Bool). t)) (map-below p n ∙ tabulate-cong p q n h ∙ sym (map-below q n))
+    ∙ any-map (λ (t : Bool). t) q (range n)
 
 count-agree : (p q : ℕ → Bool) (n : ℕ) → ((b : ℕ) → b < n → p b ≡ q b) → countOf p (range n) ≡ countOf q (range n)
 count-agree p q n h =
@@ -49,6 +56,12 @@ module _ (rows : ℕ) (input input' table table' : ℕ → 𝔾 .F)
   multiplicity-same j =
       count-agree (λ b. isAt j (lastEqual 𝔾 rows table (input b))) (λ b. isAt j (lastEqual 𝔾 rows table' (input' b))) rows
       (λ b l. ap (isAt j) (row-agree b l))
+
+  pub denominators-same : (γ : 𝔾 .F) → lookupDenominators 𝔾 rows γ input table ≡ lookupDenominators 𝔾 rows γ input' table'
+  unfolding lookupDenominators
+  denominators-same γ =
+      ap₂ _++_ (tabulate-cong (λ b. 𝔾 .add γ (input b)) (λ b. 𝔾 .add γ (input' b)) rows (λ b l. ap (𝔾 .add γ) (inputs b l)))
+      (tabulate-cong (λ b. 𝔾 .add γ (table b)) (λ b. 𝔾 .add γ (table' b)) rows (λ b l. ap (𝔾 .add γ) (tables b l)))
 
 -- a count is at most the number of rows
 pub multiplicity-le : (rows : ℕ) (input table : ℕ → 𝔾 .F) (j : ℕ) → multiplicity 𝔾 rows input table j ≤ rows

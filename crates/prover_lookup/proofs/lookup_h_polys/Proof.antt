@@ -1,10 +1,21 @@
--- `lookup_h_polys` meets its contract: after j turns h of the first j lookups stands there.
+-- `lookup_h_polys` meets its contract: after j turns h of the first j lookups stands there, and no denominator of theirs is zero.
 use borrow.Author.Needs.{needs}
 use Prim.Native.Nat.{_+_, _-_, _≤_}
 use native.Mathlib.Omega.{arith}
 use lib.ListN.{length}
 use Rattle.field.specs.Element.{elem}
-use Rattle.prover_lookup.proofs.Hs.{HsUpto, hs-start, hs-end, hs-more, input-there, counts-there, h-there, h-behind}
+use Rattle.prover_lookup.proofs.Hs.{
+  HsUpto,
+  hs-start,
+  hs-end,
+  hs-size,
+  hs-more,
+  hs-stop,
+  input-there,
+  counts-there,
+  h-there,
+  h-behind,
+}
 use Rattle.prover_lookup.proofs.lookup_h_polys.Statement.{statement}
 use Rattle.prover_lookup.proofs.lookup_h_polys.Tie as tie
 
@@ -49,14 +60,32 @@ lookup-h-poly-requires c κs =
       omega (arith, t .2, c .before .before .loop .inv .size),
     )
 
+enum-told : tie.Need-enum-told Inv-loop μ-loop
+enum-told c = search needs
+
+enum-told-2 : tie.Need-enum-told-2 Inv-loop μ-loop
+enum-told-2 c = search needs
+
+same-length : tie.Need-same-length Inv-loop μ-loop
+same-length c =
+    let s = c .before .before .before .before .before .before .before .before .before in
+    hs-size _ _ _ _ _ _ _ (s .pre .0) (s .pre .1) (s .pre .2) _ _ _ _ _ (c .before .before .before .before .before .before .before .loop .inv)
+    (c .before .before .before .before .before .before .loop-test .taken) _ _ (c .before .before .before .before .lookup-h-poly .ensures)
+
+returns : tie.Need-returns Inv-loop μ-loop
+returns c =
+    let s = c .before .before .before .before .before .before .before .before .before in
+    hs-stop _ _ _ _ _ _ _ (s .pre .0) (s .pre .1) (s .pre .2) _ _ _ _ _ (c .before .before .before .before .before .before .before .loop .inv)
+    (c .before .before .before .before .before .before .loop-test .taken) _ _ (c .before .before .before .before .lookup-h-poly .ensures) (c .enum-told2 .given .1)
+
 add-input : tie.Need-add-input Inv-loop μ-loop
-add-input c = omega (arith, there (c .before .before .before .before) .0, c .before .before .before .before .before .before .before .fits .h)
+add-input c = omega (arith, there (c .before .before .before .before .before .before) .0, c .before .before .before .before .before .before .before .before .before .fits .h)
 
 add-counts : tie.Need-add-counts Inv-loop μ-loop
-add-counts c = omega (arith, there (c .before .before .before .before) .1, c .before .before .before .before .before .before .before .fits .h)
+add-counts c = omega (arith, there (c .before .before .before .before .before .before) .1, c .before .before .before .before .before .before .before .before .before .fits .h)
 
 add-to : tie.Need-add-to Inv-loop μ-loop
-add-to c = omega (arith, there (c .before .before .before .before) .2, c .before .before .before .before .before .before .before .good)
+add-to c = omega (arith, there (c .before .before .before .before .before .before) .2, c .before .before .before .before .before .before .before .before .before .good)
 
 add-j : tie.Need-add-j Inv-loop μ-loop
 add-j c = search needs
@@ -66,15 +95,15 @@ loop-less c = search needs
 
 loop-again : tie.Need-loop-again Inv-loop μ-loop
 loop-again c =
-    let s = c .before .before .before .before .before .before .before in
-    hs-more _ _ _ _ _ _ _ (s .pre .0) (s .pre .1) (s .pre .2) _ _ _ _ _ (c .before .before .before .before .before .loop .inv)
-    (c .before .before .before .before .loop-test .taken) _ (c .before .before .lookup-h-poly .ensures)
+    let s = c .before .before .before .before .before .before .before .before .before in
+    hs-more _ _ _ _ _ _ _ (s .pre .0) (s .pre .1) (s .pre .2) _ _ _ _ _ (c .before .before .before .before .before .before .before .loop .inv)
+    (c .before .before .before .before .before .before .loop-test .taken) _ _ (c .before .before .before .before .lookup-h-poly .ensures) (c .enum-told .given .1)
 
-same-length : tie.Need-same-length Inv-loop μ-loop
-same-length c = c .before .loop .inv .size
+same-length-2 : tie.Need-same-length-2 Inv-loop μ-loop
+same-length-2 c = c .before .loop .inv .size
 
-returns : tie.Need-returns Inv-loop μ-loop
-returns c =
+returns-2 : tie.Need-returns-2 Inv-loop μ-loop
+returns-2 c =
     let s = c .before .before .before in
     hs-end _ _ _ _ _ _ _ (s .pre .0) (s .pre .1) (s .pre .2) _ _ _ _ _ (c .before .loop .inv) (c .loop-test .left)
 
@@ -87,11 +116,15 @@ lookup-h-polys-spec =
     loop-holds
     add-table
     lookup-h-poly-requires
+    enum-told
+    enum-told-2
+    same-length
+    returns
     add-input
     add-counts
     add-to
     add-j
     loop-less
     loop-again
-    same-length
-    returns)
+    same-length-2
+    returns-2)
