@@ -3,22 +3,24 @@
 use mathlib.Core.Path.{_≡_, refl, sym, ap, _∙_}
 use mathlib.Core.Logic.{_≢_, _⊎_, _↔_, inl, inr, ⊎-elim}
 use mathlib.Core.Bool.{Bool, true, false, _||_}
-use mathlib.Core.List.{List, [], _∷_, _++_, map}
+use mathlib.Core.List.{List, []}
 use Prim.Native.Nat.{ℕ, zero, suc, _-_, _<_}
 use native.Mathlib.Omega.{arith}
 use lib.ListN.{length, getD}
 use Rattle.field.specs.Algebra.{Field}
-use Rattle.lists.specs.Lists.{tabulate, concat, anyOf}
+use Rattle.lists.specs.Lists.{tabulate, anyOf}
 use Rattle.lists.proofs.Tests.{false-true, by-test, any-at, any-append}
 use Rattle.lists.proofs.Searches.{any-stop}
+use Rattle.lists.proofs.Walks.{any-lists}
+use Rattle.lists.proofs.Some.{or-cases, some-at, some-tabulate}
 use Rattle.backend.specs.Circuit.{Pair, rowsOf, numCopied}
 use Rattle.prover.specs.Lookup.{same}
 use Rattle.prover.specs.Log.{Log}
 use Rattle.prover.specs.Columns.{inputAt, tableAt, permutationFactorAt}
-use Rattle.prover.specs.Denominators.{someZero, lookupDenominators, factorDenominators, denominatorsOf, zeroDenominator}
+use Rattle.prover.specs.Denominators.{someZero, lookupDenominators, factorDenominators, zeroDenominator}
 use Rattle.prover.proofs.Denominators.{is-zero, not-zero}
+use Rattle.prover.proofs.NoneZero.{zero-parts}
 use Rattle.hyperplonk_spec.specs.Meaning.{NoneZero, SomeZero, ZeroInput, ZeroTable, ZeroFactor}
-use Rattle.completeness.proofs.Some.{or-cases, some-at, some-tabulate, some-concat, some-map}
 
 or-left : (a b : Bool) → a ≡ true → (a || b) ≡ true
 or-left a b e = ap (λ (t : Bool). t || b) e
@@ -76,14 +78,14 @@ module _ (𝓕 : Field) where
     unfolding someZero factorDenominators
     factor-some e =
         let r = some-tabulate (anyOf isNil) (λ i. tabulate (λ b. f i (suc b)) (rows - 1)) n
-        (sym (some-concat isNil (tabulate (λ i. tabulate (λ b. f i (suc b)) (rows - 1)) n)) ∙ e) in
+        (any-lists isNil (tabulate (λ i. tabulate (λ b. f i (suc b)) (rows - 1)) n) ∙ e) in
         let s = some-tabulate isNil (λ b. f (r .0) (suc b)) (rows - 1) (r .2) in
         (r .0, r .1, (suc (s .0), (let l = s .1 in omega arith), (omega arith, nil-when (f (r .0) (suc (s .0))) (s .2))))
 
     some-factor : AtFactor → someZero 𝓕 (factorDenominators 𝓕 rows n f) ≡ true
     unfolding someZero factorDenominators
     some-factor s =
-        some-concat isNil (tabulate (λ i. tabulate (λ b. f i (suc b)) (rows - 1)) n)
+        sym (any-lists isNil (tabulate (λ i. tabulate (λ b. f i (suc b)) (rows - 1)) n))
         ∙ sym
         (any-stop (anyOf isNil) (λ i. tabulate (λ b. f i (suc b)) (rows - 1)) n (s .0) (go (s .2 .0) (s .2 .1) (s .2 .2 .0) (s .2 .2 .1)) (s .1))
       where
@@ -105,16 +107,9 @@ module _ (𝓕 : Field) where
     abbrev factors : List F
     factors = factorDenominators 𝓕 rows (numCopied (g .circuit)) (permutationFactorAt 𝓕 g)
 
-    zero-parts : zeroDenominator 𝓕 g ≡ (anyOf (λ l. someZero 𝓕 (of l)) (g .circuit .lookups) || someZero 𝓕 factors)
-    unfolding zeroDenominator denominatorsOf someZero
-    zero-parts =
-        any-append isNil (concat (map of (g .circuit .lookups))) factors
-        ∙ ap (λ (t : Bool). t || anyOf isNil factors)
-        (some-concat isNil (map of (g .circuit .lookups)) ∙ some-map (anyOf isNil) of (g .circuit .lookups))
-
     some-zero-of : zeroDenominator 𝓕 g ≡ true → SomeZero 𝓕 g
     some-zero-of e =
-        ⊎-elim lookup factor (or-cases (anyOf (λ l. someZero 𝓕 (of l)) (g .circuit .lookups)) (someZero 𝓕 factors) (sym zero-parts ∙ e))
+        ⊎-elim lookup factor (or-cases (anyOf (λ l. someZero 𝓕 (of l)) (g .circuit .lookups)) (someZero 𝓕 factors) (sym (zero-parts 𝓕 g) ∙ e))
       where
         lookup : anyOf (λ l. someZero 𝓕 (of l)) (g .circuit .lookups) ≡ true → SomeZero 𝓕 g
         lookup h =
@@ -126,7 +121,7 @@ module _ (𝓕 : Field) where
         factor h = inr (inr (factor-some rows (numCopied (g .circuit)) (permutationFactorAt 𝓕 g) h))
 
     zero-of-some : SomeZero 𝓕 g → zeroDenominator 𝓕 g ≡ true
-    zero-of-some s = zero-parts ∙ ⊎-elim input (⊎-elim table factor) s
+    zero-of-some s = zero-parts 𝓕 g ∙ ⊎-elim input (⊎-elim table factor) s
       where
         lookups : (j : ℕ) → j < length (g .circuit .lookups) → someZero 𝓕 (of (getD (g .circuit .lookups) j [])) ≡ true
             → (anyOf (λ l. someZero 𝓕 (of l)) (g .circuit .lookups) || someZero 𝓕 factors) ≡ true

@@ -16,6 +16,7 @@ use Rattle.field.specs.Field.{𝔾, el, val, val-el}
 use Rattle.lists.specs.Lists.{tabulate, range, anyOf, All}
 use Rattle.lists.proofs.All.{all-right}
 use Rattle.lists.proofs.Tests.{false-true, by-test}
+use Rattle.lists.proofs.Some.{none-all}
 use Rattle.lists.proofs.Lists.{get-past, split-length}
 use Rattle.lists.proofs.Columns.{tabulate-length}
 use Rattle.lists.proofs.Searches.{count-le}
@@ -29,7 +30,6 @@ use Rattle.hyperplonk_spec.specs.Meaning.{NoneZero, Premises}
 use Rattle.hyperplonk_spec.specs.Insurer.{drawn, denominators, Good, Passes, Odds, FewTurnedAway, OddsLimit}
 use Rattle.completeness.proofs.Asked.{lending, asked-below}
 use Rattle.hyperplonk_spec.proofs.Building.{refused-number}
-use Rattle.completeness.proofs.Some.{none-all}
 use Rattle.completeness.proofs.Denominators.{none-zero-when}
 use Rattle.completeness.proofs.DemandThree.{seventeen}
 use Rattle.completeness.proofs.GoodLog.{good-log}

@@ -1,7 +1,6 @@
 pub mod Passed
 pub mod WellFormed
 pub mod Counts
-pub mod Some
 pub mod Denominators
 pub mod CellNumbers
 pub mod CycleNumbers

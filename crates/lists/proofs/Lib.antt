@@ -17,3 +17,4 @@ pub mod Parts
 pub mod Runs
 pub mod Window
 pub mod Same
+pub mod Some

@@ -2,13 +2,13 @@
 use mathlib.Core.Path.{_≡_, refl, sym, ap, _∙_}
 use mathlib.Core.Logic.{_⊎_, inl, inr}
 use mathlib.Core.Bool.{Bool, true, false, _||_}
-use mathlib.Core.List.{List, [], _∷_, _++_, map}
-use Prim.Native.Nat.{ℕ, zero, suc, _<_}
+use mathlib.Core.List.{List, [], _∷_}
+use Prim.Native.Nat.{ℕ, suc, _<_}
 use native.Mathlib.Omega.{arith}
 use lib.ListN.{length, getD}
-use Rattle.lists.specs.Lists.{tabulate, concat, anyOf, All}
-use Rattle.lists.proofs.Tests.{false-true, any-append}
+use Rattle.lists.specs.Lists.{tabulate, anyOf, All}
+use Rattle.lists.proofs.Tests.{false-true}
 use Rattle.lists.proofs.Columns.{tabulate-length, get-tabulate}
 
 pub or-cases : (a b : Bool) → (a || b) ≡ true → (a ≡ true) ⊎ (b ≡ true)
 or-cases true b e = inl refl
@@ -32,12 +32,6 @@ module _ {A : Type 0} (p : A → Bool) where
       let l : r .0 < n = (let a = r .1 in let b = tabulate-length f n in omega arith) in
       (r .0, l, sym (ap p (get-tabulate f n (r .0) (f 0) l)) ∙ r .2)
 
-  -- of lists one after another, one has one
-  pub some-concat : (xss : List (List A)) → anyOf p (concat xss) ≡ anyOf (anyOf p) xss
-  unfolding anyOf concat
-  some-concat [] = refl
-  some-concat (xs ∷ xss) = any-append p xs (concat xss) ∙ ap (λ (t : Bool). anyOf p xs || t) (some-concat xss)
-
   pub none-all : (xs : List A) → anyOf p xs ≡ false → All (λ x. p x ≡ false) xs
   unfolding anyOf
   none-all [] e = tt
@@ -47,8 +41,3 @@ module _ {A : Type 0} (p : A → Bool) where
           → All (λ x. p x ≡ false) (x ∷ xs)
       go true q e rec = false-true (sym e)
       go false q e rec = (q, rec e)
-
-pub some-map : {A B : Type 0} (p : B → Bool) (f : A → B) (xs : List A) → anyOf p (map f xs) ≡ anyOf (λ x. p (f x)) xs
-unfolding anyOf
-some-map p f [] = refl
-some-map p f (x ∷ xs) = ap (λ (t : Bool). p (f x) || t) (some-map p f xs)
