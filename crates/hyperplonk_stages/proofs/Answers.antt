@@ -8,13 +8,17 @@ use native.Mathlib.Omega.{arith}
 use lib.Dec.{eqb, leb}
 use lib.ListN.{length, getD, replicate}
 use borrow.Author.Tests.{leb-true, eqb-true, ltb-true, le-leb, lt-leb, ne-eqb}
-use Rattle.field.specs.Field.{𝔾}
+use Rattle.field.specs.Field.{𝔾, val}
 use Rattle.lists.specs.Lists.{tabulate, allOf, writePrefix, writeAt}
+use Rattle.lists.proofs.Columns.{tabulate-length}
 use Rattle.lists.proofs.First.{first-none, first-next, first-number}
 use Rattle.lists.proofs.Over.{writeAt-writePrefix}
 use Rattle.lists.proofs.Tests.{and-left, and-right, all-append, all-each}
 use Rattle.backend.specs.Questions.{goodK, small}
-use Rattle.prover.specs.Lookup.{multiplicity, covered}
+use Rattle.prover.specs.Lookup.{multiplicity, covered, hAt}
+use Rattle.prover.specs.Denominators.{someZero, lookupDenominators}
+use Rattle.prover.specs.Answers.{outcomeOf, outcomeNumber, outcomeWords}
+use Rattle.prover.specs.declared.Outcome.{Outcome}
 use Rattle.prover.specs.Words.{elements, Small, countWords}
 use Rattle.hyperplonk_spec.specs.Stages.{Answer, checkStage, fits}
 
@@ -170,3 +174,33 @@ pub column-done : (f : ℕ → ℕ) (k rows : ℕ) (out d : List ℕ) → rows �
 column-done f k rows out d n e =
     ap (λ (o : List ℕ). record { number = 0; out = o })
     (e ∙ sym (writeAt-writePrefix (tabulate f rows) out) ∙ ap (λ (r : ℕ). writePrefix (tabulate f r) out) n)
+
+-- ---- h
+module _ (γ : 𝔾 .F) (input table m out : List ℕ) where
+  abbrev hWords : ℕ → List ℕ
+  hWords rows = tabulate (λ b. val (hAt 𝔾 γ (elements input) (elements table) (elements m) b)) rows
+
+  abbrev zeroIn : ℕ → Bool
+  zeroIn rows = someZero 𝔾 (lookupDenominators 𝔾 rows γ (elements input) (elements table))
+
+  abbrev pub divided : ℕ → Answer
+  divided rows =
+      cond (zeroIn rows) (record { number = 17; out = writePrefix (replicate rows 0) out }) (record { number = 0; out = writePrefix (hWords rows) out })
+
+  pub h-done : (k rows number : ℕ) (r : Outcome) (d : List ℕ) → rows ≡ 2 ^ k → number ≡ outcomeNumber r → r ≡ outcomeOf (zeroIn rows)
+      → d ≡ writeAt out 0 (outcomeWords r (hWords rows))
+      → record { number = number; out = d } ≡ divided (2 ^ k)
+  h-done k rows number r d n e is words =
+      ap₂ (λ (x : ℕ) (y : List ℕ). record { number = x; out = y }) (e ∙ ap (λ (o : Outcome). outcomeNumber o) is)
+      (words ∙ ap (λ (o : Outcome). writeAt out 0 (outcomeWords o (hWords rows))) is)
+      ∙ by (zeroIn rows)
+      ∙ ap divided n
+    where
+      by : (t : Bool)
+          → _≡_ {A = Answer} (record { number = outcomeNumber (outcomeOf t); out = writeAt out 0 (outcomeWords (outcomeOf t) (hWords rows)) })
+          (cond t (record { number = 17; out = writePrefix (replicate rows 0) out }) (record { number = 0; out = writePrefix (hWords rows) out }))
+      by true =
+          ap (λ (o : List ℕ). record { number = 17; out = o })
+          (ap (λ (x : ℕ). writeAt out 0 (replicate x 0)) (tabulate-length (λ b. val (hAt 𝔾 γ (elements input) (elements table) (elements m) b)) rows)
+          ∙ sym (writeAt-writePrefix (replicate rows 0) out))
+      by false = ap (λ (o : List ℕ). record { number = 0; out = o }) (sym (writeAt-writePrefix (hWords rows) out))

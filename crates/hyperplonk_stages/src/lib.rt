@@ -1,12 +1,14 @@
-// The stages called alone: "they meet 2, 12, 13, 14 and, for counts, 15".
+// The stages called alone: "they meet 2, 12, 13, 14 and, for counts, 15"; h meets 17, last.
 use backend_sections::words::all_elements;
 use backend_sections::words::is_element;
 use bh::rows_of;
 use field::goldilocks::Goldilocks;
+use prover::Outcome;
 use prover_lookup::h::h_column;
 use prover_lookup::m::m_column;
 ghost use mathlib.Core.Path.{_≡_};
 ghost use Rattle.backend.specs.Questions.{goodK};
+ghost use Rattle.prover.specs.Answers.{outcomeNumber};
 ghost use Rattle.hyperplonk_spec.specs.Stages.{mOf, hOf, eqOf};
 
 // "Is k from 1 to 10?"
@@ -41,7 +43,17 @@ pub fn lookup_m_poly(k: u64, input: &[u64], table: &[u64], m: &mut [u64]) -> u64
     0
 }
 
-// h of two columns and their counts. A refusal leaves the buffer as it was.
+// The number of an answer: 17 where a denominator is zero.
+fn number_of(outcome: Outcome) -> u64
+    ensures { λ r. ⌜ r ≡ outcomeNumber outcome ⌝ }
+{
+    match outcome {
+        Outcome::Written => 0,
+        Outcome::ZeroDenominator => 17,
+    }
+}
+
+// h of two columns and their counts. 17 leaves a column of zeros, any other refusal the buffer as it was.
 pub fn lookup_h_poly(
     k: u64,
     input: &[u64],
@@ -68,8 +80,7 @@ pub fn lookup_h_poly(
     if h.len() < rows {
         return 14;
     }
-    h_column(rows, input, table, m, Goldilocks::from_u64(gamma), h);
-    0
+    number_of(h_column(rows, input, table, m, Goldilocks::from_u64(gamma), h))
 }
 
 // The `eq_xy` table of k values. A refusal leaves the buffer as it was.

@@ -1,16 +1,15 @@
 use mathlib.Core.Path.{_≡_, ap, _∙_}
 use mathlib.Core.Bool.{true, _&&_}
 use mathlib.Core.List.{[], _∷_, _++_}
+use Prim.Native.Nat.{_^_}
 use native.Mathlib.Omega.{arith}
 use borrow.Author.Needs.{needs}
-use Rattle.field.specs.Field.{𝔾, val}
-use Rattle.lists.specs.Lists.{allOf, writeAt, tabulate as columnOf}
+use Rattle.field.specs.Field.{𝔾}
+use Rattle.lists.specs.Lists.{allOf}
 use Rattle.backend.specs.Questions.{goodK, small}
 use Rattle.backend.proofs.Answers.{says-no, says-yes}
-use Rattle.prover.specs.Lookup.{hAt}
-use Rattle.prover.specs.Words.{elements}
 use Rattle.hyperplonk_spec.specs.Stages.{fits, hOf}
-use Rattle.hyperplonk_stages.proofs.Answers.{no-2, no-12, no-13, no-14, all-yes, k-le, three-exact, three-small, three-columns, column-done}
+use Rattle.hyperplonk_stages.proofs.Answers.{no-2, no-12, no-13, no-14, all-yes, k-le, three-exact, three-small, three-columns, divided, h-done}
 use Rattle.hyperplonk_stages.proofs.lookup_h_poly.Statement.{statement}
 use Rattle.hyperplonk_stages.proofs.lookup_h_poly.Tie as tie
 
@@ -105,21 +104,23 @@ h-column-requires c κs =
     let a = start (one (two at)) .args in
     three-columns _ _ (two at .before .rows-of .ensures) (a .input .now) (a .table .now) (a .m .now) (a .h .now) (exact (two at)) (c .before .before .if4 .left)
 
+number-of-requires : tie.Need-number-of-requires
+number-of-requires c κs = search needs
+
 same-length : tie.Need-same-length
 same-length c = search needs
 
 returns-5 : tie.Need-returns-5
 unfolding hOf
 returns-5 c =
-    let column = c .before .before .h-column in
-    let room = c .before .before .before .before .before in
+    let column = c .before .before .before .h-column in
+    let room = c .before .before .before .before .before .before in
     let at = room .before in
     let a = start (one (two at)) .args in
     let n = two at .before .rows-of .ensures in
-    column-done _ _ _ _ _ n
-    (column .ensures
-    ∙ ap (λ (γ : 𝔾 .F). writeAt (a .h .now) 0 (columnOf (λ b. val (hAt 𝔾 γ (elements (a .input .now)) (elements (a .table .now)) (elements (a .m .now)) b)) (two at .before .rows-of .result)))
-    (c .before .before .before .before .from-u64 .ensures))
+    h-done _ (a .input .now) (a .table .now) (a .m .now) (a .h .now) _ _ _ _ _ n (c .number-of .ensures) (column .ensures .0) (column .ensures .1)
+    ∙ ap (λ (γ : 𝔾 .F). divided γ (a .input .now) (a .table .now) (a .m .now) (a .h .now) (2 ^ a .k))
+    (c .before .before .before .before .before .from-u64 .ensures)
     ∙ all-yes _ _ _ _ _ (good (one (two at))) (exact (two at)) (all-small at) (omega (arith, n, room .if4 .left))
 
 pub lookup-h-poly-spec : {M : Type 1} → statement M
@@ -138,5 +139,6 @@ lookup-h-poly-spec =
     returns-4
     from-u64-requires
     h-column-requires
+    number-of-requires
     same-length
     returns-5)
