@@ -10,3 +10,4 @@ pub mod Z
 pub mod Instance
 pub mod Denominators
 pub mod NoneZero
+pub mod FactorZero
