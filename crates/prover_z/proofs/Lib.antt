@@ -1,3 +1,5 @@
 pub mod Suffix
+pub mod Parts
+pub mod Factored
 pub mod Passes
 pub mod Both
