@@ -179,9 +179,10 @@ fn sizes(circuit: &[u64]) -> Result<[u64; 3], u64> {
     Ok([c.column_words() as u64, composed_words(&c).len() as u64 / 4, visits(&c)])
 }
 
-/// A log of zeros: instance and witness words; and challenges that are not.
+/// A log of zeros: instance and witness words; and challenges that are not, none a simple sum or product of others, so that
+/// no denominator is likely to be zero.
 pub fn plain_log(c: &Circuit) -> [Vec<u64>; 3] {
-    let challenges = (0..c.challenges() + 2).map(|i| 1000003 + i).collect();
+    let challenges = (0..c.challenges() + 2).map(|i| model::pow(1000003 + i, 65537)).collect();
     [vec![0; c.instance_words()], vec![0; c.witness_words()], challenges]
 }
 

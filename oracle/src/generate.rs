@@ -127,7 +127,11 @@ fn draw(rng: &mut Rng, small: bool) -> Log {
     polys.resize_with(total, || values(rng, wide, rows));
     let scope = Scope { k, polys: total, challenges: user };
     let small_challenges = rng.once_in(2);
-    let challenges = values(rng, !small_challenges, user + 2);
+    let mut challenges = values(rng, !small_challenges, user + 2);
+    // A small γ makes many denominators zero, and such logs are not held to the Rust.
+    if !rng.once_in(3) {
+        challenges[user + 1] = value(rng, true);
+    }
 
     // Lookups; `free` witness columns from the left are not yet bound to one.
     let mut lookups: Vec<Vec<(Tree, Tree)>> = vec![];

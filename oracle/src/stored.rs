@@ -42,7 +42,7 @@ fn some_sizes(builds: &[Case]) -> Vec<Case> {
 /// Every way to be refused, on small circuits; then drawn cases, each short; then h alone, and sizes.
 pub fn sample() -> String {
     // 15 and 17 want room for the columns.
-    let most = |case: &Case| if case.returned[0] < 15 { 900 } else { 1500 };
+    let most = |case: &Case| if case.returned[0] < 15 { 900 } else { 2000 };
     let short = |case: &Case, seed: u64| case.text().len() < most(case) || seed > 200;
     let mut cases: Vec<Case> = (0..WAYS.len()).filter_map(|way| refused_by(way, short)).collect();
     let drawn = |call: &'static str, refused: bool, most: usize| {
