@@ -254,7 +254,7 @@ pub const FAULTS: [&str; 26] = [
     "lookup_h_poly: 17: the input is not asked",
 ];
 
-/// The factors of a build or of h alone that are zero, where their words pass 13 and, alone, 12 and 13.
+/// The factors of a build or of h alone that are zero; none where a build is refused by 1 to 13.
 fn zeros(name: &str, lent: &[Vec<u64>]) -> Vec<Zero> {
     let slices: Vec<&[u64]> = lent.iter().map(|s| &s[..]).collect();
     match name {
