@@ -1,6 +1,7 @@
 // The building call: the questions in their order, then the columns and the nodes.
 use backend::MAX_POLYS;
 use backend_questions::first_no;
+use hyperplonk_columns::columns_number;
 use hyperplonk_columns::write_columns;
 use hyperplonk_nodes::compose_nodes;
 use hyperplonk_prepare::circuit_params;
@@ -32,7 +33,7 @@ fn refused(number: u64) -> Built
     }
 }
 
-// Question 15 and after, once 1 to 14 are answered yes.
+// Questions 15 and 17 and after, once 1 to 14 are answered yes.
 fn build_checked<'a>(
     circuit: &'a [u64],
     instance: &[u64],
@@ -46,7 +47,7 @@ fn build_checked<'a>(
     requires { ⌜ Prepared (now circuit) (now copied) params × (q12 (circuitOf (now circuit)) (now instance) (now witness) (now challenges) ≡ true) × (q14 (circuitOf (now circuit)) (now columns) (now nodes) ≡ true) ⌝ }
     ensures { λ r. ⌜ record { answer = r; columns = now (columns .exit); nodes = now (nodes .exit) } ≡ buildLog (logOf (now (circuit .entry)) (now (instance .entry)) (now (witness .entry)) (now (challenges .entry))) (now (columns .entry)) (now (nodes .entry)) ⌝ }
 {
-    let covered = write_columns(
+    let outcome = write_columns(
         circuit,
         instance,
         witness,
@@ -55,8 +56,9 @@ fn build_checked<'a>(
         copied,
         params,
     );
-    if !covered {
-        return refused(15);
+    let number = columns_number(outcome);
+    if number != 0 {
+        return refused(number);
     }
     let words = column_words(circuit, params);
     let count = compose_nodes(circuit, copied, params, 0, nodes);

@@ -1,6 +1,6 @@
 -- The stages on accepted circuit words: what each asks for, and what all of them write.
 use mathlib.Core.Path.{_≡_, refl, sym, ap, ap₂, _∙_, subst}
-use mathlib.Core.Bool.{Bool, true, false, cond, _&&_}
+use mathlib.Core.Bool.{Bool, true, false, cond, _&&_, _||_}
 use mathlib.Core.List.{List}
 use Prim.Native.Nat.{ℕ, _+_, _*_, _≤_, _<_}
 use native.Mathlib.Nat.{add-mul, mul-le-mul}
@@ -10,14 +10,19 @@ use lib.Dec.{eqb}
 use borrow.Author.Tests.{eqb-true}
 use Rattle.field.specs.Prime.{P}
 use Rattle.field.specs.Field.{𝔾, el}
-use Rattle.lists.specs.Lists.{writeAt, total, writePrefix}
+use Rattle.lists.specs.Lists.{writeAt, total, writePrefix, anyOf}
 use Rattle.lists.proofs.Tests.{and-left, and-right}
+use Rattle.lists.proofs.Columns.{tabulate-length}
 use Rattle.lists.proofs.Over.{drop-more, drop-past}
 use Rattle.backend.specs.Circuit.{Circuit, Section, bodyOf, circuitOf, rowsOf, numInstance, numWitness, numChallenges, copied, numCopied, numLookups}
 use Rattle.preprocessor.specs.Compose.{numZ, paramsOf}
 use Rattle.preprocessor.specs.declared.CircuitParams.{CircuitParams}
 use Rattle.prover.specs.Log.{Log}
-use Rattle.prover.specs.Columns.{permutationAt, instancePolys, permutationPolys, compressedPolys, mPolys, hPolys, writtenPolys, allCovered}
+use Rattle.prover.specs.Columns.{permutationAt, permutationFactorAt, inputAt, tableAt, instancePolys, permutationPolys, compressedPolys, mPolys, hPolys, allCovered}
+use Rattle.prover.specs.Denominators.{someZero, lookupDenominators, factorDenominators, zeroDenominator}
+use Rattle.prover.specs.Answers.{outcomeOf, outcomeWords}
+use Rattle.prover.specs.declared.Outcome.{Outcome}
+use Rattle.prover.proofs.NoneZero.{zero-parts}
 use Rattle.prover.specs.Words.{wordsOf, Small}
 use Rattle.prover.specs.Lent.{Given}
 use Rattle.prover.proofs.Words.{words-length}
@@ -25,12 +30,16 @@ use Rattle.hyperplonk_spec.specs.Build.{logOf, columnWords, q12}
 use Rattle.hyperplonk_prepare.specs.Prepared.{Accepted, layoutFromWords, permutationOffset, compressedOffset, mOffset, hOffset, zOffset}
 use Rattle.hyperplonk_prepare.proofs.Accepted.{k-pos, k-few, rows-few, rows-is, few-user, given, instances-entries}
 use Rattle.hyperplonk_prepare.proofs.Computed.{columns-low}
-use Rattle.prover_lookup.specs.Lookups.{coveredFrom, countsFrom, hsFrom, CountsWritten}
-use Rattle.prover_lookup.proofs.Log.{lookups-small, all-covered-is, counts-are, hs-are}
-use Rattle.hyperplonk_columns.specs.Stages.{instanceWords, permutationWords, compressedWords, zWords}
+use Rattle.prover_lookup.specs.Lookups.{coveredFrom, countsFrom, zeroFrom, hsFrom, CountsWritten, HsWritten}
+use Rattle.prover_lookup.proofs.Hs.{written-none, zero-some}
+use Rattle.prover_lookup.proofs.Log.{lookups-small, all-covered-is, zero-lookups-is, counts-are, hs-are}
+use Rattle.hyperplonk_columns.specs.Stages.{instanceWords, permutationWords, compressedWords, zWords, zDenominators}
 use Rattle.hyperplonk_columns.specs.Kinds.{polysBeforeM, polysThroughM, polysAfterM}
+use Rattle.hyperplonk_columns.specs.Outcome.{columnsOutcome, columnsLeft, AfterM}
+use Rattle.hyperplonk_columns.specs.declared.ColumnsOutcome.{ColumnsOutcome}
+use Rattle.hyperplonk_columns.proofs.Divided.{never, first-zero, first-none, past-z}
 use Rattle.hyperplonk_columns.proofs.Fronts.{cleared}
-use Rattle.hyperplonk_columns.proofs.Columns.{counts-at, through-m-more, compressed-before-m, compressed-counted, counts-counted, counted-taken, written-more, before-m-written, last-written}
+use Rattle.hyperplonk_columns.proofs.Columns.{counts-at, hs-at, through-m-more, compressed-before-m, compressed-counted, counts-counted, counted-taken, written-more, before-m-written, divided-by, last-written}
 
 -- ---- each kind begins where the one before ends
 
@@ -110,43 +119,119 @@ module _ (ws instances witness challenges : List ℕ) (a : Accepted ws) where
   before-m-end d₀ d₁ d₂ d₃ room first second third =
       before-m-written ws instances witness challenges pos-here small-here given-here (instances-entries ws a) d₀ d₁ d₂ d₃ room first second third
 
-  -- h and z behind the counts
-  pub last-end : (d₄ d₅ d₆ : List ℕ) → columnWords c ≤ length d₄
-      → take (hOffset c) d₄ ≡ wordsOf rows (polysThroughM 𝔾 log)
-      → d₅ ≡ writeAt d₄ (hOffset c) (wordsOf rows (hPolys 𝔾 log))
-      → d₆ ≡ writeAt d₅ (zOffset c) (zWords ws witness d₅ challenges)
-      → d₆ ≡ writeAt d₄ (hOffset c) (wordsOf rows (polysAfterM 𝔾 log))
-  last-end d₄ d₅ d₆ room front fifth sixth =
-      last-written ws instances witness challenges pos-here small-here given-here (instances-entries ws a) d₄ d₅ d₆ room front fifth sixth
+  -- h and z behind the counts, of a buffer that has the columns to the counts at its front
+  module _ (d₄ : List ℕ) (room : columnWords c ≤ length d₄) (front : take (hOffset c) d₄ ≡ wordsOf rows (polysThroughM 𝔾 log)) where
+    abbrev inLookups : Bool
+    inLookups = anyOf (λ l. someZero 𝔾 (lookupDenominators 𝔾 rows (log .γ) (inputAt 𝔾 log l) (tableAt 𝔾 log l))) (c .lookups)
+
+    abbrev inFactors : Bool
+    inFactors = someZero 𝔾 (factorDenominators 𝔾 rows (numCopied c) (permutationFactorAt 𝔾 log))
+
+    parts : zeroDenominator 𝔾 log ≡ (inLookups || inFactors)
+    unfolding logOf
+    parts = zero-parts 𝔾 log
+
+    -- a lookup has a denominator that is zero
+    pub h-stopped : (d₅ : List ℕ) → Outcome.ZeroDenominator ≡ outcomeOf inLookups
+        → drop (hOffset c + numLookups c * rows) d₅ ≡ drop (hOffset c + numLookups c * rows) d₄
+        → AfterM log d₄ Outcome.ZeroDenominator d₅
+    unfolding logOf
+    h-stopped d₅ is back =
+        let p = placed c in
+        record {
+          is = first-zero inLookups inFactors (zeroDenominator 𝔾 log) parts (zero-some inLookups (sym is));
+          written = λ e. never e;
+          back = drop-more (hOffset c + numLookups c * rows) (columnWords c) d₅ d₄ (omega arith) back;
+        }
+
+    -- none has: then z decides
+    pub z-decides : (d₅ d₆ : List ℕ) (r : Outcome) → Outcome.Written ≡ outcomeOf inLookups
+        → drop (hOffset c + numLookups c * rows) d₅ ≡ drop (hOffset c + numLookups c * rows) d₄
+        → d₅ ≡ writeAt d₄ (hOffset c) (wordsOf rows (hPolys 𝔾 log))
+        → length d₅ ≡ length d₄
+        → (r ≡ outcomeOf (someZero 𝔾 (zDenominators ws witness d₅ challenges)))
+        × (d₆ ≡ writeAt d₅ (zOffset c) (outcomeWords r (zWords ws witness d₅ challenges)))
+        → AfterM log d₄ r d₆
+    unfolding logOf
+    z-decides d₅ d₆ r is back fifth size z =
+        let p = placed c in
+        record {
+          is =
+              first-none inLookups inFactors (zeroDenominator 𝔾 log) r parts (written-none inLookups (sym is))
+              (z .0 ∙ ap (λ (xs : List (𝔾 .F)). outcomeOf (someZero 𝔾 xs))
+              (divided-by ws instances witness challenges pos-here small-here given-here (instances-entries ws a) d₄ d₅ room front fifth));
+          written = λ e.
+              last-written ws instances witness challenges pos-here small-here given-here (instances-entries ws a) d₄ d₅ room front fifth d₆
+              (z .1 ∙ ap (λ (o : Outcome). writeAt d₅ (zOffset c) (outcomeWords o (zWords ws witness d₅ challenges))) e);
+          back =
+              past-z d₅ d₆ (zOffset c) (columnWords c) (numZ c * rows) r (zWords ws witness d₅ challenges) z-size (p .zs)
+              (omega arith)
+              (z .1)
+              ∙ drop-more (hOffset c + numLookups c * rows) (columnWords c) d₅ d₄ (omega arith) back;
+        }
+      where
+        z-size : length (zWords ws witness d₅ challenges) ≡ numZ c * rows
+        z-size = words-length rows _ ∙ ap (λ (n : ℕ). n * rows) (tabulate-length _ (numZ c))
 
   module _ (d₀ d₃ : List ℕ) (room : columnWords c ≤ length d₀) (before : d₃ ≡ writeAt d₀ 0 (wordsOf rows (polysBeforeM 𝔾 log))) where
-    -- all of them
-    pub all-end : (d₄ d₆ : List ℕ) → d₄ ≡ writeAt d₃ (mOffset c) (wordsOf rows (mPolys 𝔾 log))
-        → (take (hOffset c) d₄ ≡ wordsOf rows (polysThroughM 𝔾 log) → d₆ ≡ writeAt d₄ (hOffset c) (wordsOf rows (polysAfterM 𝔾 log)))
-        → d₆ ≡ writePrefix (wordsOf rows (writtenPolys 𝔾 log)) d₀
+    -- m behind them
+    counted : (d₄ : List ℕ) → d₄ ≡ writeAt d₃ (mOffset c) (wordsOf rows (mPolys 𝔾 log)) → d₄ ≡ writeAt d₀ 0 (wordsOf rows (polysThroughM 𝔾 log))
     unfolding logOf
-    all-end d₄ d₆ fourth last =
-        let counted : d₄ ≡ writeAt d₀ 0 (wordsOf rows (polysThroughM 𝔾 log)) =
-        fourth ∙ ap (λ (d : List ℕ). writeAt d (mOffset c) (wordsOf rows (mPolys 𝔾 log))) before ∙ through-m-more log d₀ room in
-        last (ap (take (hOffset c)) counted ∙ counted-taken log d₀)
-        ∙ ap (λ (d : List ℕ). writeAt d (hOffset c) (wordsOf rows (polysAfterM 𝔾 log))) counted
-        ∙ written-more log d₀ room
+    counted d₄ fourth =
+        fourth ∙ ap (λ (d : List ℕ). writeAt d (mOffset c) (wordsOf rows (mPolys 𝔾 log))) before ∙ through-m-more log d₀ room
+
+    -- all of them, or that a denominator is zero
+    module _ (d₄ d₆ : List ℕ) (r : Outcome) (fourth : d₄ ≡ writeAt d₃ (mOffset c) (wordsOf rows (mPolys 𝔾 log)))
+        (yes : true ≡ allCovered 𝔾 log)
+        (last : take (hOffset c) d₄ ≡ wordsOf rows (polysThroughM 𝔾 log) → AfterM log d₄ r d₆) where
+      after : AfterM log d₄ r d₆
+      unfolding logOf
+      after = last (ap (take (hOffset c)) (counted d₄ fourth) ∙ counted-taken log d₀)
+
+      pub all-end : r ≡ Outcome.Written
+          → (ColumnsOutcome.Written ≡ columnsOutcome log) × (d₆ ≡ writePrefix (columnsLeft log ColumnsOutcome.Written) d₀)
+      unfolding logOf
+      all-end e = (
+        sym (ap₂ (λ (t z : Bool). cond t (cond z ColumnsOutcome.ZeroDenominator ColumnsOutcome.Written) ColumnsOutcome.Uncovered) (sym yes)
+            (written-none (zeroDenominator 𝔾 log) (sym (after .is) ∙ e))),
+        after .written e
+            ∙ ap (λ (d : List ℕ). writeAt d (hOffset c) (wordsOf rows (polysAfterM 𝔾 log))) (counted d₄ fourth)
+            ∙ written-more log d₀ room,
+      )
+
+      -- question 17: "zeroes the column words as 15 does"
+      pub zero-end : (d₇ : List ℕ) (words : ℕ) → r ≡ Outcome.ZeroDenominator → words ≡ columnWords c → d₇ ≡ writeAt d₆ 0 (replicate words 0)
+          → (ColumnsOutcome.ZeroDenominator ≡ columnsOutcome log) × (d₇ ≡ writePrefix (columnsLeft log ColumnsOutcome.ZeroDenominator) d₀)
+      unfolding logOf
+      zero-end d₇ words e q zeros = (
+        sym (ap₂ (λ (t z : Bool). cond t (cond z ColumnsOutcome.ZeroDenominator ColumnsOutcome.Written) ColumnsOutcome.Uncovered) (sym yes)
+            (zero-some (zeroDenominator 𝔾 log) (sym (after .is) ∙ e))),
+        zeros
+            ∙ ap (λ (n : ℕ). writeAt d₆ 0 (replicate n 0)) q
+            ∙ cleared (columnWords c) d₀ d₆
+            (after .back ∙ ap (drop (columnWords c)) (counted d₄ fourth)
+            ∙ drop-past d₀ 0 (wordsOf rows (polysThroughM 𝔾 log)) (columnWords c) (omega arith)
+            (let p = placed c in let e = words-length rows (polysThroughM 𝔾 log) in let q = hs-at log in omega arith)),
+      )
 
     -- question 15: "the column words needed become 0"
-    pub none-end : (d₄ d₆ : List ℕ) (words : ℕ) → drop (mOffset c + numLookups c * rows) d₄ ≡ drop (mOffset c + numLookups c * rows) d₃
+    pub none-end : (d₄ d₆ : List ℕ) (words : ℕ) → false ≡ allCovered 𝔾 log
+        → drop (mOffset c + numLookups c * rows) d₄ ≡ drop (mOffset c + numLookups c * rows) d₃
         → words ≡ columnWords c
         → d₆ ≡ writeAt d₄ 0 (replicate words 0)
-        → d₆ ≡ writePrefix (replicate (columnWords c) 0) d₀
+        → (ColumnsOutcome.Uncovered ≡ columnsOutcome log) × (d₆ ≡ writePrefix (columnsLeft log ColumnsOutcome.Uncovered) d₀)
     unfolding logOf
-    none-end d₄ d₆ words behind q zeros =
-        let p = placed c in
-        zeros
-        ∙ ap (λ (n : ℕ). writeAt d₄ 0 (replicate n 0)) q
-        ∙ cleared (columnWords c) d₀ d₄
-        (drop-more (mOffset c + numLookups c * rows) (columnWords c) d₄ d₃ (omega arith) behind
-        ∙ ap (drop (columnWords c)) before
-        ∙ drop-past d₀ 0 (wordsOf rows (polysBeforeM 𝔾 log)) (columnWords c) (omega arith)
-        (let e = words-length rows (polysBeforeM 𝔾 log) in let q = counts-at log in omega arith))
+    none-end d₄ d₆ words un behind q zeros =
+        let p = placed c in (
+          ap (λ (t : Bool). cond t (cond (zeroDenominator 𝔾 log) ColumnsOutcome.ZeroDenominator ColumnsOutcome.Written) ColumnsOutcome.Uncovered) un,
+          zeros
+              ∙ ap (λ (n : ℕ). writeAt d₄ 0 (replicate n 0)) q
+              ∙ cleared (columnWords c) d₀ d₄
+              (drop-more (mOffset c + numLookups c * rows) (columnWords c) d₄ d₃ (omega arith) behind
+              ∙ ap (drop (columnWords c)) before
+              ∙ drop-past d₀ 0 (wordsOf rows (polysBeforeM 𝔾 log)) (columnWords c) (omega arith)
+              (let e = words-length rows (polysBeforeM 𝔾 log) in let q = counts-at log in omega arith)),
+        )
 
 -- ---- the numbers of accepted circuit words
 
@@ -259,22 +344,47 @@ module _ (ws : List ℕ) (a : Accepted ws) (v : CircuitParams) (e : v ≡ params
         let w' = count-words in
         (omega arith, omega arith, omega arith)
 
-    pub hs-written : (γ : 𝔾 .F) (instances witness challenges d d' : List ℕ) → γ ≡ el (getD challenges (v .«num_challenges» + 1) 0)
-        → take (hOffset (circuitOf ws)) d ≡ wordsOf (rowsOf (circuitOf ws)) (polysThroughM 𝔾 (logOf ws instances witness challenges))
-        → d' ≡ writeAt d z (hsFrom d x (v .rows) γ y (v .«num_lookups»))
-        → d' ≡ writeAt d (hOffset (circuitOf ws)) (wordsOf (rowsOf (circuitOf ws)) (hPolys 𝔾 (logOf ws instances witness challenges)))
-    unfolding logOf
-    hs-written γ instances witness challenges d d' γ-is front eq =
-        let log' : Log 𝔾 = logOf ws instances witness challenges in
-        let R : ℕ = rowsOf (circuitOf ws) in
-        let L : ℕ = numLookups (circuitOf ws) in
-        eq
-        ∙ ap₂ (λ (r l : ℕ). writeAt d z (hsFrom d x r γ y l)) (rows-are ws a v e) (lookups-are ws a v e)
-        ∙ ap₂ (λ (x y : ℕ). writeAt d z (hsFrom d x R γ y L)) x-is y-is
-        ∙ ap (λ (z : ℕ). writeAt d z (hsFrom d (compressedOffset (circuitOf ws)) R γ (mOffset (circuitOf ws)) L)) z-is
-        ∙ ap (writeAt d (hOffset (circuitOf ws)))
-        (hs-are log' d (compressedOffset (circuitOf ws)) (compressed-counted log' d front) (mOffset (circuitOf ws)) (counts-counted log' d front)
-        γ (sym (γ-is ∙ ap (λ (u : ℕ). el (getD challenges (u + 1) 0)) (user-is ws a v e))))
+    module _ (γ : 𝔾 .F) (instances witness challenges d d' : List ℕ) (answer : Outcome) (γ-is : γ ≡ el (getD challenges (v .«num_challenges» + 1) 0))
+        (front : take (hOffset (circuitOf ws)) d ≡ wordsOf (rowsOf (circuitOf ws)) (polysThroughM 𝔾 (logOf ws instances witness challenges)))
+        (w : HsWritten d (v .«num_lookups») x y z (v .rows) γ answer d') where
+      abbrev log' : Log 𝔾
+      log' = logOf ws instances witness challenges
+
+      abbrev R : ℕ
+      R = rowsOf (circuitOf ws)
+
+      abbrev L : ℕ
+      L = numLookups (circuitOf ws)
+
+      γ-same : log' .γ ≡ γ
+      unfolding logOf
+      γ-same = sym (γ-is ∙ ap (λ (u : ℕ). el (getD challenges (u + 1) 0)) (user-is ws a v e))
+
+      pub hs-answer : answer
+          ≡ outcomeOf (anyOf (λ l. someZero 𝔾 (lookupDenominators 𝔾 R (log' .γ) (inputAt 𝔾 log' l) (tableAt 𝔾 log' l))) (circuitOf ws .lookups))
+      unfolding logOf
+      hs-answer =
+          w .is
+          ∙ ap (λ (t : Bool). outcomeOf t)
+          (ap₂ (λ (r l : ℕ). zeroFrom d x r γ l) (rows-are ws a v e) (lookups-are ws a v e)
+          ∙ ap (λ (x : ℕ). zeroFrom d x R γ L) x-is
+          ∙ zero-lookups-is log' d (compressedOffset (circuitOf ws)) (compressed-counted log' d front) γ γ-same)
+
+      pub hs-written : answer ≡ Outcome.Written → d' ≡ writeAt d (hOffset (circuitOf ws)) (wordsOf R (hPolys 𝔾 log'))
+      unfolding logOf
+      hs-written t =
+          w .hs t
+          ∙ ap₂ (λ (r l : ℕ). writeAt d z (hsFrom d x r γ y l)) (rows-are ws a v e) (lookups-are ws a v e)
+          ∙ ap₂ (λ (x y : ℕ). writeAt d z (hsFrom d x R γ y L)) x-is y-is
+          ∙ ap (λ (z : ℕ). writeAt d z (hsFrom d (compressedOffset (circuitOf ws)) R γ (mOffset (circuitOf ws)) L)) z-is
+          ∙ ap (writeAt d (hOffset (circuitOf ws)))
+          (hs-are log' d (compressedOffset (circuitOf ws)) (compressed-counted log' d front) (mOffset (circuitOf ws)) (counts-counted log' d front)
+          γ γ-same)
+
+      pub hs-behind : drop (hOffset (circuitOf ws) + L * R) d' ≡ drop (hOffset (circuitOf ws) + L * R) d
+      hs-behind =
+          let q : z + v .«num_lookups» * v .rows ≡ hOffset (circuitOf ws) + L * R = ap₂ _+_ z-is count-words in
+          ap (λ (n : ℕ). drop n d') (sym q) ∙ w .back ∙ ap (λ (n : ℕ). drop n d) q
 
   -- ---- the counts, and question 15
   module _ (instances witness challenges d₀ d d' : List ℕ) (answer : Bool)
@@ -322,12 +432,3 @@ pub z-asked : (ws : List ℕ) → Accepted ws → (v : CircuitParams) → v ≡ 
     × (v .«num_chunks» ≡ numZ (circuitOf ws))
     × (zOffset (circuitOf ws) + numZ (circuitOf ws) * rowsOf (circuitOf ws) ≤ n)
 z-asked ws a v e names h n room = let p = placed (circuitOf ws) in (a, h, parts-are ws a v e, omega arith)
-
--- what is answered and what the columns are, by question 15
-pub answered-yes : (covered answer : Bool) (d x y : List ℕ) → answer ≡ covered → answer ≡ true → d ≡ x
-    → (true ≡ covered) × (d ≡ cond covered x y)
-answered-yes covered answer d x y e t h = (sym t ∙ e, h ∙ ap (λ (b : Bool). cond b x y) (sym t ∙ e))
-
-pub answered-no : (covered answer : Bool) (d x y : List ℕ) → answer ≡ covered → answer ≡ false → d ≡ y
-    → (false ≡ covered) × (d ≡ cond covered x y)
-answered-no covered answer d x y e t h = (sym t ∙ e, h ∙ ap (λ (b : Bool). cond b x y) (sym t ∙ e))

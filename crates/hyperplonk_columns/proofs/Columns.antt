@@ -6,25 +6,27 @@ use native.Mathlib.Nat.{mul-le-mul, zero-add, zero-mul, add-mul}
 use native.Mathlib.Omega.{arith}
 use lib.ListN.{length, getD, take, length-append}
 use Rattle.field.specs.Field.{𝔾, el, el-val}
-use Rattle.lists.specs.Lists.{tabulate, writeAt, writePrefix}
+use Rattle.lists.specs.Lists.{writeAt, writePrefix}
 use Rattle.lists.proofs.Columns.{get-tabulate, map-below}
 use Rattle.lists.proofs.Turns.{grid-lt}
 use Rattle.lists.proofs.Over.{writeAt-writePrefix}
 use Rattle.expression.specs.Value.{polyOf}
-use Rattle.backend.specs.Circuit.{Circuit, Section, circuitOf, entries, rowsOf, numInstance, numChallenges, copied, numCopied, numLookups}
+use Rattle.backend.specs.Circuit.{Circuit, Section, circuitOf, entries, rowsOf, numInstance, numChallenges, numCopied, numLookups}
 use Rattle.preprocessor.specs.Compose.{numZ}
 use Rattle.prover.specs.Log.{Log}
-use Rattle.prover.specs.Columns.{permutationAt, instancePolys, permutationPolys, compressedPolys, mPolys, hPolys, zPolys, writtenPolys}
+use Rattle.prover.specs.Denominators.{factorDenominators}
+use Rattle.prover.specs.Columns.{permutationAt, permutationFactorAt, instancePolys, permutationPolys, compressedPolys, mPolys, hPolys, zPolys, writtenPolys}
 use Rattle.prover.specs.Words.{wordsOf}
-use Rattle.prover.specs.Lent.{Given, environmentFromWords, compressedPolysIn, ratioInWords}
-use Rattle.prover.specs.Running.{zOf}
+use Rattle.prover.specs.Lent.{Given, environmentFromWords, compressedPolysIn}
 use Rattle.prover.proofs.Words.{words-get, over-columns}
 use Rattle.prover.proofs.Lengths.{instances-length, permutations-length, compressed-length, m-length, h-length}
 use Rattle.prover.proofs.Lent.{Reads, compressed-agree}
 use Rattle.prover.proofs.Z.{z-agree}
 use Rattle.hyperplonk_spec.specs.Build.{logOf, columnWords}
 use Rattle.hyperplonk_prepare.specs.Prepared.{layoutFromWords, permutationOffset, compressedOffset, mOffset, hOffset, zOffset}
+use Rattle.hyperplonk_columns.specs.Stages.{zWords, zDenominators}
 use Rattle.hyperplonk_columns.specs.Kinds.{polysBeforeM, polysThroughM, polysAfterM}
+use Rattle.hyperplonk_columns.proofs.Divided.{denominators-agree}
 use Rattle.hyperplonk_columns.proofs.Fronts.{over-take, take-writeAt, front-get}
 
 module _ (g : Log 𝔾) where
@@ -59,7 +61,7 @@ module _ (g : Log 𝔾) where
   pub counts-at : mOffset c ≡ length (polysBeforeM 𝔾 g) * R
   counts-at = ap (λ (n : ℕ). n * R) (sym before-m-length)
 
-  hs-at : hOffset c ≡ length (polysThroughM 𝔾 g) * R
+  pub hs-at : hOffset c ≡ length (polysThroughM 𝔾 g) * R
   hs-at = ap (λ (n : ℕ). n * R) (sym counted-length)
 
   zs-at : zOffset c ≡ hOffset c + length (hPolys 𝔾 g) * R
@@ -250,20 +252,9 @@ module _ (ws instances witness challenges : List ℕ) (positive : 0 < circuitOf 
         ∙ ap (λ (d : List ℕ). writeAt d (compressedOffset (circuitOf ws)) (wordsOf rows (compressedPolys 𝔾 log))) named-front
         ∙ before-m-more log d₀ room
 
-  module _ (d₄ d₅ d₆ : List ℕ) (room : columnWords (circuitOf ws) ≤ length d₄)
+  module _ (d₄ d₅ : List ℕ) (room : columnWords (circuitOf ws) ≤ length d₄)
       (front : take (hOffset (circuitOf ws)) d₄ ≡ wordsOf rows (polysThroughM 𝔾 log))
-      (fifth : d₅ ≡ writeAt d₄ (hOffset (circuitOf ws)) (wordsOf rows (hPolys 𝔾 log)))
-      (sixth : d₆
-      ≡ writeAt d₅ (zOffset (circuitOf ws))
-      (wordsOf rows
-      (tabulate
-      (zOf 𝔾
-      (ratioInWords (layoutFromWords ws) ws witness d₅ (copied (circuitOf ws)) (el (getD challenges (numChallenges (circuitOf ws)) 0))
-      (el (getD challenges (numChallenges (circuitOf ws) + 1) 0)))
-      (circuitOf ws .k)
-      (numCopied (circuitOf ws))
-      (numZ (circuitOf ws)))
-      (numZ (circuitOf ws))))) where
+      (fifth : d₅ ≡ writeAt d₄ (hOffset (circuitOf ws)) (wordsOf rows (hPolys 𝔾 log))) where
     fronted : d₅ ≡ writeAt d₄ 0 (wordsOf rows (polysThroughM 𝔾 log ++ hPolys 𝔾 log))
     unfolding logOf
     fronted =
@@ -273,16 +264,39 @@ module _ (ws instances witness challenges : List ℕ) (positive : 0 < circuitOf 
         (hs-at log ∙ sym (zero-add (length (polysThroughM 𝔾 log) * rows)))
         (room-of log d₄ (numInstance (circuitOf ws) + numCopied (circuitOf ws) + numLookups (circuitOf ws) * 3) (omega arith) room)
 
-    -- h and z behind the counts are the log's
-    pub last-written : d₆ ≡ writeAt d₄ (hOffset (circuitOf ws)) (wordsOf rows (polysAfterM 𝔾 log))
+    labels : (i b : ℕ) → i < numCopied (circuitOf ws) → b < rows
+        → el (getD d₅ ((layoutFromWords ws .instances + i) * rows + b) 0) ≡ permutationAt 𝔾 log i b
     unfolding logOf layoutFromWords
-    last-written =
+    labels i b hi hb =
+        ap (λ (n : ℕ). el (getD d₅ ((n + i) * rows + b) 0)) all-instances
+        ∙ labels-read log d₄ d₅ (compressedPolys 𝔾 log ++ (mPolys 𝔾 log ++ hPolys 𝔾 log)) (polysThroughM 𝔾 log ++ hPolys 𝔾 log)
+        (simp append-assoc) fronted i b hi hb
+
+    read-after : Reads log (layoutFromWords ws) ws witness d₅ (take (numChallenges (circuitOf ws)) challenges)
+    unfolding logOf
+    read-after =
+        reads d₄ d₅ (permutationPolys 𝔾 log ++ (compressedPolys 𝔾 log ++ (mPolys 𝔾 log ++ hPolys 𝔾 log)))
+        (polysThroughM 𝔾 log ++ hPolys 𝔾 log) (simp append-assoc) fronted
+
+    -- the denominators of z are the log's
+    pub divided-by : zDenominators ws witness d₅ challenges ≡ factorDenominators 𝔾 rows (numCopied (circuitOf ws)) (permutationFactorAt 𝔾 log)
+    unfolding logOf
+    divided-by =
+        denominators-agree log (layoutFromWords ws) ws witness d₅ (take (numChallenges (circuitOf ws)) challenges) read-after
+        (getD challenges (numChallenges (circuitOf ws)) 0)
+        (getD challenges (numChallenges (circuitOf ws) + 1) 0)
+        refl
+        refl
+        labels
+
+    -- h and z behind the counts are the log's
+    pub last-written : (d₆ : List ℕ) → d₆ ≡ writeAt d₅ (zOffset (circuitOf ws)) (zWords ws witness d₅ challenges)
+        → d₆ ≡ writeAt d₄ (hOffset (circuitOf ws)) (wordsOf rows (polysAfterM 𝔾 log))
+    unfolding logOf layoutFromWords
+    last-written d₆ sixth =
         sixth
         ∙ ap (writeAt d₅ (zOffset (circuitOf ws)))
-        (z-agree log (layoutFromWords ws) ws witness d₅ (take (numChallenges (circuitOf ws)) challenges)
-        (reads d₄ d₅ (permutationPolys 𝔾 log ++ (compressedPolys 𝔾 log ++ (mPolys 𝔾 log ++ hPolys 𝔾 log)))
-        (polysThroughM 𝔾 log ++ hPolys 𝔾 log) (simp append-assoc) fronted)
-        positive
+        (z-agree log (layoutFromWords ws) ws witness d₅ (take (numChallenges (circuitOf ws)) challenges) read-after positive
         (getD challenges (numChallenges (circuitOf ws)) 0)
         (getD challenges (numChallenges (circuitOf ws) + 1) 0)
         refl
@@ -290,10 +304,3 @@ module _ (ws instances witness challenges : List ℕ) (positive : 0 < circuitOf 
         labels)
         ∙ ap (λ (d : List ℕ). writeAt d (zOffset (circuitOf ws)) (wordsOf rows (zPolys 𝔾 log))) fifth
         ∙ last-more log d₄ room
-      where
-        labels : (i b : ℕ) → i < numCopied (circuitOf ws) → b < rows
-            → el (getD d₅ ((layoutFromWords ws .instances + i) * rows + b) 0) ≡ permutationAt 𝔾 log i b
-        labels i b hi hb =
-            ap (λ (n : ℕ). el (getD d₅ ((n + i) * rows + b) 0)) all-instances
-            ∙ labels-read log d₄ d₅ (compressedPolys 𝔾 log ++ (mPolys 𝔾 log ++ hPolys 𝔾 log)) (polysThroughM 𝔾 log ++ hPolys 𝔾 log)
-            (simp append-assoc) fronted i b hi hb

@@ -1,3 +1,4 @@
 pub mod Fronts
 pub mod Columns
 pub mod Accepted
+pub mod Divided

@@ -1,2 +1,3 @@
 pub mod Stages
 pub mod Kinds
+pub mod Outcome

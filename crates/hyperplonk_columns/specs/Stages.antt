@@ -10,7 +10,9 @@ use Rattle.preprocessor.specs.Permutation.{label}
 use Rattle.prover.specs.Columns.{instanceAt}
 use Rattle.prover.specs.Running.{zOf}
 use Rattle.prover.specs.Words.{wordsOf}
+use Rattle.prover.specs.Denominators.{factorDenominators}
 use Rattle.prover.specs.Lent.{environmentFromWords, compressedPolysIn, ratioInWords}
+use Rattle.prover_z.specs.Factors.{denominatorInWords}
 use Rattle.hyperplonk_prepare.specs.Prepared.{layoutFromWords}
 
 -- "challenges (the user's, then β, γ)"
@@ -56,3 +58,13 @@ zWords circuit witness columns challenges =
     (numCopied (circuitOf circuit))
     (numZ (circuitOf circuit)))
     (numZ (circuitOf circuit)))
+
+-- its denominators, "the inverted factors on every row but 0"
+abbrev pub zDenominators : List ℕ → List ℕ → List ℕ → List ℕ → List (𝔾 .F)
+zDenominators circuit witness columns challenges =
+    factorDenominators 𝔾 (rowsOf (circuitOf circuit)) (numCopied (circuitOf circuit))
+    (λ i b.
+    denominatorInWords (layoutFromWords circuit) circuit witness columns (copied (circuitOf circuit)) (lentBeta circuit challenges)
+    (lentGamma circuit challenges)
+    b
+    i)

@@ -9,23 +9,42 @@ use backend_sections::contents::INSTANCE_COUNT;
 use field::goldilocks::Goldilocks;
 use hyperplonk_prepare::needed::column_words;
 use preprocessor::CircuitParams;
+use prover::Outcome;
 use prover_instance::blank_column::clear;
 use prover_lookup::lookup_h_polys;
 use prover_lookup::lookup_m_polys;
 ghost use mathlib.Core.Path.{_≡_};
-ghost use mathlib.Core.Bool.{true, cond};
+ghost use mathlib.Core.Bool.{true};
 ghost use mathlib.Core.List.{List};
 ghost use Prim.Native.Nat.{ℕ, _+_, _≤_};
-ghost use lib.ListN.{length, take, replicate};
+ghost use lib.ListN.{length, take};
 ghost use Rattle.field.specs.Field.{𝔾};
 ghost use Rattle.lists.specs.Lists.{writeAt, writePrefix};
 ghost use Rattle.backend.specs.Circuit.{circuitOf, rowsOf, numChallenges, copied as copiedOf};
 ghost use Rattle.preprocessor.specs.Compose.{paramsOf};
-ghost use Rattle.prover.specs.Columns.{allCovered, writtenPolys};
 ghost use Rattle.prover.specs.Words.{wordsOf};
 ghost use Rattle.hyperplonk_spec.specs.Build.{logOf, columnWords, q12};
 ghost use Rattle.hyperplonk_prepare.specs.Prepared.{Accepted, Prepared, compressedOffset, mOffset, hOffset};
-ghost use Rattle.hyperplonk_columns.specs.Kinds.{polysBeforeM, polysThroughM, polysAfterM};
+ghost use Rattle.hyperplonk_columns.specs.Kinds.{polysBeforeM, polysThroughM};
+ghost use Rattle.hyperplonk_columns.specs.Outcome.{columnsOutcome, columnsNumber, columnsLeft, AfterM};
+
+// What `write_columns` answers: the columns are written; an input equals no table row, which gives 15; a denominator is zero, which gives
+// 17 (specs/Outcome.antt).
+pub enum ColumnsOutcome {
+    Written,
+    Uncovered,
+    ZeroDenominator,
+}
+
+pub fn columns_number(outcome: ColumnsOutcome) -> u64
+    ensures { λ r. ⌜ r ≡ columnsNumber outcome ⌝ }
+{
+    match outcome {
+        ColumnsOutcome::Written => 0,
+        ColumnsOutcome::Uncovered => 15,
+        ColumnsOutcome::ZeroDenominator => 17,
+    }
+}
 
 // The words at which the compressed columns, m and h begin.
 struct Places {
@@ -64,7 +83,7 @@ fn columns_before_m<'a>(
     compressed_columns(circuit, witness, columns, challenges, copied.len());
 }
 
-// h and z, behind the counts, of any log whose columns to the counts stand at the front of the buffer.
+// h and z, behind the counts, of any log whose columns to the counts stand at the front of the buffer. Stops where a denominator is zero.
 fn columns_after_m(
     circuit: &[u64],
     witness: &[u64],
@@ -72,15 +91,15 @@ fn columns_after_m(
     columns: &mut [u64],
     copied: &[u64],
     params: CircuitParams,
-)
+) -> Outcome
     requires { ⌜ Prepared (now circuit) (now copied) params × (length (now challenges) ≡ numChallenges (circuitOf (now circuit)) + 2) × (columnWords (circuitOf (now circuit)) ≤ length (now columns)) ⌝ }
-    ensures { λ _. ⌜ ((instances : List ℕ) → take (hOffset (circuitOf (now (circuit .entry)))) (now (columns .entry)) ≡ wordsOf (rowsOf (circuitOf (now (circuit .entry)))) (polysThroughM 𝔾 (logOf (now (circuit .entry)) instances (now (witness .entry)) (now (challenges .entry)))) → now (columns .exit) ≡ writeAt (now (columns .entry)) (hOffset (circuitOf (now (circuit .entry)))) (wordsOf (rowsOf (circuitOf (now (circuit .entry)))) (polysAfterM 𝔾 (logOf (now (circuit .entry)) instances (now (witness .entry)) (now (challenges .entry)))))) ⌝ }
+    ensures { λ r. ⌜ ((instances : List ℕ) → take (hOffset (circuitOf (now (circuit .entry)))) (now (columns .entry)) ≡ wordsOf (rowsOf (circuitOf (now (circuit .entry)))) (polysThroughM 𝔾 (logOf (now (circuit .entry)) instances (now (witness .entry)) (now (challenges .entry)))) → AfterM (logOf (now (circuit .entry)) instances (now (witness .entry)) (now (challenges .entry))) (now (columns .entry)) r (now (columns .exit))) ⌝ }
 {
     let at = places_of(circuit, params);
     let user = params.num_challenges;
     let chunks = params.num_chunks;
     let gamma = Goldilocks::at(challenges, user + 1);
-    lookup_h_polys(
+    let hs = lookup_h_polys(
         columns,
         params.num_lookups,
         at.compressed,
@@ -89,10 +108,13 @@ fn columns_after_m(
         gamma,
         params.rows,
     );
-    z_columns(circuit, witness, columns, challenges, copied, chunks);
+    match hs {
+        Outcome::Written => z_columns(circuit, witness, columns, challenges, copied, chunks),
+        Outcome::ZeroDenominator => Outcome::ZeroDenominator,
+    }
 }
 
-// All columns. Where an input of a lookup is in no table row, false, and the column words needed become 0.
+// All columns. Where an input of a lookup is in no table row, or a denominator is zero, the column words needed become 0.
 pub fn write_columns<'a>(
     circuit: &'a [u64],
     instance: &[u64],
@@ -101,12 +123,13 @@ pub fn write_columns<'a>(
     columns: &mut [u64],
     copied: &[u64],
     params: CircuitParams,
-) -> bool
+) -> ColumnsOutcome
     requires { ⌜ Prepared (now circuit) (now copied) params × (q12 (circuitOf (now circuit)) (now instance) (now witness) (now challenges) ≡ true) × (columnWords (circuitOf (now circuit)) ≤ length (now columns)) ⌝ }
-    ensures { λ r. ⌜ (r ≡ allCovered 𝔾 (logOf (now (circuit .entry)) (now (instance .entry)) (now (witness .entry)) (now (challenges .entry)))) × (now (columns .exit) ≡ cond (allCovered 𝔾 (logOf (now (circuit .entry)) (now (instance .entry)) (now (witness .entry)) (now (challenges .entry)))) (writePrefix (wordsOf (rowsOf (circuitOf (now (circuit .entry)))) (writtenPolys 𝔾 (logOf (now (circuit .entry)) (now (instance .entry)) (now (witness .entry)) (now (challenges .entry))))) (now (columns .entry))) (writePrefix (replicate (columnWords (circuitOf (now (circuit .entry)))) 0) (now (columns .entry)))) ⌝ }
+    ensures { λ r. ⌜ (r ≡ columnsOutcome (logOf (now (circuit .entry)) (now (instance .entry)) (now (witness .entry)) (now (challenges .entry)))) × (now (columns .exit) ≡ writePrefix (columnsLeft (logOf (now (circuit .entry)) (now (instance .entry)) (now (witness .entry)) (now (challenges .entry))) r) (now (columns .entry))) ⌝ }
 {
     columns_before_m(circuit, instance, witness, challenges, columns, copied);
     let at = places_of(circuit, params);
+    let words = column_words(circuit, params);
     let covered = lookup_m_polys(
         columns,
         params.num_lookups,
@@ -115,10 +138,15 @@ pub fn write_columns<'a>(
         params.rows,
     );
     if !covered {
-        let words = column_words(circuit, params);
         clear(columns, 0, words);
-        return false;
+        return ColumnsOutcome::Uncovered;
     }
-    columns_after_m(circuit, witness, challenges, columns, copied, params);
-    true
+    let last = columns_after_m(circuit, witness, challenges, columns, copied, params);
+    match last {
+        Outcome::Written => ColumnsOutcome::Written,
+        Outcome::ZeroDenominator => {
+            clear(columns, 0, words);
+            ColumnsOutcome::ZeroDenominator
+        }
+    }
 }

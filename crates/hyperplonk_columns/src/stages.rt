@@ -18,6 +18,7 @@ use expression_nodes::index;
 use field::goldilocks::Goldilocks;
 use lists::word_at;
 use preprocessor_permutation::permutation_polys;
+use prover::Outcome;
 use prover_compressed::CompressedPolys;
 use prover_compressed::lookup_compressed_polys;
 use prover_instance::instance_polys;
@@ -31,10 +32,12 @@ ghost use Rattle.field.specs.Element.{elem};
 ghost use Rattle.lists.specs.Lists.{writeAt, total};
 ghost use Rattle.backend.specs.Circuit.{Section, bodyOf, circuitOf, rowsOf, numInstance, numChallenges, numLookups, copied as copiedOf, numCopied};
 ghost use Rattle.preprocessor.specs.Compose.{numZ};
+ghost use Rattle.prover.specs.Denominators.{someZero};
+ghost use Rattle.prover.specs.Answers.{outcomeOf, outcomeWords};
 ghost use Rattle.prover.specs.Words.{wordsOf};
 ghost use Rattle.prover.specs.Lent.{environmentFromWords, compressedPolysIn};
 ghost use Rattle.hyperplonk_prepare.specs.Prepared.{Accepted, layoutFromWords, permutationOffset, compressedOffset, zOffset};
-ghost use Rattle.hyperplonk_columns.specs.Stages.{instanceWords, permutationWords, compressedWords, zWords};
+ghost use Rattle.hyperplonk_columns.specs.Stages.{instanceWords, permutationWords, compressedWords, zWords, zDenominators};
 
 // Where the polynomials that are given stand.
 pub fn layout_of(circuit: &[u64]) -> Layout
@@ -132,8 +135,8 @@ pub fn compressed_columns<'a>(
     );
 }
 
-// The z columns, behind all others. `challenges` are the user's, then beta and gamma; `copied` are the copied columns, and `chunks` is how
-// many z columns there are.
+// The z columns, behind all others; zeros where a denominator is zero. `challenges` are the user's, then beta and gamma; `copied` are the
+// copied columns, and `chunks` is how many z columns there are.
 pub fn z_columns(
     circuit: &[u64],
     witness: &[u64],
@@ -141,9 +144,9 @@ pub fn z_columns(
     challenges: &[u64],
     copied: &[u64],
     chunks: usize,
-)
+) -> Outcome
     requires { ⌜ Accepted (now circuit) × (now copied ≡ copiedOf (circuitOf (now circuit))) × (chunks ≡ numZ (circuitOf (now circuit))) × (zOffset (circuitOf (now circuit)) + numZ (circuitOf (now circuit)) * rowsOf (circuitOf (now circuit)) ≤ length (now columns)) ⌝ }
-    ensures { λ _. ⌜ now (columns .exit) ≡ writeAt (now (columns .entry)) (zOffset (circuitOf (now (circuit .entry)))) (zWords (now (circuit .entry)) (now (witness .entry)) (now (columns .entry)) (now (challenges .entry))) ⌝ }
+    ensures { λ r. ⌜ (r ≡ outcomeOf (someZero 𝔾 (zDenominators (now (circuit .entry)) (now (witness .entry)) (now (columns .entry)) (now (challenges .entry))))) × (now (columns .exit) ≡ writeAt (now (columns .entry)) (zOffset (circuitOf (now (circuit .entry)))) (outcomeWords r (zWords (now (circuit .entry)) (now (witness .entry)) (now (columns .entry)) (now (challenges .entry))))) ⌝ }
 {
     let k = index(k_of(circuit));
     let layout = layout_of(circuit);
@@ -160,5 +163,5 @@ pub fn z_columns(
         gamma: gamma,
         to: to,
     };
-    permutation_z_polys(circuit, witness, columns, copied, z);
+    permutation_z_polys(circuit, witness, columns, copied, z)
 }

@@ -15,7 +15,7 @@ use Rattle.lists.proofs.Tests.{and-left, and-right, all-each}
 use Rattle.lists.proofs.All.{all-from}
 use Rattle.lists.proofs.Columns.{below-length}
 use Rattle.lists.proofs.Lists.{split-length}
-use Rattle.lists.proofs.Totals.{ceil-le}
+use Rattle.lists.proofs.Totals.{ceil-le, ceil-pos}
 use Rattle.lists.proofs.Searches.{count-le}
 use Rattle.expression.specs.Expr.{Expr, degree}
 use Rattle.backend.specs.Circuit.{Section, entry, entries, wordK, bodyOf, Cell, cellsOf, cellsName, statedOf, circuitOf, rowsOf, numInstance, numWitness, numChallenges, numPoly, numLookups, copiedIn, copied, numCopied}
@@ -200,6 +200,10 @@ module _ (ws : List ℕ) (a : Accepted ws) where
   pub few-z : numZ (circuitOf ws) ≤ numCopied (circuitOf ws)
   unfolding numZ
   few-z = ceil-fewer (numCopied (circuitOf ws)) (maxDegree (circuitOf ws) - 1) (let h = two-degree in omega arith)
+
+  pub some-z : 0 < numCopied (circuitOf ws) → 0 < numZ (circuitOf ws)
+  unfolding numZ
+  some-z h = ceil-pos (numCopied (circuitOf ws)) (maxDegree (circuitOf ws) - 1) h (let q = two-degree in omega arith)
 
   -- ---- the numbers, the words, and what they are decoded from
   pub limits : Limits (paramsOf (circuitOf ws))

@@ -32,10 +32,15 @@ use Rattle.preprocessor.proofs.Copied.{label-lt, label-columns}
 use Rattle.prover.specs.Columns.{instanceAt}
 use Rattle.prover.specs.Running.{zOf}
 use Rattle.prover.specs.Words.{wordsOf}
+use Rattle.prover.specs.Denominators.{someZero, factorDenominators}
+use Rattle.prover.specs.Answers.{outcomeOf, outcomeWords}
+use Rattle.prover.specs.declared.Outcome.{Outcome}
 use Rattle.prover.specs.Lent.{Given, Behind, environmentFromWords, compressedPolysIn, ratioInWords}
+use Rattle.prover_z.specs.Factors.{denominatorInWords}
 use Rattle.prover.proofs.Lent.{lookups-are}
 use Rattle.hyperplonk_prepare.specs.Prepared.{Accepted, layoutFromWords, permutationOffset, compressedOffset, zOffset}
 use Rattle.hyperplonk_prepare.proofs.Accepted as accepted
+use Rattle.hyperplonk_columns.specs.Stages.{zWords, zDenominators}
 
 pub layout-is : (ws : List ℕ) (rows witness instances preprocess start : ℕ) → rows ≡ 2 ^ wordK ws → witness ≡ numWitness (circuitOf ws)
     → instances ≡ getD ws 3 0 → preprocess ≡ getD ws 5 0 → start ≡ getD ws 4 0
@@ -267,7 +272,7 @@ module _ (ws : List ℕ) (a : Accepted ws) where
   pub z-asks : (l : Layout) (k parts lookups : ℕ) (names columns : List ℕ) → l ≡ layoutFromWords ws → k ≡ wordK ws → lookups ≡ getD ws 13 0
       → names ≡ copied (circuitOf ws) → parts ≡ numZ (circuitOf ws)
       → zOffset (circuitOf ws) + numZ (circuitOf ws) * rowsOf (circuitOf ws) ≤ length columns
-      → ((0 < k) × (k < 21)) × Given k l × (parts ≤ length names) × (length names ≤ 1048576)
+      → ((0 < k) × (k < 21)) × Given k l × ((0 < length names → 0 < parts) × (parts ≤ length names)) × (length names ≤ 1048576)
       × ((l .instances + length names) * 2 ^ k ≤ (l .instances + length names + lookups * 4) * l .rows)
       × ((l .instances + length names + lookups * 4) * l .rows + parts * 2 ^ k ≤ length columns)
   z-asks l k parts lookups names columns is ek em en ez room =
@@ -276,38 +281,39 @@ module _ (ws : List ℕ) (a : Accepted ws) where
       let n : length names ≡ numCopied c = ap length en in (
         ((let h = accepted.k-pos ws a in omega arith), (let h = accepted.k-few ws a in omega arith)),
         rw same (given-of l is),
-        (let h = accepted.few-z ws a in omega arith),
+        ((λ h. let q = accepted.some-z ws a (omega arith) in omega arith), (let h = accepted.few-z ws a in omega arith)),
         (let h = accepted.few-copied ws a in omega arith),
         rw (same, rows-of l is) (mul-le-mul-right (rowsOf c) (omega arith)),
         rw (zs-at l is (length names) lookups n em, same, ez) room,
       )
 
-  pub z-written : (l : Layout) (k parts lookups user : ℕ) (beta gamma : 𝔾 .F) (names witness challenges d new : List ℕ) → l ≡ layoutFromWords ws
+  -- what is answered, and what is written
+  pub z-written : (l : Layout) (k parts lookups user : ℕ) (beta gamma : 𝔾 .F) (names witness challenges d new : List ℕ) (r : Outcome)
+      → l ≡ layoutFromWords ws
       → k ≡ wordK ws → lookups ≡ getD ws 13 0 → names ≡ copied (circuitOf ws) → parts ≡ numZ (circuitOf ws) → user ≡ numChallenges (circuitOf ws)
       → beta ≡ el (getD challenges user 0) → gamma ≡ el (getD challenges (user + 1) 0)
-      → new
+      → (r ≡ outcomeOf (someZero 𝔾 (factorDenominators 𝔾 (2 ^ k) (length names) (λ i b. denominatorInWords l ws witness d names beta gamma b i))))
+      × (new
       ≡ writeAt d ((l .instances + length names + lookups * 4) * l .rows)
-      (wordsOf (2 ^ k) (tabulate (zOf 𝔾 (ratioInWords l ws witness d names beta gamma) k (length names) parts) parts))
-      → new
-      ≡ writeAt d (zOffset (circuitOf ws))
-      (wordsOf (rowsOf (circuitOf ws))
-      (tabulate
-      (zOf 𝔾
-      (ratioInWords (layoutFromWords ws) ws witness d (copied (circuitOf ws)) (el (getD challenges (numChallenges (circuitOf ws)) 0))
-      (el (getD challenges (numChallenges (circuitOf ws) + 1) 0)))
-      (circuitOf ws .k)
-      (numCopied (circuitOf ws))
-      (numZ (circuitOf ws)))
-      (numZ (circuitOf ws))))
-  z-written l k parts lookups user beta gamma names witness challenges d new is ek em en ez eu eb eg h =
+      (outcomeWords r (wordsOf (2 ^ k) (tabulate (zOf 𝔾 (ratioInWords l ws witness d names beta gamma) k (length names) parts) parts))))
+      → (r ≡ outcomeOf (someZero 𝔾 (zDenominators ws witness d challenges)))
+      × (new ≡ writeAt d (zOffset (circuitOf ws)) (outcomeWords r (zWords ws witness d challenges)))
+  z-written l k parts lookups user beta gamma names witness challenges d new r is ek em en ez eu eb eg h =
       let c : Circuit = circuitOf ws in
+      let b-is = eb ∙ ap (λ (user : ℕ). el (getD challenges user 0)) eu in
+      let g-is = eg ∙ ap (λ (user : ℕ). el (getD challenges (user + 1) 0)) eu in
+      let zeros : Layout → ℕ → List ℕ → 𝔾 .F → 𝔾 .F → Outcome = λ l k names beta gamma.
+      outcomeOf (someZero 𝔾 (factorDenominators 𝔾 (2 ^ k) (length names) (λ i b. denominatorInWords l ws witness d names beta gamma b i))) in
       let write : ℕ → Layout → ℕ → List ℕ → ℕ → 𝔾 .F → 𝔾 .F → List ℕ = λ to l k names parts beta gamma.
-      writeAt d to (wordsOf (2 ^ k) (tabulate (zOf 𝔾 (ratioInWords l ws witness d names beta gamma) k (length names) parts) parts)) in
-      h
-      ∙ ap₂ (λ (to k : ℕ). write to l k names parts beta gamma) (zs-at l is (length names) lookups (ap length en) em)
-      (ek ∙ sym (accepted.k-is ws a))
-      ∙ ap₂ (λ (l : Layout) (names : List ℕ). write (zOffset c) l (c .k) names parts beta gamma) is en
-      ∙ ap (λ (parts : ℕ). write (zOffset c) (layoutFromWords ws) (c .k) (copied c) parts beta gamma) ez
-      ∙ ap₂ (λ (beta gamma : 𝔾 .F). write (zOffset c) (layoutFromWords ws) (c .k) (copied c) (numZ c) beta gamma)
-      (eb ∙ ap (λ (user : ℕ). el (getD challenges user 0)) eu)
-      (eg ∙ ap (λ (user : ℕ). el (getD challenges (user + 1) 0)) eu)
+      writeAt d to (outcomeWords r (wordsOf (2 ^ k) (tabulate (zOf 𝔾 (ratioInWords l ws witness d names beta gamma) k (length names) parts) parts))) in (
+        h .0
+            ∙ ap (λ (k : ℕ). zeros l k names beta gamma) (ek ∙ sym (accepted.k-is ws a))
+            ∙ ap₂ (λ (l : Layout) (names : List ℕ). zeros l (c .k) names beta gamma) is en
+            ∙ ap₂ (λ (beta gamma : 𝔾 .F). zeros (layoutFromWords ws) (c .k) (copied c) beta gamma) b-is g-is,
+        h .1
+            ∙ ap₂ (λ (to k : ℕ). write to l k names parts beta gamma) (zs-at l is (length names) lookups (ap length en) em)
+            (ek ∙ sym (accepted.k-is ws a))
+            ∙ ap₂ (λ (l : Layout) (names : List ℕ). write (zOffset c) l (c .k) names parts beta gamma) is en
+            ∙ ap (λ (parts : ℕ). write (zOffset c) (layoutFromWords ws) (c .k) (copied c) parts beta gamma) ez
+            ∙ ap₂ (λ (beta gamma : 𝔾 .F). write (zOffset c) (layoutFromWords ws) (c .k) (copied c) (numZ c) beta gamma) b-is g-is,
+      )

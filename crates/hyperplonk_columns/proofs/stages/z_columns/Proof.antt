@@ -68,7 +68,7 @@ same-length c = search needs
 returns : tie.Need-returns
 returns c =
     let s = c .before .before .before .before .before .before .before .before .before .before .before .before .before .before .before .before .before .before .before .before .before .before in
-    z-written (s .args .circuit .now) (s .pre .0) _ _ _ _ _ _ _ _ _ (s .args .challenges .now) _ _ (c .before .before .before .before .before .before .before .before .before .before .before .before .before .before .layout-of .ensures) (c .before .before .before .before .before .before .before .before .before .before .before .before .before .before .before .index .ensures ∙ c .before .before .before .before .before .before .before .before .before .before .before .before .before .before .before .before .k-of .ensures) (c .before .before .before .before .before .before .index3 .ensures ∙ c .before .before .before .before .before .before .before .word-at3 .ensures) (s .pre .1) (s .pre .2) (c .before .before .before .before .before .before .before .before .before .before .before .before .index2 .ensures ∙ c .before .before .before .before .before .before .before .before .before .before .before .before .before .num-user .ensures) (c .before .before .before .before .before .before .before .before .before .before .from-u64 .ensures ∙ ap el (c .before .before .before .before .before .before .before .before .before .before .before .word-at .ensures)) (c .before .before .before .before .before .before .before .before .from-u642 .ensures ∙ ap el (c .before .before .before .before .before .before .before .before .before .word-at2 .ensures)) (c .before .before .permutation-z-polys .ensures)
+    z-written (s .args .circuit .now) (s .pre .0) _ _ _ _ _ _ _ _ _ (s .args .challenges .now) _ _ _ (c .before .before .before .before .before .before .before .before .before .before .before .before .before .before .layout-of .ensures) (c .before .before .before .before .before .before .before .before .before .before .before .before .before .before .before .index .ensures ∙ c .before .before .before .before .before .before .before .before .before .before .before .before .before .before .before .before .k-of .ensures) (c .before .before .before .before .before .before .index3 .ensures ∙ c .before .before .before .before .before .before .before .word-at3 .ensures) (s .pre .1) (s .pre .2) (c .before .before .before .before .before .before .before .before .before .before .before .before .index2 .ensures ∙ c .before .before .before .before .before .before .before .before .before .before .before .before .before .num-user .ensures) (c .before .before .before .before .before .before .before .before .before .before .from-u64 .ensures ∙ ap el (c .before .before .before .before .before .before .before .before .before .before .before .word-at .ensures)) (c .before .before .before .before .before .before .before .before .from-u642 .ensures ∙ ap el (c .before .before .before .before .before .before .before .before .before .word-at2 .ensures)) (c .before .before .permutation-z-polys .ensures)
 
 pub z-columns-spec : {M : Type 1} → statement M
 z-columns-spec =
