@@ -1,19 +1,28 @@
 -- `build_checked` meets its contract.
-use mathlib.Core.Path.{ap, _∙_}
+use mathlib.Core.Path.{ap}
 use native.Mathlib.Omega.{arith}
 use borrow.Author.Needs.{needs}
-use borrow.Author.Tests.{not-true, not-false}
 use Rattle.preprocessor.specs.Compose.{paramsOf}
 use Rattle.preprocessor.specs.declared.CircuitParams.{CircuitParams}
-use Rattle.hyperplonk_build.proofs.Built.{columns-room, nodes-room, is-fifteen, is-made}
+use Rattle.hyperplonk_build.proofs.Built.{columns-room, nodes-room, is-refused, is-made}
 use Rattle.hyperplonk_build.proofs.build_checked.Statement.{statement}
 use Rattle.hyperplonk_build.proofs.build_checked.Tie as tie
+
+-- the places before
+abbrev start : tie.After-write-columns → tie.Start
+start c = c .before .before .before .before .before .before .before .before .before
+
+abbrev wrote : tie.After-columns-number → tie.After-write-columns
+wrote c = c .before .before .before
 
 write-columns-requires : tie.Need-write-columns-requires
 write-columns-requires c κs =
     let s = c .before .before .before .before .before .before .before .before in
     let a = s .args in
     (s .pre .0, s .pre .1, columns-room (a .circuit .now) (a .instance .now) (a .witness .now) (a .challenges .now) (a .columns .now) (a .nodes .now) (s .pre .2))
+
+columns-number-requires : tie.Need-columns-number-requires
+columns-number-requires c κs = search needs
 
 refused-requires : tie.Need-refused-requires
 refused-requires c κs = search needs
@@ -23,20 +32,17 @@ same-length c = search needs
 
 returns : tie.Need-returns
 returns c =
-    let s = c .before .before .before .before .before .before .before .before .before .before .before .before .before in
-    let a = s .args in
-    let w = c .before .before .before .before .write-columns in
-    is-fifteen (a .circuit .now) (a .instance .now) (a .witness .now) (a .challenges .now) (a .columns .now) (a .nodes .now) _ _ (w .result) (w .ensures .0)
-    (not-true (w .result) (c .before .if1 .taken))
-    (w .ensures .1)
-    (c .refused .ensures)
+    let n = c .before .before in
+    let w = wrote n .write-columns in
+    let a = start (wrote n) .args in
+    is-refused (a .circuit .now) (a .instance .now) (a .witness .now) (a .challenges .now) (a .columns .now) (a .nodes .now) _ _ _ (w .ensures .0) (w .ensures .1) (n .columns-number .ensures) _ (c .before .if1 .taken) (c .refused .ensures)
 
 column-words-requires : tie.Need-column-words-requires
 column-words-requires c κs = search needs
 
 compose-nodes-requires : tie.Need-compose-nodes-requires
 compose-nodes-requires c κs =
-    let s = c .before .before .before .before .before .before .before .before .before .before .before .before .before .before in
+    let s = start (wrote (c .before .before .before)) in
     let a = s .args in
     (s .pre .0, omega (arith, nodes-room (a .circuit .now) (a .instance .now) (a .witness .now) (a .challenges .now) (a .columns .now) (a .nodes .now) (s .pre .2)))
 
@@ -49,13 +55,13 @@ same-length-3 c = search needs
 returns-2 : tie.Need-returns-2
 unfolding paramsOf
 returns-2 c =
-    let s = c .before .before .before .before .before .before .before .before .before .before .before .before .before .before .before .before .before in
+    let words = c .before .before .before .before in
+    let n = words .before .before in
+    let w = wrote n .write-columns in
+    let s = start (wrote n) in
     let a = s .args in
-    let w = c .before .before .before .before .before .before .before .before .write-columns in
-    is-made (a .circuit .now) (a .instance .now) (a .witness .now) (a .challenges .now) (a .columns .now) (a .nodes .now) _ _ (w .result) _ _ _ (w .ensures .0)
-    (not-false (w .result) (c .before .before .before .before .before .if1 .left))
-    (w .ensures .1)
-    (c .before .before .before .before .column-words .ensures)
+    is-made (a .circuit .now) (a .instance .now) (a .witness .now) (a .challenges .now) (a .columns .now) (a .nodes .now) _ _ _ (w .ensures .0) (w .ensures .1) (n .columns-number .ensures) (words .before .if1 .left) _ _ _ _
+    (words .column-words .ensures)
     (ap (λ (v : CircuitParams). v .«num_chunks») (s .pre .0 .params-are))
     (nodes-room (a .circuit .now) (a .instance .now) (a .witness .now) (a .challenges .now) (a .columns .now) (a .nodes .now) (s .pre .2))
     (c .before .before .compose-nodes .ensures)
@@ -65,6 +71,7 @@ build-checked-spec =
     tie.close
     (tie.spec
     write-columns-requires
+    columns-number-requires
     refused-requires
     same-length
     returns
