@@ -1,5 +1,5 @@
 // build and check over files, of circuit words that were read and accepted. Each function reads one file and hands its words on.
-use crate::readings::tell;
+use crate::found::tell;
 use cli_messages::question;
 use cli_messages::say;
 use cli_messages::values::Needed;
@@ -11,7 +11,6 @@ use cli_report::shape::Shape;
 use cli_report::verdict::notes;
 use cli_report::verdict::verdict;
 use cli_texts::files::read;
-use cli_unlisted::find;
 ghost use Prim.Native.Nat.{_≤_};
 ghost use lib.ListN.{length};
 
@@ -54,10 +53,15 @@ fn build_words<'a>(
     let built = hyperplonk::build(circuit, instance, witness, challenges, columns, nodes);
     if built.number != 0 {
         refused(circuit, instance, witness, challenges, s.user, built.number);
-        if built.number == 15 {
-            let readings = find(circuit, instance, witness, challenges, columns);
-            tell(libc::STDERR_FILENO, readings);
-        }
+        tell(
+            libc::STDERR_FILENO,
+            circuit,
+            instance,
+            witness,
+            challenges,
+            columns,
+            built.number,
+        );
         return;
     }
     keep(columns, nodes, s);

@@ -1,11 +1,10 @@
 // A small log of its own, k = 3: readings looked up in an approved table that lists a row twice, and two settings copied from
 // the wearer's sheet to the knee.
-use crate::readings::tell;
+use crate::found::tell;
 use cli_messages::say;
 use cli_report::cuts::cuts_of;
 use cli_report::shape::shape_of;
 use cli_report::verdict::verdict;
-use cli_unlisted::find;
 use lists::word_at;
 
 // Polynomials: 0 the approved table, 1 the readings, 2 the sheet's settings, 3 the knee's. The lookup is polynomial 1 in 0; the
@@ -123,8 +122,15 @@ fn run_on<'a>(
     say::number(built.nodes as u64);
     say::line(b", z columns ", built.z_columns as u64);
     if built.number != 0 {
-        let readings = find(circuit, &instance, witness, challenges, &mut columns);
-        tell(libc::STDOUT_FILENO, readings);
+        tell(
+            libc::STDOUT_FILENO,
+            circuit,
+            &instance,
+            witness,
+            challenges,
+            &mut columns,
+            built.number,
+        );
         return;
     }
     if shown {

@@ -3,7 +3,7 @@
 // of its own. A message goes to standard error; run, beside src/, makes an exit status of it.
 mod commands;
 mod example;
-mod readings;
+mod found;
 mod rooms;
 mod usage;
 

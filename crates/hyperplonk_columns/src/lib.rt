@@ -67,7 +67,7 @@ fn places_of(circuit: &[u64], params: CircuitParams) -> Places
 }
 
 // The columns before the counts: instance, permutation and compressed columns.
-fn columns_before_m<'a>(
+pub fn columns_before_m<'a>(
     circuit: &'a [u64],
     instance: &[u64],
     witness: &'a [u64],
