@@ -13,10 +13,6 @@ fn other(fd: i32, c: Cuts) {
     if cuts::differ(c) {
         cuts::tell(fd, c);
     }
-    io::write_all(
-        fd,
-        b"an unlucky gamma, one for which a denominator is 0, can do it too: another gamma, built anew, tells\n",
-    );
 }
 
 // The verdict: on standard output where the sum is 0, else where it is asked for.
