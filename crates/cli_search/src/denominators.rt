@@ -217,8 +217,8 @@ fn poly_of(names: &[u64], of: Column) -> u64
     ensures { λ r. ⌜ r ≡ polyNamed (now (names .entry)) of ⌝ }
 {
     match of {
-        Column::Input(lookup) => 0,
-        Column::Table(lookup) => 0,
+        Column::Input(_) => 0,
+        Column::Table(_) => 0,
         Column::Copied(i) => word_at(names, i),
     }
 }

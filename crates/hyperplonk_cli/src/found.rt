@@ -89,16 +89,16 @@ fn column(fd: i32, circuit: &[u64], of: Column, q: u64) {
     match of {
         Column::Input(lookup) => count(fd, b"lookup ", lookup as u64),
         Column::Table(lookup) => count(fd, b"lookup ", lookup as u64),
-        Column::Copied(i) => polynomial(fd, circuit, q),
+        Column::Copied(_) => polynomial(fd, circuit, q),
     }
 }
 
 // What the denominator is.
 fn denominator(fd: i32, of: Column) {
     match of {
-        Column::Input(lookup) => text(fd, b"gamma + input"),
-        Column::Table(lookup) => text(fd, b"gamma + table"),
-        Column::Copied(i) => text(fd, b"value + beta * permutation label + gamma"),
+        Column::Input(_) => text(fd, b"gamma + input"),
+        Column::Table(_) => text(fd, b"gamma + table"),
+        Column::Copied(_) => text(fd, b"value + beta * permutation label + gamma"),
     }
 }
 
