@@ -55,7 +55,7 @@ fn last(number: u64) {
         14 => say::error(b"Have both output buffers at least the words needed?"),
         15 => say::error(b"Does each compressed input equal some compressed table row?"),
         17 => say::error(
-            b"Is every denominator other than 0? They are gamma + input and gamma + table on all rows, and the inverted factors on every row but 0.",
+            b"Is every denominator other than zero? They are gamma + input and gamma + table on all rows, and the inverted factors on every row but 0.",
         ),
         _ => say::error(
             b"Are witness, columns, nodes, challenges with alpha, and y (k values) of the exact length, the node words those that building writes, and all other values below p?",
