@@ -195,9 +195,6 @@ module _ (n : ℕ) (σ ι f : ℕ → ℕ) (turns : Turns n σ ι) (d : List ℕ
       w
       (v ∙ ap (λ (x : ℕ). f (ι x)) here))
 
-  pub behind-before : (m : List ℕ) (s : ℕ) → Behind n σ f d at m s → (j : ℕ) → j < at → getD m j 0 ≡ getD d j 0
-  behind-before m s inv = turn-before n (backTurn n σ) (backWord n ι) f (back-turns n σ ι turns) d at room m (n - s) inv
-
   -- a word whose turn is over
   pub behind-word : (m : List ℕ) (s : ℕ) → Behind n σ f d at m s → (i : ℕ) → i < n → s ≤ σ i → getD m (at + i) 0 ≡ f i
   behind-word m s inv i l h =
