@@ -41,6 +41,7 @@ module _ (ws : List ℕ) (a : Accepted ws) where
     ground-small =
         record {
           layout = subst LayoutSmall (sym (r .layout)) (given ws a .small);
+          given = subst (λ (l : Layout). (l .permutations ≡ 0) × (l .rest ≡ 0)) (sym (r .layout)) (given ws a .permutations, given ws a .rest);
           lookups = let h = few-lookups ws a in omega (arith, r .lookups);
           copied = let h = few-copied ws a in omega (arith, r .copied);
         }

@@ -33,6 +33,7 @@ pub record Grounded (circuit challenges : List ℕ) (g : Ground) : Type 0 where
 -- no place of a word that is read is a number that wraps
 pub record GroundSmall (g : Ground) : Type 0 where
   pub layout : LayoutSmall (g .layout)
+  pub given : (g .layout .permutations ≡ 0) × (g .layout .rest ≡ 0)
   pub lookups : g .lookups ≤ 8
   pub copied : g .copied ≤ maxPolys
 

@@ -12,7 +12,7 @@ use crate::seen::noted;
 use crate::seen::nothing;
 use backend::MAX_POLYS;
 use bh::rotations::place_of;
-use expression_nodes::poly::poly_at;
+use expression_nodes::poly::given_at;
 use field::goldilocks::Goldilocks;
 use lists::word_at;
 ghost use mathlib.Core.Path.{_≡_};
@@ -74,7 +74,7 @@ fn factor<'a>(
     requires { ⌜ GroundSmall g × (i < length (now names)) × (length (now names) ≤ maxPolys) × (row < g .layout .rows) ⌝ }
     ensures { λ r. ⌜ elem r ≡ factorAt (g .layout) (now (circuit .entry)) (now (witness .entry)) (now (columns .entry)) (now (names .entry)) (elem (g .beta)) (elem (g .gamma)) i row ⌝ }
 {
-    let value = Goldilocks::from_u64(poly_at(circuit, witness, columns, g.layout, names[i], row));
+    let value = Goldilocks::from_u64(given_at(circuit, witness, columns, g.layout, names[i], row));
     let label = Goldilocks::from_u64(behind(columns, g.layout, i, row));
     value.add(g.beta.mul(label)).add(g.gamma)
 }

@@ -1,4 +1,4 @@
-// The value of a polynomial at a row, from the three places where polynomials stand.
+// The value of a given polynomial at a row, from the three places where these stand.
 use crate::index;
 use expression::poly::Layout;
 use lists::word_at;
@@ -17,8 +17,8 @@ pub fn cell(ws: &[u64], start: usize, i: usize, rows: usize, row: usize) -> u64
     word_at(ws, start + i * rows + row)
 }
 
-// Polynomial q at a row, 0 where there is none.
-pub fn poly_at(
+// Polynomial q at a row, of those that are given: 0 where there is none.
+pub fn given_at(
     circuit: &[u64],
     witness: &[u64],
     columns: &[u64],
@@ -26,7 +26,7 @@ pub fn poly_at(
     q: u64,
     row: usize,
 ) -> u64
-    requires { ⌜ LayoutSmall layout × (row < 1048576) ⌝ }
+    requires { ⌜ LayoutSmall layout × ((layout .permutations ≡ 0) × (layout .rest ≡ 0)) × (row < 1048576) ⌝ }
     ensures { λ r. ⌜ el r ≡ polyOf 𝔾 (polysOf layout (now (circuit .entry)) (now (witness .entry)) (now (columns .entry))) q row ⌝ }
 {
     let rows = layout.rows;
@@ -34,9 +34,6 @@ pub fn poly_at(
     let preprocess = layout.preprocess;
     let start = layout.start;
     let witnesses = layout.witness;
-    let permutations = layout.permutations;
-    let skipped = layout.skipped;
-    let rest = layout.rest;
     let at = index(q);
     if at < instances {
         return cell(columns, 0, at, rows, row);
@@ -48,20 +45,6 @@ pub fn poly_at(
     let at2 = at1 - preprocess;
     if at2 < witnesses {
         return cell(witness, 0, at2, rows, row);
-    }
-    let at3 = at2 - witnesses;
-    if at3 < permutations {
-        return cell(columns, 0, instances + at3, rows, row);
-    }
-    let at4 = at3 - permutations;
-    if at4 < rest {
-        return cell(
-            columns,
-            0,
-            instances + permutations + skipped + at4,
-            rows,
-            row,
-        );
     }
     0
 }

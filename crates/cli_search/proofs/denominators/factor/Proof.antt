@@ -6,14 +6,14 @@ use borrow.Author.Needs.{needs}
 use Rattle.cli_search.proofs.denominators.factor.Statement.{statement}
 use Rattle.cli_search.proofs.denominators.factor.Tie as tie
 
-mul-poly-at : tie.Need-mul-poly-at
-mul-poly-at c = search needs
+mul-given-at : tie.Need-mul-given-at
+mul-given-at c = search needs
 
-shared-slice-read-poly-at : tie.Need-shared-slice-read-poly-at
-shared-slice-read-poly-at c = search needs
+shared-slice-read-given-at : tie.Need-shared-slice-read-given-at
+shared-slice-read-given-at c = search needs
 
-poly-at-requires : tie.Need-poly-at-requires
-poly-at-requires c κs = search needs
+given-at-requires : tie.Need-given-at-requires
+given-at-requires c κs = search needs
 
 from-u64-requires : tie.Need-from-u64-requires
 from-u64-requires c κs = search needs
@@ -39,16 +39,16 @@ returns c =
     c .add2 .ensures
     ∙ ap (λ (x : 𝔾 .F). 𝔾 .add x (elem (g .gamma)))
     (c .before .add .ensures
-    ∙ ap₂ (𝔾 .add) (c .before .before .before .before .before .from-u64 .ensures ∙ c .before .before .before .before .before .before .poly-at .ensures)
+    ∙ ap₂ (𝔾 .add) (c .before .before .before .before .before .from-u64 .ensures ∙ c .before .before .before .before .before .before .given-at .ensures)
     (c .before .before .mul .ensures ∙ ap (𝔾 .mul (elem (g .beta))) (c .before .before .before .from-u642 .ensures ∙ ap el (c .before .before .before .before .behind .ensures))))
 
 pub factor-spec : {M : Type 1} → statement M
 factor-spec =
     tie.close
     (tie.spec
-    mul-poly-at
-    shared-slice-read-poly-at
-    poly-at-requires
+    mul-given-at
+    shared-slice-read-given-at
+    given-at-requires
     from-u64-requires
     behind-requires
     from-u64-requires-2
