@@ -508,7 +508,7 @@ impl Refusal {
             Refusal::ShortBuffer => "Have both output buffers at least the words needed?",
             Refusal::NotInTable => "Does each compressed input equal some compressed table row?",
             Refusal::BadRowSumWords => "(Row sum only.) Are witness, columns, nodes, challenges with α, and y (k values) of the exact length, the node words those that building writes, and all other values below p?",
-            Refusal::ZeroDenominator => "Is every denominator other than zero?",
+            Refusal::ZeroDenominator => "Is every denominator other than zero? They are γ + input and γ + table on all rows, and the inverted factors on every row but 0.",
         }
     }
 }

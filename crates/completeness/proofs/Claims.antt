@@ -7,6 +7,7 @@ use Rattle.hyperplonk_prepare.proofs.Bound as Bound
 use Rattle.hyperplonk_prepare.proofs.Foretold as Foretold
 use Rattle.completeness.specs.Claims.{Claims}
 use Rattle.completeness.proofs.Counts as Counts
+use Rattle.completeness.proofs.Denominators as Denominators
 use Rattle.completeness.proofs.Cuts as Cuts
 use Rattle.completeness.proofs.Degrees as Degrees
 use Rattle.completeness.proofs.ReadColumns as ReadColumns
@@ -31,6 +32,7 @@ claims =
       demand-three-of = DemandThreeOf.demand-three-of;
       demand-three = DemandThree.demand-three;
       refused-when = Counts.refused-when;
+      zero-denominator-when = Denominators.zero-denominator-when;
       row-sum-zero = DemandThree.row-sum-zero;
       readings-covered = GoodLog.readings-covered;
       good-log = GoodLog.good-log;

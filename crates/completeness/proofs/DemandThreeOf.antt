@@ -22,7 +22,7 @@ use Rattle.prover.specs.Columns.{allCovered, composedEnvironment}
 use Rattle.prover.specs.Denominators.{zeroDenominator}
 use Rattle.hyperplonk_spec.specs.Meaning.{Admitted, EachRow, NoneZero, Premises, Conclusions, Demand3Of, DemandThreeOf}
 use Rattle.completeness.proofs.Counts.{refused-when, covered-when, m-sums, h-sums}
-use Rattle.completeness.proofs.Denominators.{some-zero-when, none-zero-when}
+use Rattle.completeness.proofs.Denominators.{zero-denominator-when, none-zero-when}
 use Rattle.completeness.proofs.Passed.{k-pos, k-small}
 use Rattle.completeness.proofs.ComposedZero.{user-zeros, lookup-zeros, composed-zero}
 use Rattle.completeness.proofs.PermutationZero.{start-zeros, part-zeros}
@@ -86,7 +86,7 @@ module _ (𝓕 : Field) (g : Log 𝓕) (ad : Admitted 𝓕 g) where
       record {
         refused-when = refused-when 𝓕 g;
         covered-when = covered-when 𝓕 g;
-        some-zero-when = some-zero-when 𝓕 g;
+        some-zero-when = zero-denominator-when 𝓕 g;
         none-zero-when = none-zero-when 𝓕 g;
         holds-when = concluded;
       }

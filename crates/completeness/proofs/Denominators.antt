@@ -140,9 +140,8 @@ module _ (𝓕 : Field) where
             or-right (anyOf (λ l. someZero 𝓕 (of l)) (g .circuit .lookups)) (someZero 𝓕 factors)
             (some-factor rows (numCopied (g .circuit)) (permutationFactorAt 𝓕 g) z)
 
-    -- Meaning's some-zero-when and none-zero-when
-    pub some-zero-when : (zeroDenominator 𝓕 g ≡ true) ↔ SomeZero 𝓕 g
-    some-zero-when = (some-zero-of, zero-of-some)
+    pub zero-denominator-when : (zeroDenominator 𝓕 g ≡ true) ↔ SomeZero 𝓕 g
+    zero-denominator-when = (some-zero-of, zero-of-some)
 
     none-of : zeroDenominator 𝓕 g ≡ false → NoneZero 𝓕 g
     none-of e =

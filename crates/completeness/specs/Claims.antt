@@ -16,9 +16,10 @@ use Rattle.backend.specs.Questions.{PassedIsWellFormed}
 use Rattle.preprocessor.specs.Compose.{numZ, constraintCut, zCut, composedWords}
 use Rattle.prover.specs.Log.{Log}
 use Rattle.prover.specs.Columns.{allCovered, writtenPolys, userEnvironment, composedEnvironment}
+use Rattle.prover.specs.Denominators.{zeroDenominator}
 use Rattle.hyperplonk_spec.specs.Build.{logOf, wordsOf, checkBuild, lentBuild}
 use Rattle.hyperplonk_spec.specs.RowSum.{rowSumOf, lentSum}
-use Rattle.hyperplonk_spec.specs.Meaning.{Each, Admitted, NoCounts, Conclusions, DemandThreeOf}
+use Rattle.hyperplonk_spec.specs.Meaning.{Each, Admitted, NoCounts, SomeZero, Conclusions, DemandThreeOf}
 use Rattle.hyperplonk_spec.specs.Demand.{DemandThree}
 use Rattle.hyperplonk_spec.specs.Composed.{
   ReadsBack,
@@ -67,6 +68,10 @@ use Rattle.completeness.specs.Scope.{Scoped}
 abbrev pub RefusedWhen : Type 1
 RefusedWhen = (𝓕 : Field) (g : Log 𝓕) → (allCovered 𝓕 g ≡ false) ↔ NoCounts 𝓕 g
 
+-- "a denominator of document 01 is zero": there is a lookup and a row, or a copied column and a row but 0
+abbrev pub ZeroDenominatorWhen : Type 1
+ZeroDenominatorWhen = (𝓕 : Field) (g : Log 𝓕) → (zeroDenominator 𝓕 g ≡ true) ↔ SomeZero 𝓕 g
+
 -- a user expression has one value over what the user gives and over all columns
 abbrev pub UserValue : Type 1
 UserValue =
@@ -97,6 +102,7 @@ pub record Claims : Type 1 where
   pub demand-three-of : DemandThreeOf
   pub demand-three : DemandThree
   pub refused-when : RefusedWhen
+  pub zero-denominator-when : ZeroDenominatorWhen
   pub row-sum-zero : RowSumZero
   -- the insurer's first two questions: "Can a good log be turned away? Does a table row listed twice spoil a count?"
   pub readings-covered : ReadingsCovered

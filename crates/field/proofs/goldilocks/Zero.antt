@@ -1,7 +1,7 @@
 -- The element zero, and the word 0.
 use mathlib.Core.Path.{_≡_, refl, sym, ap, _∙_}
 use mathlib.Core.Logic.{_≢_}
-use mathlib.Core.Bool.{true, false, decide, true≢false}
+use mathlib.Core.Bool.{true, false, decide}
 use Prim.Native.Nat.{ℕ}
 use native.Mathlib.Decide.{ℕ-discrete}
 use lib.Dec.{eqb}
@@ -26,9 +26,6 @@ zero-false x n = go (𝔾 .decide x (𝔾 .zero))
     go : (d : Dec (x ≡ 𝔾 .zero)) → decide d ≡ false
     go (yes p) = absurd (n p)
     go (no p) = refl
-
-pub not-zero : (x : 𝔾 .F) → isZero x ≡ false → x ≢ 𝔾 .zero
-not-zero x e q = true≢false (sym (zero-true x q) ∙ e)
 
 pub zero-word : (x : 𝔾 .F) (r : ℕ) → r ≡ val x → eqb r 0 ≡ isZero x
 zero-word x r e = go (ℕ-discrete r 0)
