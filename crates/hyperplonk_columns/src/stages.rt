@@ -59,7 +59,7 @@ pub fn layout_of(circuit: &[u64]) -> Layout
 }
 
 // The instance columns, at the front of the buffer.
-pub fn instance_columns(circuit: &[u64], instance: &[u64], columns: &mut [u64])
+pub(crate) fn instance_columns(circuit: &[u64], instance: &[u64], columns: &mut [u64])
     requires { ⌜ Accepted (now circuit) × (total (bodyOf (now circuit) Section.instances) ≡ length (now instance)) × (numInstance (circuitOf (now circuit)) * rowsOf (circuitOf (now circuit)) ≤ length (now columns)) ⌝ }
     ensures { λ _. ⌜ now (columns .exit) ≡ writeAt (now (columns .entry)) 0 (instanceWords (now (circuit .entry)) (now (instance .entry))) ⌝ }
 {
@@ -108,7 +108,7 @@ fn compressed_from<'a>(
 
 // The compressed columns, behind the permutation columns: input and table per lookup. `challenges` are the user's, then beta and gamma;
 // `copied` is how many columns are copied.
-pub fn compressed_columns<'a>(
+pub(crate) fn compressed_columns<'a>(
     circuit: &'a [u64],
     witness: &'a [u64],
     columns: &mut [u64],
@@ -137,7 +137,7 @@ pub fn compressed_columns<'a>(
 
 // The z columns, behind all others; zeros where a denominator is zero. `challenges` are the user's, then beta and gamma; `copied` are the
 // copied columns, and `chunks` is how many z columns there are.
-pub fn z_columns(
+pub(crate) fn z_columns(
     circuit: &[u64],
     witness: &[u64],
     columns: &mut [u64],
