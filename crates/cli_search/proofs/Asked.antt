@@ -21,7 +21,8 @@ use Rattle.hyperplonk_prepare.proofs.Accepted.{k-pos, k-few, few-lookups, few-c
 use Rattle.hyperplonk_columns.specs.Stages.{lentBeta, lentGamma}
 use Rattle.cli_search.specs.Ground.{GroundSmall, Grounded}
 use Rattle.cli_search.specs.Missing.{MissingIn, Missing}
-use Rattle.cli_search.specs.Zero.{ZeroSide, factorAt, ZeroOf, ZeroIn, ZeroAt}
+use Rattle.prover_z.specs.Factors.{denominatorInWords}
+use Rattle.cli_search.specs.Zero.{ZeroSide, ZeroOf, ZeroIn, ZeroAt}
 use Rattle.cli_search.specs.declared.Column.{Column}
 use Rattle.cli_search.specs.declared.filled.Ground.{Ground}
 
@@ -110,7 +111,7 @@ module _ (l : Layout) (circuit witness columns names : List ℕ) (lookups : ℕ)
     of-table q z = subst Zero (sym q) (subst (λ (m : ℕ). ZeroSide l lookups m columns γ 1 n row) e z)
 
   pub of-copied : of ≡ Column.Copied n
-      → (n < length names) × (0 < row) × (factorAt l circuit witness columns names β γ n row ≡ 𝔾 .zero)
+      → (n < length names) × (0 < row) × (denominatorInWords l circuit witness columns names β γ row n ≡ 𝔾 .zero)
       → Zero of
   of-copied q z = subst Zero (sym q) z
 

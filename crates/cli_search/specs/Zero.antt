@@ -5,14 +5,12 @@ use Prim.Native.Nat.{ℕ, _<_}
 use lib.ListN.{length, getD}
 use Rattle.field.specs.Field.{𝔾, el}
 use Rattle.bh.specs.Rows.{placeOf}
-use Rattle.expression.specs.Value.{polyOf}
-use Rattle.expression.specs.Reader.{polysOf}
 use Rattle.expression.specs.declared.poly.Layout.{Layout}
 use Rattle.backend.specs.Circuit.{circuitOf, wordK, numLookups, copied}
-use Rattle.prover.specs.Running.{factorOf}
+use Rattle.prover_z.specs.Factors.{denominatorInWords}
 use Rattle.hyperplonk_prepare.specs.Prepared.{layoutFromWords}
 use Rattle.hyperplonk_columns.specs.Stages.{lentBeta, lentGamma}
-use Rattle.cli_search.specs.Ground.{wordBehind, sideWord}
+use Rattle.cli_search.specs.Ground.{sideWord}
 use Rattle.cli_search.specs.declared.Column.{Column}
 use Rattle.cli_search.specs.declared.denominators.ZeroDenominator.{ZeroDenominator}
 
@@ -21,16 +19,12 @@ abbrev pub ZeroSide : Layout → ℕ → ℕ → List ℕ → 𝔾 .F → ℕ �
 ZeroSide l lookups copied columns γ side lookup row =
     (lookup < lookups) × (𝔾 .add γ (el (sideWord l copied columns side lookup row)) ≡ 𝔾 .zero)
 
--- "value + β×permutation label + γ" of copied column i, at a row but 0; the label stands in its permutation column
-abbrev pub factorAt : Layout → List ℕ → List ℕ → List ℕ → List ℕ → 𝔾 .F → 𝔾 .F → ℕ → ℕ → 𝔾 .F
-factorAt l circuit witness columns names β γ i row =
-    factorOf 𝔾 β γ (polyOf 𝔾 (polysOf l circuit witness columns) (getD names i 0) row) (el (wordBehind l columns i row))
-
 module _ (l : Layout) (circuit witness columns names : List ℕ) (lookups : ℕ) (β γ : 𝔾 .F) where
+  -- of copied column i "value + β×permutation label + γ", at a row but 0; the label stands in its permutation column
   abbrev pub ZeroOf : Column → ℕ → Type 0
   ZeroOf (Column.Input lookup) row = ZeroSide l lookups (length names) columns γ 0 lookup row
   ZeroOf (Column.Table lookup) row = ZeroSide l lookups (length names) columns γ 1 lookup row
-  ZeroOf (Column.Copied i) row = (i < length names) × (0 < row) × (factorAt l circuit witness columns names β γ i row ≡ 𝔾 .zero)
+  ZeroOf (Column.Copied i) row = (i < length names) × (0 < row) × (denominatorInWords l circuit witness columns names β γ row i ≡ 𝔾 .zero)
 
   abbrev pub ZeroIn : Column → ℕ → Type 0
   ZeroIn of row = (row < l .rows) × ZeroOf of row

@@ -23,9 +23,10 @@ ghost use lib.ListN.{length, take};
 ghost use Rattle.field.specs.Field.{𝔾};
 ghost use Rattle.field.specs.Element.{elem};
 ghost use Rattle.backend.specs.Circuit.{circuitOf, copied as copiedOf, maxPolys};
+ghost use Rattle.prover_z.specs.Factors.{denominatorInWords};
 ghost use Rattle.hyperplonk_prepare.specs.Prepared.{Accepted};
 ghost use Rattle.cli_search.specs.Ground.{GroundSmall};
-ghost use Rattle.cli_search.specs.Zero.{ZeroSide, factorAt, ZeroIn, polyNamed, ZeroNamed};
+ghost use Rattle.cli_search.specs.Zero.{ZeroSide, ZeroIn, polyNamed, ZeroNamed};
 
 // `count` is how many there are in all; the rest is of the first, and 0 where there is none. `poly` is the polynomial's number of a
 // copied column.
@@ -72,7 +73,7 @@ fn factor<'a>(
     row: usize,
 ) -> Goldilocks
     requires { ⌜ GroundSmall g × (i < length (now names)) × (length (now names) ≤ maxPolys) × (row < g .layout .rows) ⌝ }
-    ensures { λ r. ⌜ elem r ≡ factorAt (g .layout) (now (circuit .entry)) (now (witness .entry)) (now (columns .entry)) (now (names .entry)) (elem (g .beta)) (elem (g .gamma)) i row ⌝ }
+    ensures { λ r. ⌜ elem r ≡ denominatorInWords (g .layout) (now (circuit .entry)) (now (witness .entry)) (now (columns .entry)) (now (names .entry)) (elem (g .beta)) (elem (g .gamma)) row i ⌝ }
 {
     let value = Goldilocks::from_u64(given_at(circuit, witness, columns, g.layout, names[i], row));
     let label = Goldilocks::from_u64(behind(columns, g.layout, i, row));
@@ -90,7 +91,7 @@ fn is_zero_factor<'a>(
     row: usize,
 ) -> bool
     requires { ⌜ GroundSmall g × (length (now names) ≤ maxPolys) × (row < g .layout .rows) ⌝ }
-    ensures { λ r. ⌜ (r ≡ true → (i < length (now (names .entry))) × (0 < row) × (factorAt (g .layout) (now (circuit .entry)) (now (witness .entry)) (now (columns .entry)) (now (names .entry)) (elem (g .beta)) (elem (g .gamma)) i row ≡ 𝔾 .zero)) ⌝ }
+    ensures { λ r. ⌜ (r ≡ true → (i < length (now (names .entry))) × (0 < row) × (denominatorInWords (g .layout) (now (circuit .entry)) (now (witness .entry)) (now (columns .entry)) (now (names .entry)) (elem (g .beta)) (elem (g .gamma)) row i ≡ 𝔾 .zero)) ⌝ }
 {
     if i >= names.len() {
         return false;

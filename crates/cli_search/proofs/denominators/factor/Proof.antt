@@ -2,6 +2,7 @@
 use mathlib.Core.Path.{ap, ap₂, _∙_}
 use Rattle.field.specs.Field.{𝔾, el}
 use Rattle.field.specs.Element.{elem}
+use Rattle.prover_z.specs.Factors.{denominatorInWords}
 use borrow.Author.Needs.{needs}
 use Rattle.cli_search.proofs.denominators.factor.Statement.{statement}
 use Rattle.cli_search.proofs.denominators.factor.Tie as tie
@@ -34,6 +35,7 @@ add-requires-2 : tie.Need-add-requires-2
 add-requires-2 c κs = search needs
 
 returns : tie.Need-returns
+unfolding denominatorInWords
 returns c =
     let g = c .before .before .before .before .before .before .before .before .before .before .before .before .args .g in
     c .add2 .ensures
