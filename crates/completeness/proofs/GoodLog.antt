@@ -1,6 +1,6 @@
 -- A good log is not turned away: ReadingsCovered, GoodLog and ZeroWhen of Insurer.
 use mathlib.Core.Path.{_≡_, refl, sym, ap, ap₂, _∙_}
-use mathlib.Core.Logic.{_≢_, _↔_}
+use mathlib.Core.Logic.{_≢_, _⊎_, _↔_, inl, inr, ⊎-elim}
 use mathlib.Core.Bool.{true}
 use mathlib.Core.List.{List, [], _∷_, map}
 use Prim.Native.Nat.{ℕ}
@@ -80,13 +80,16 @@ module _ (ws instances witness challenges columns nodes : List ℕ) where
   )
 
   module _ (a : checkBuild (lentBuild ws instances witness challenges columns nodes) ≡ 0) (s : ReadingsStand 𝔾 log) where
-    not-15 : out .answer .number ≢ 15
-    not-15 e = go (given ws instances witness challenges columns nodes a)
+    zero-or-17 : (out .answer .number ≡ 0) ⊎ (out .answer .number ≡ 17)
+    zero-or-17 = go (given ws instances witness challenges columns nodes a)
       where
-        go : Given ws instances witness challenges columns nodes → ⊥
+        go : Given ws instances witness challenges columns nodes → (out .answer .number ≡ 0) ⊎ (out .answer .number ≡ 17)
         go (Given.uncovered f q) = false-true (sym f ∙ stand-all 𝔾 log s)
-        go (Given.divided f h q) = let r = sym q ∙ e in omega arith
-        go (Given.built f h q) = let r = sym q ∙ e in omega arith
+        go (Given.divided f h q) = inr q
+        go (Given.built f h q) = inl q
+
+    not-15 : out .answer .number ≢ 15
+    not-15 e = ⊎-elim (λ q. let r = sym q ∙ e in omega arith) (λ q. let r = sym q ∙ e in omega arith) zero-or-17
 
     d : Demand3 ws instances witness challenges columns nodes out
     d = demand-three ws instances witness challenges columns nodes a
@@ -99,9 +102,9 @@ module _ (ws instances witness challenges columns nodes : List ℕ) where
         let t = d .otherwise p not-15 n in
         record { number = ap (λ (b : Built). b .number) (t .written .answer); row-sum = t .row-sum }
 
-    pub good-at : (out .answer .number ≢ 15) × ((out .answer .number ≡ 17) ↔ SomeZero 𝔾 log)
+    pub good-at : ((out .answer .number ≡ 0) ⊎ (out .answer .number ≡ 17)) × ((out .answer .number ≡ 17) ↔ SomeZero 𝔾 log)
         × (Premises 𝔾 log → out .answer .number ≢ 17 → Passes ws instances witness challenges columns nodes)
-    good-at = (not-15, seventeen-when, passes-by)
+    good-at = (zero-or-17, seventeen-when, passes-by)
 
 pub good-log : GoodLog
 good-log ws instances witness challenges columns nodes a s = good-at ws instances witness challenges columns nodes a s

@@ -8,6 +8,8 @@ use lib.IntN.{pos, negsuc}
 use lib.ListN.{take, replicate}
 use Rattle.field.specs.Field.{𝔾, el, val}
 use Rattle.field.specs.Algebra.{product}
+use Rattle.field.specs.Inverse.{inverseOf}
+use Rattle.field.specs.declared.Inverse.{Inverse}
 use Rattle.bh.specs.Rows.{prevRow, order, lagrangeRow}
 use Rattle.lists.specs.Lists.{tabulate, firstNo}
 use Rattle.backend.specs.Questions.{q10, circuitQuestions, goodK}
@@ -101,10 +103,21 @@ pub half : val (𝔾 .inv (el 2)) ≡ 9223372034707292161
 unfolding everything
 half = refl
 
--- the inverse of 0 is 0
+-- the field's `inv` of 0 is 0, by convention
 pub inverse-0 : val (𝔾 .inv (el 0)) ≡ 0
 unfolding everything
 inverse-0 = refl
+
+-- Item 2 of document 02: "The inverse must answer either a value or "zero"": of 0, of p, which is zero too, and of 2
+pub answers-0 : inverseOf 0 ≡ Inverse.Zero
+answers-0 = refl
+
+pub answers-p : inverseOf 18446744069414584321 ≡ Inverse.Zero
+answers-p = refl
+
+pub answers-2 : inverseOf 2 ≡ Inverse.Value 9223372034707292161
+unfolding everything
+answers-2 = refl
 
 -- ● k=1, one single-cell cycle: z = 0,1. The words of that circuit, built with β = 5 and γ = 7; its columns are the labels 0,1 and z.
 abbrev pub single : ℕ → List ℕ

@@ -1,7 +1,7 @@
 -- The insurer's first two questions, "Can a good log be turned away? Does a table row listed twice spoil a count?", as claims. They are
 -- stated here and proved elsewhere.
 use mathlib.Core.Path.{_≡_}
-use mathlib.Core.Logic.{_≢_, _↔_}
+use mathlib.Core.Logic.{_≢_, _⊎_, _↔_}
 use mathlib.Core.Bool.{true}
 use mathlib.Core.List.{List, [], _∷_, _++_}
 use Prim.Native.Nat.{ℕ, _+_, _*_, _^_, _≤_, _<_}
@@ -158,14 +158,15 @@ module _ (g : Log 𝔾) (left : List ℕ) (j : ℕ) where
     -- the words are the counts of `lookup_m_poly` themselves: none reaches p
     pub whole : (b : ℕ) → b < rows → m b ≡ countAt 𝔾 g lookup b
 
--- "Can a good log be turned away?" Let questions 1 to 14 be yes. If each reading stands in the table, 15 is not given, and 17 is exactly
+-- "Can a good log be turned away?" Let questions 1 to 14 be yes. If each reading stands in the table, the number is 0 or 17, and 17 exactly
 -- if a denominator is zero; with the other premises of demand 3, and not 17, the number is 0 and the row sum of what was written
 -- answers 0 and 0
 abbrev pub GoodLog : Type 0
 GoodLog =
     (ws instances witness challenges columns nodes : List ℕ) → checkBuild (lentBuild ws instances witness challenges columns nodes) ≡ 0
     → ReadingsStand 𝔾 (logOf ws instances witness challenges)
-    → (buildOf (lentBuild ws instances witness challenges columns nodes) .answer .number ≢ 15)
+    → ((buildOf (lentBuild ws instances witness challenges columns nodes) .answer .number ≡ 0)
+    ⊎ (buildOf (lentBuild ws instances witness challenges columns nodes) .answer .number ≡ 17))
     × ((buildOf (lentBuild ws instances witness challenges columns nodes) .answer .number ≡ 17) ↔ SomeZero 𝔾 (logOf ws instances witness challenges))
     × (Premises 𝔾 (logOf ws instances witness challenges) → buildOf (lentBuild ws instances witness challenges columns nodes) .answer .number ≢ 17
     → Passes ws instances witness challenges columns nodes)
