@@ -10,10 +10,10 @@ use borrow.Author.Tests.{not-true, not-false}
 use Rattle.lists.specs.Lists.{tabulate, total, split, firstNo}
 use Rattle.lists.proofs.First.{first-none, first-next, first-number, first-yes, first-append, first-refused}
 use Rattle.expression.specs.Nodes.{exprOf}
-use Rattle.backend.specs.Circuit.{Section, wordK, entries, bodyOf, pairsOf, cellAt, cellsOf, statedOf, circuitOf, numPoly, numChallenges}
+use Rattle.backend.specs.Circuit.{Section, wordK, entries, bodyOf, pairsOf, cellAt, cellsOf, statedOf, circuitOf, numPoly, numChallenges, groupSizes, groupsOf}
 use Rattle.backend.specs.Layout.{laidOut, nodesInRange}
 use Rattle.backend.specs.Questions.{q1, q2, q3, q4, q3-bodies, q4-bodies, q5, q6, q7, q8, q9, q10, cyclesGood, q11, layoutQuestions, bodyQuestions, circuitQuestions}
-use Rattle.backend.specs.Degrees.{degreeOf, lookupsDegree, degreesFit}
+use Rattle.backend.specs.Degrees.{degreeOf, groupsDegree, degreesFit}
 use Rattle.backend.specs.Laid.{ContentsValid, BodiesValid}
 use Rattle.backend.proofs.Sections.{body-length, laid}
 use Rattle.backend.proofs.Numbers.{counted}
@@ -115,12 +115,15 @@ pub user-degree-of : (ws n c : List ℕ) → n ≡ bodyOf ws Section.nodes → c
 unfolding circuitOf
 user-degree-of ws n c x y u e = e ∙ rw (x, y)
 
-pub lookups-degree-of : (ws n w p : List ℕ) → ContentsValid ws → n ≡ bodyOf ws Section.nodes → w ≡ bodyOf ws Section.widths → p ≡ bodyOf ws Section.pairs → (u : ℕ)
-    → u ≡ min 1025 (lookupsDegree (split w (pairsOf n p))) → u ≡ min 1025 (lookupsDegree (circuitOf ws .lookups))
-unfolding circuitOf
-lookups-degree-of ws n w p a x z q u e = e ∙ rw (x, z, q, pair-count ws a)
+pub groups-degree-of : (ws n w p g : List ℕ) → ContentsValid ws → n ≡ bodyOf ws Section.nodes → w ≡ bodyOf ws Section.widths → p ≡ bodyOf ws Section.pairs
+    → g ≡ groupSizes (circuitOf ws .groups)
+    → (u : ℕ)
+    → u ≡ min 1025 (groupsDegree (split g (split w (pairsOf n p))))
+    → u ≡ min 1025 (groupsDegree (groupsOf (circuitOf ws)))
+unfolding groupsOf circuitOf
+groups-degree-of ws n w p g a x z q s u e = e ∙ rw (s, x, z, q, pair-count ws a)
 
-pub ten : (ws : List ℕ) (s : ℕ) → s ≡ getD ws 1 0 → (r : Bool) → r ≡ degreesFit (statedOf s) (circuitOf ws .constraints) (circuitOf ws .lookups) → r ≡ q10 (circuitOf ws)
+pub ten : (ws : List ℕ) (s : ℕ) → s ≡ getD ws 1 0 → (r : Bool) → r ≡ degreesFit (statedOf s) (circuitOf ws .constraints) (groupsOf (circuitOf ws)) → r ≡ q10 (circuitOf ws)
 unfolding circuitOf
 ten ws s t r e = e ∙ rw t (sym (ten-is (circuitOf ws)))
 

@@ -4,26 +4,29 @@ use mathlib.Core.Bool.{Bool, true, false, _&&_, _||_, and-false, Bool·beq}
 use mathlib.Core.List.{List, [], _∷_, _++_, map, map-append, map-map}
 use mathlib.Core.Option.{Option, none, some}
 use Prim.Native.Nat.{ℕ, zero, suc, _+_, _-_, _*_, _/_, _≤_, _<_, min, max}
-use native.Mathlib.Nat.{max-zero, zero-max, zero-add, add-zero, not-suc-le-zero}
+use native.Mathlib.Nat.{max-zero, zero-add, add-zero, add-assoc, not-suc-le-zero}
 use native.Mathlib.Numerals.{add-one}
 use native.Mathlib.Omega.{arith}
 use lib.Dec.{eqb, leb, ltb, eqb·suc-zero, leb·zero, leb·suc-suc}
 use lib.ListN.{length, getD, take, drop, drop-of-length-le}
 use borrow.Author.Tests.{leb-true, le-leb, lt-leb, ltb-true}
-use Rattle.lists.specs.Lists.{tabulate, allOf, maximum, split, total}
+use Rattle.lists.specs.Lists.{tabulate, allOf, countOf, maximum, split, total, All}
 use Rattle.lists.proofs.Tests.{all-append, all-each, and-left, and-right, and-both}
-use Rattle.lists.proofs.Columns.{map-tabulate, tabulate-suc, tabulate-cong, tabulate-of}
+use Rattle.lists.proofs.Columns.{map-tabulate, tabulate-suc, tabulate-cong, tabulate-of, tabulate-length, get-tabulate}
+use Rattle.lists.proofs.All.{all-mapped}
+use Rattle.lists.proofs.Lists.{split-length}
+use Rattle.lists.proofs.Parts.{get-split, total-within, total-next as total-next-of}
 use Rattle.lists.proofs.Totals.{maximum-append}
-use Rattle.lists.proofs.Walks.{all-map}
-use Rattle.lists.proofs.Searches.{tabulate-part, total-drop, split-drop}
+use Rattle.lists.proofs.Walks.{all-map, total-next}
+use Rattle.lists.proofs.Searches.{tabulate-part}
 use Rattle.lists.proofs.Once.{same-tests}
-use Rattle.expression.specs.Expr.{Expr, Exprs, degree, evaluate, powersFirst, values, running, degreeOps, exprsOf, distributePowers}
+use Rattle.expression.specs.Expr.{Expr, Exprs, degree, evaluate, powersFirst, values, running, degreeOps, exprsOf, distributePowers, productFrom, productOf, at}
 use Rattle.expression.specs.Nodes.{exprOf}
-use Rattle.backend.specs.Circuit.{Circuit, Pair, word, pairAt, pairsOf, statedOf, numChallenges}
+use Rattle.backend.specs.Circuit.{Circuit, Pair, word, pairAt, pairsOf, statedOf, numChallenges, numGroupsIn, groupSizes, numGroups, groupsOf, mNumber, hNumber}
 use Rattle.backend.specs.Layout.{nodeCount, nodesHold, kindIs, inPlace, isRoot, once, laidOut}
-use Rattle.backend.specs.Constraints.{inputsOf, tablesOf, betaOf, lookupConstraint, lookupConstraints, leastD, maxDegree}
+use Rattle.backend.specs.Constraints.{inputsOf, tablesOf, sideOf, omitOne, sumFrom, sumOf, numeratorTree, groupTree, groupWith, lookupConstraint, lookupConstraints, leastD, maxDegree}
 use Rattle.backend.specs.Questions.{atMost, q10}
-use Rattle.backend.specs.Degrees.{degreeOf, lookupDegree, lookupFrom, sideDegree, lookupsDegree, degreesFit, largestDegree}
+use Rattle.backend.specs.Degrees.{degreeOf, groupDegree, lookupFrom, sideDegree, lookupNumbered, groupFrom, groupsDegree, degreesFit, largestDegree}
 
 max-assoc : (a b d : ℕ) → max (max a b) d ≡ max a (max b d)
 max-assoc a b d = omega arith
@@ -47,37 +50,102 @@ powers-degree (e ∷ []) i = sym (max-zero (degree e))
 powers-degree (e ∷ (f ∷ es)) i =
     ap (running degreeOps 0 0 (degree e)) (degrees-of f es) ∙ running-zero (degree e) (map degree (f ∷ es))
 
-constraint-of : (i t : ℕ) → max (max (1 + max i 0 + max t 0) (max t 0)) (1 + max i 0) ≡ 1 + i + t
-constraint-of i t = omega arith
+-- ---- a group's constraint
+product-degree : (e : Expr) (es : List Expr) → degree (productFrom e es) ≡ degree e + total (map degree es)
+unfolding productFrom total degree evaluate degreeOps
+product-degree e [] = sym (add-zero (degree e))
+product-degree e (f ∷ es) = product-degree (Expr.product e f) es ∙ add-assoc (degree e) (degree f) (total (map degree es))
+
+sum-degree : (d : ℕ) (e : Expr) (es : List Expr) → degree e ≤ d → All (λ f. degree f ≤ d) es → degree (sumFrom e es) ≤ d
+unfolding sumFrom degree evaluate degreeOps
+sum-degree d e [] h a = h
+sum-degree d e (f ∷ es) h a = sum-degree d (Expr.sum e f) es (let q = a .0 in omega arith) (a .1)
+
+list-degree : (es : List Expr) → degree (productOf es) ≤ total (map degree es)
+unfolding productOf total degree evaluate degreeOps
+list-degree [] = omega arith
+list-degree (e ∷ es) = let q = product-degree e es in omega arith
+
+-- with one left out
+omit-degree : (d : ℕ) (es : List Expr) → d ≡ total (map degree es) → All (λ fs. total (map degree fs) ≤ d) (omitOne es)
+unfolding omitOne total
+omit-degree d [] e = tt
+omit-degree d (x ∷ xs) e = (
+  omega arith,
+  all-mapped (λ fs. total (map degree fs) ≤ total (map degree xs)) (λ fs. total (map degree fs) ≤ d) (λ ys. x ∷ ys) (λ ys q. let p = q in omega arith)
+      (omitOne xs)
+      (omit-degree (total (map degree xs)) xs refl),
+)
+
+numerator-degree : (t : Expr) (is : List Expr) → degree (numeratorTree t is) ≤ degree t + total (map degree is)
+unfolding numeratorTree sumOf total degree evaluate degreeOps
+numerator-degree t [] = omega arith
+numerator-degree t (i ∷ []) = omega arith
+numerator-degree t (i ∷ (j ∷ is)) =
+    let d : ℕ = total (map degree (i ∷ (j ∷ is))) in
+    let a = omit-degree d (i ∷ (j ∷ is)) refl in
+    let q = products (omitOne (i ∷ (j ∷ is))) a in
+    omega arith
+  where
+    products : (xss : List (List Expr)) → All (λ fs. total (map degree fs) ≤ total (map degree (i ∷ (j ∷ is)))) xss
+        → degree (sumOf (map productOf xss)) ≤ total (map degree (i ∷ (j ∷ is)))
+    products [] a = omega arith
+    products (xs ∷ xss) a =
+        sum-degree (total (map degree (i ∷ (j ∷ is)))) (productOf xs) (map productOf xss) (let p = list-degree xs in let q = a .0 in omega arith)
+        (all-mapped (λ fs. total (map degree fs) ≤ total (map degree (i ∷ (j ∷ is)))) (λ f. degree f ≤ total (map degree (i ∷ (j ∷ is)))) productOf
+        (λ fs q. let p = list-degree fs in omega arith) xss (a .1))
+
+pub tree-degree : (m h : ℕ) (is : List Expr) (t : Expr) → degree (groupTree (at m) (at h) is t) ≡ 1 + total (map degree is) + degree t
+unfolding groupTree degree evaluate degreeOps
+tree-degree m h is t =
+    let a = product-degree (at h) is in
+    let b = numerator-degree t is in
+    let c = product-degree (at m) is in
+    omega arith
+
+side-is : (user : ℕ) (es : List Expr) → degree (sideOf user es) ≡ degreeOf es
+unfolding degree evaluate degreeOps
+side-is user es = max-zero (degree (distributePowers es (Expr.challenge user))) ∙ powers-degree es user
+
+sides-are : (user : ℕ) (group : List (List Pair)) → map degree (map (λ l. sideOf user (inputsOf l)) group) ≡ map (λ l. degreeOf (inputsOf l)) group
+sides-are user [] = refl
+sides-are user (l ∷ ls) = ap₂ (λ (n : ℕ) (ns : List ℕ). n ∷ ns) (side-is user (inputsOf l)) (sides-are user ls)
+
+pub group-degree : (user m h : ℕ) (group : List (List Pair)) → degree (groupWith user m h group) ≡ groupDegree group
+unfolding groupWith
+group-degree user m h group =
+    tree-degree m h (map (λ l. sideOf user (inputsOf l)) group) (sideOf user (tablesOf (getD group 0 [])))
+    ∙ ap₂ (λ (ns : List ℕ) (t : ℕ). 1 + total ns + t) (sides-are user group) (side-is user (tablesOf (getD group 0 [])))
+
+-- there are as many groups as sizes
+pub groups-length : (c : Circuit) → length (groupsOf c) ≡ numGroups c
+unfolding groupsOf numGroups groupSizes
+groups-length c = split-length (groupSizes (c .groups)) (c .lookups) ∙ tabulate-length (λ j. countOf (λ g. eqb g j) (c .groups)) (numGroupsIn (c .groups))
 
 module _ (c : Circuit) where
-  pub constraint-degree : (j : ℕ) → degree (lookupConstraint c j) ≡ lookupDegree (getD (c .lookups) j [])
-  unfolding evaluate degree degreeOps lookupConstraint
-  constraint-degree j =
-      let l : List Pair = getD (c .lookups) j [] in
-      ap₂ (λ (i t : ℕ). max (max (1 + max i 0 + max t 0) (max t 0)) (1 + max i 0))
-      (powers-degree (inputsOf l) (numChallenges c))
-      (powers-degree (tablesOf l) (numChallenges c))
-      ∙ constraint-of (degreeOf (inputsOf l)) (degreeOf (tablesOf l))
+  pub constraint-degree : (j : ℕ) → degree (lookupConstraint c j) ≡ groupDegree (getD (groupsOf c) j [])
+  unfolding lookupConstraint
+  constraint-degree j = group-degree (numChallenges c) (mNumber c j) (hNumber c j) (getD (groupsOf c) j [])
 
-  lookup-degrees : map degree (lookupConstraints c) ≡ map lookupDegree (c .lookups)
+  lookup-degrees : map degree (lookupConstraints c) ≡ map groupDegree (groupsOf c)
   unfolding lookupConstraints
   lookup-degrees =
-      map-tabulate degree (lookupConstraint c) (length (c .lookups))
-      ∙ tabulate-cong (λ j. degree (lookupConstraint c j)) (λ j. lookupDegree (getD (c .lookups) j [])) (length (c .lookups))
+      map-tabulate degree (lookupConstraint c) (numGroups c)
+      ∙ tabulate-cong (λ j. degree (lookupConstraint c j)) (λ j. groupDegree (getD (groupsOf c) j [])) (numGroups c)
       (λ j l. constraint-degree j)
-      ∙ sym (map-tabulate lookupDegree (λ j. getD (c .lookups) j []) (length (c .lookups)))
-      ∙ ap (map lookupDegree) (tabulate-of (c .lookups) [])
+      ∙ ap (tabulate (λ j. groupDegree (getD (groupsOf c) j []))) (sym (groups-length c))
+      ∙ sym (map-tabulate groupDegree (λ j. getD (groupsOf c) j []) (length (groupsOf c)))
+      ∙ ap (map groupDegree) (tabulate-of (groupsOf c) [])
 
-  pub ten-is : q10 c ≡ degreesFit (c .stated) (c .constraints) (c .lookups)
+  pub ten-is : q10 c ≡ degreesFit (c .stated) (c .constraints) (groupsOf c)
   unfolding q10 degreesFit
   ten-is =
       ap (λ (t : Bool). t && allOf (λ e. atMost (c .stated) (degree e)) (c .constraints))
       (all-append (λ e. leb (degree e) 1024) (c .constraints) (lookupConstraints c)
       ∙ ap (λ (t : Bool). allOf (λ e. leb (degree e) 1024) (c .constraints) && t)
-      (sym (all-map (λ n. leb n 1024) degree (lookupConstraints c)) ∙ ap (allOf (λ n. leb n 1024)) lookup-degrees ∙ all-map (λ n. leb n 1024) lookupDegree (c .lookups)))
+      (sym (all-map (λ n. leb n 1024) degree (lookupConstraints c)) ∙ ap (allOf (λ n. leb n 1024)) lookup-degrees ∙ all-map (λ n. leb n 1024) (λ g. groupDegree g) (groupsOf c)))
 
-  pub d-is : maxDegree c ≡ largestDegree (c .stated) (c .constraints) (c .lookups)
+  pub d-is : maxDegree c ≡ largestDegree (c .stated) (c .constraints) (groupsOf c)
   unfolding maxDegree largestDegree
   d-is =
       ap (λ (ns : List ℕ). maximum (leastD (c .stated) ∷ ns))
@@ -101,25 +169,25 @@ all-largest d (n ∷ ns) = ap (λ (t : Bool). leb n d && t) (all-largest d ns) �
 pub all-most : {A : Type 0} (f : A → ℕ) (d : ℕ) (xs : List A) → allOf (λ x. leb (f x) d) xs ≡ leb (maximum (map f xs)) d
 all-most f d xs = sym (all-map (λ n. leb n d) f xs) ∙ all-largest d (map f xs)
 
-module _ (stated : ℕ) (constraints : List Expr) (lookups : List (List Pair)) where
+module _ (stated : ℕ) (constraints : List Expr) (groups : List (List (List Pair))) where
   abbrev pub users : ℕ
   users = degreeOf constraints
 
   abbrev pub looks : ℕ
-  looks = maximum (map lookupDegree lookups)
+  looks = maximum (map (λ g. groupDegree g) groups)
 
-  pub users-high : (u : ℕ) → u ≡ min 1025 users → 1024 < u → false ≡ degreesFit (statedOf stated) constraints lookups
+  pub users-high : (u : ℕ) → u ≡ min 1025 users → 1024 < u → false ≡ degreesFit (statedOf stated) constraints groups
   unfolding degreesFit
   users-high u e l =
-      ap (λ (t : Bool). t && allOf (λ l. leb (lookupDegree l) 1024) lookups && allOf (λ x. atMost (statedOf stated) (degree x)) constraints)
+      ap (λ (t : Bool). t && allOf (λ g. leb (groupDegree g) 1024) groups && allOf (λ x. atMost (statedOf stated) (degree x)) constraints)
       (sym (all-most degree 1024 constraints ∙ lt-leb users 1024 (omega arith)))
 
-  pub looks-high : (k : ℕ) → k ≡ min 1025 looks → 1024 < k → false ≡ degreesFit (statedOf stated) constraints lookups
+  pub looks-high : (k : ℕ) → k ≡ min 1025 looks → 1024 < k → false ≡ degreesFit (statedOf stated) constraints groups
   unfolding degreesFit
   looks-high k e l =
       sym
       (ap (λ (t : Bool). allOf (λ x. leb (degree x) 1024) constraints && t && allOf (λ x. atMost (statedOf stated) (degree x)) constraints)
-      (all-most lookupDegree 1024 lookups ∙ lt-leb looks 1024 (omega arith))
+      (all-most (λ g. groupDegree g) 1024 groups ∙ lt-leb looks 1024 (omega arith))
       ∙ ap (λ (t : Bool). t && allOf (λ x. atMost (statedOf stated) (degree x)) constraints) (and-false (allOf (λ x. leb (degree x) 1024) constraints)))
 
   within-stated : (w : ℕ) → allOf (λ x. atMost (statedOf w) (degree x)) constraints ≡ (eqb w 0 || ltb users w)
@@ -135,16 +203,16 @@ module _ (stated : ℕ) (constraints : List Expr) (lookups : List (List Pair)) w
       leb-suc m n = ap₂ _||_ (eqb·suc-zero n) (leb·suc-suc m n)
 
   pub users-low : (u k : ℕ) → u ≡ min 1025 users → k ≡ min 1025 looks → u ≤ 1024 → k ≤ 1024
-      → (eqb stated 0 || ltb u stated) ≡ degreesFit (statedOf stated) constraints lookups
+      → (eqb stated 0 || ltb u stated) ≡ degreesFit (statedOf stated) constraints groups
   unfolding degreesFit
   users-low u k e f l m =
       let g : u ≡ users = omega arith in
       ap (λ (n : ℕ). eqb stated 0 || ltb n stated) g ∙ sym (within-stated stated)
       ∙ ap (λ (t : Bool). t && allOf (λ x. atMost (statedOf stated) (degree x)) constraints)
       (sym
-      (and-both (allOf (λ x. leb (degree x) 1024) constraints) (allOf (λ l. leb (lookupDegree l) 1024) lookups)
+      (and-both (allOf (λ x. leb (degree x) 1024) constraints) (allOf (λ g. leb (groupDegree g) 1024) groups)
       (all-most degree 1024 constraints ∙ le-leb users 1024 (omega arith))
-      (all-most lookupDegree 1024 lookups ∙ le-leb looks 1024 (omega arith))))
+      (all-most (λ g. groupDegree g) 1024 groups ∙ le-leb looks 1024 (omega arith))))
 
 cap-max : (a b : ℕ) → max (min 1025 a) (min 1025 b) ≡ min 1025 (max a b)
 cap-max a b = omega arith
@@ -205,8 +273,8 @@ module _ (nodes : List ℕ) where
       (sym (map-tabulate (λ r. degree (exprOf nodes r)) (λ i. getD roots i 0) (length roots)) ∙ ap (map (λ r. degree (exprOf nodes r))) (tabulate-of roots 0)
       ∙ sym (map-map degree (exprOf nodes) roots))
 
-  -- ---- lookups
-  module _ (body : List ℕ) where
+  -- ---- groups of lookups
+  module _ (widths body : List ℕ) where
     inputs-degree : (start n : ℕ) → degreeOf (inputsOf (lookupFrom nodes body start n)) ≡ sideDegree nodes body start 0 n
     inputs-degree start n =
         ap (λ (es : List Expr). maximum (map degree es)) (map-tabulate (λ (p : Pair). p .input) (λ i. pairAt nodes body (start + i)) n)
@@ -220,96 +288,146 @@ module _ (nodes : List ℕ) where
         ap (λ (es : List Expr). maximum (map degree es)) (map-tabulate (λ (p : Pair). p .table) (λ i. pairAt nodes body (start + i)) n)
         ∙ ap maximum (map-tabulate degree (λ i. exprOf nodes (word body ((start + i) * 2 + 1))) n)
 
-    module _ (start n i t : ℕ) (p : i ≡ min 1025 (sideDegree nodes body start 0 n)) (q : t ≡ min 1025 (sideDegree nodes body start 1 n)) where
-      both-sides : min 1025 (1 + i + t) ≡ min 1025 (lookupDegree (lookupFrom nodes body start n))
-      both-sides = ap₂ (λ (a b : ℕ). min 1025 (1 + a + b)) (p ∙ ap (min 1025) (sym (inputs-degree start n))) (q ∙ ap (min 1025) (sym (tables-degree start n)))
-          ∙ cap (degreeOf (inputsOf (lookupFrom nodes body start n))) (degreeOf (tablesOf (lookupFrom nodes body start n)))
-        where
-          cap : (a b : ℕ) → min 1025 (1 + min 1025 a + min 1025 b) ≡ min 1025 (1 + a + b)
-          cap a b = omega arith
+    -- the degree of lookup i's inputs
+    abbrev pub inputDegree : ℕ → ℕ
+    inputDegree i = degreeOf (inputsOf (lookupNumbered nodes widths body i))
 
-      pub sides-low : 1 + i + t < 1025 → 1 + i + t ≡ min 1025 (lookupDegree (lookupFrom nodes body start n))
-      sides-low l = let e : 1 + i + t ≡ min 1025 (1 + i + t) = omega arith in e ∙ both-sides
+    -- the sum over the first i of a group's n lookups, whose next pair is `start`; 1025 or more where it is more
+    pub record Added (first n sum start i : ℕ) : Type 0 where
+      pub upto : i ≤ n
+      pub low : sum ≤ i * 1025
+      pub next : start ≡ total (take (first + i) widths)
+      pub so-far : min 1025 sum ≡ min 1025 (total (tabulate (λ i. inputDegree (first + i)) i))
 
-      pub sides-high : 1025 ≤ 1 + i + t → 1025 ≡ min 1025 (lookupDegree (lookupFrom nodes body start n))
-      sides-high l = let e : _≡_ {A = ℕ} 1025 (min 1025 (1 + i + t)) = omega arith in e ∙ both-sides
+    module _ (first n : ℕ) where
+      pub added-none : (start : ℕ) → start ≡ total (take first widths) → Added first n 0 start 0
+      unfolding tabulate total
+      added-none start e =
+          record { upto = omega arith; low = omega arith; next = e ∙ ap (λ (i : ℕ). total (take i widths)) (sym (add-zero first)); so-far = refl }
 
-    module _ (widths : List ℕ) where
-      -- the search before lookup i, whose pairs are those from `start` on
-      pub record Looked (d start i : ℕ) : Type 0 where
-        pub upto : i ≤ length widths
-        pub left : start + total (drop i widths) ≡ length body / 2
-        pub same : min 1025 (lookupsDegree (split widths (pairsOf nodes body)))
-            ≡ max d (min 1025 (lookupsDegree (split (drop i widths) (drop start (pairsOf nodes body)))))
+      pub added-room : total widths ≡ length body / 2 → first + n ≤ length widths → (sum start i : ℕ) → Added first n sum start i → i < n
+          → start + getD widths (first + i) 0 ≤ length body / 2
+      added-room e r sum start i v l = let q = total-within widths (first + i) in let s = v .next in omega arith
 
-      pub looked-none : total widths ≡ length body / 2 → Looked 0 0 0
-      looked-none e = record { upto = omega arith; left = omega arith; same = sym (zero-max (min 1025 (lookupsDegree (split widths (pairsOf nodes body))))) }
+      pub added-more : first + n ≤ length widths → (sum start i d : ℕ) → Added first n sum start i → i < n
+          → d ≡ min 1025 (sideDegree nodes body start 0 (getD widths (first + i) 0))
+          → Added first n (sum + d) (start + getD widths (first + i) 0) (i + 1)
+      added-more r sum start i d v l e =
+          record {
+            upto = omega arith;
+            low = (let q = v .low in omega arith);
+            next =
+                ap (λ (s : ℕ). s + getD widths (first + i) 0) (v .next) ∙ sym (total-next-of widths (first + i) (omega arith))
+                ∙ ap (λ (i : ℕ). total (take i widths)) (let q : suc (first + i) ≡ first + (i + 1) = omega arith in q);
+            so-far =
+                (let p : d ≡ min 1025 (inputDegree (first + i)) =
+                e ∙ ap (λ (s : ℕ). min 1025 (sideDegree nodes body s 0 (getD widths (first + i) 0))) (v .next)
+                ∙ ap (min 1025) (sym (inputs-degree (total (take (first + i) widths)) (getD widths (first + i) 0))) in
+                let q = v .so-far in
+                let s = total-next (λ i. inputDegree (first + i)) i in
+                omega arith);
+          }
 
-      module _ (d start i : ℕ) (v : Looked d start i) (l : i < length widths) where
-        pub looked-room : start + getD widths i 0 ≤ length body / 2
-        looked-room = let q = total-drop widths i l in let r = v .left in omega arith
+      abbrev tableDegree : ℕ
+      tableDegree = sideDegree nodes body (total (take first widths)) 1 (getD widths first 0)
 
-        pub looked-more : (e m : ℕ) → e ≡ min 1025 (lookupDegree (lookupFrom nodes body start (getD widths i 0))) → m ≡ max d e
-            → Looked m (start + getD widths i 0) (i + 1)
-        unfolding maximum
-        looked-more e m p q =
-            record {
-              upto = omega arith;
-              left = (let s = total-drop widths i l in let r = v .left in omega arith);
-              same =
-                  v .same
-                  ∙ ap (λ (ls : List (List Pair)). max d (min 1025 (lookupsDegree ls))) (split-drop widths (pairsOf nodes body) start i l)
-                  ∙ ap
-                  (λ (ps : List Pair).
-                  max d
-                  (min 1025
-                  (max (lookupDegree ps) (lookupsDegree (split (drop (i + 1) widths) (drop (start + getD widths i 0) (pairsOf nodes body)))))))
-                  (tabulate-part (pairAt nodes body) (length body / 2) start (getD widths i 0) looked-room)
-                  ∙ cap-more d (lookupDegree (lookupFrom nodes body start (getD widths i 0)))
-                  (lookupsDegree (split (drop (i + 1) widths) (drop (start + getD widths i 0) (pairsOf nodes body))))
-                  ∙ ap
-                  (λ (x : ℕ). max x (min 1025 (lookupsDegree (split (drop (i + 1) widths) (drop (start + getD widths i 0) (pairsOf nodes body))))))
-                  (sym (q ∙ ap (max d) p));
-            }
+      first-lookup : 0 < n → degreeOf (tablesOf (getD (groupFrom nodes widths body first n) 0 [])) ≡ tableDegree
+      first-lookup h =
+          ap (λ (l : List Pair). degreeOf (tablesOf l))
+          (get-tabulate (λ i. lookupNumbered nodes widths body (first + i)) n 0 [] h
+          ∙ ap (lookupNumbered nodes widths body) (add-zero first))
+          ∙ tables-degree (total (take first widths)) (getD widths first 0)
 
-      pub looked-all : (d start i : ℕ) → Looked d start i → length widths ≤ i → d ≡ min 1025 (lookupsDegree (split widths (pairsOf nodes body)))
-      unfolding split maximum
-      looked-all d start i v l =
-          sym
-          (v .same
-          ∙ ap (λ (ns : List ℕ). max d (min 1025 (lookupsDegree (split ns (drop start (pairsOf nodes body)))))) (drop-of-length-le widths {i = i} l)
-          ∙ max-zero d)
+      all-inputs : total (map (λ l. degreeOf (inputsOf l)) (groupFrom nodes widths body first n)) ≡ total (tabulate (λ i. inputDegree (first + i)) n)
+      all-inputs = ap total (map-tabulate (λ (l : List Pair). degreeOf (inputsOf l)) (λ i. lookupNumbered nodes widths body (first + i)) n)
+
+      module _ (some : 0 < n) (sum start i t start₀ : ℕ) (v : Added first n sum start i) (done : n ≤ i) (at₀ : start₀ ≡ total (take first widths))
+          (q : t ≡ min 1025 (sideDegree nodes body start₀ 1 (getD widths first 0))) where
+        both-sides : min 1025 (1 + sum + t) ≡ min 1025 (groupDegree (groupFrom nodes widths body first n))
+        both-sides =
+            let u = v .upto in
+            let e : i ≡ n = omega arith in
+            let s : min 1025 sum ≡ min 1025 (total (map (λ l. degreeOf (inputsOf l)) (groupFrom nodes widths body first n))) =
+            v .so-far ∙ ap (λ (j : ℕ). min 1025 (total (tabulate (λ i. inputDegree (first + i)) j))) e ∙ ap (min 1025) (sym all-inputs) in
+            let p : t ≡ min 1025 (degreeOf (tablesOf (getD (groupFrom nodes widths body first n) 0 []))) =
+            q ∙ ap (λ (s : ℕ). min 1025 (sideDegree nodes body s 1 (getD widths first 0))) at₀ ∙ ap (min 1025) (sym (first-lookup some)) in
+            omega arith
+
+        pub sides-low : 1 + sum + t < 1025 → 1 + sum + t ≡ min 1025 (groupDegree (groupFrom nodes widths body first n))
+        sides-low l = let e : 1 + sum + t ≡ min 1025 (1 + sum + t) = omega arith in e ∙ both-sides
+
+        pub sides-high : 1025 ≤ 1 + sum + t → 1025 ≡ min 1025 (groupDegree (groupFrom nodes widths body first n))
+        sides-high l = let e : _≡_ {A = ℕ} 1025 (min 1025 (1 + sum + t)) = omega arith in e ∙ both-sides
+
+    -- ---- all groups
+    -- lookup i of the body, by the widths
+    pub lookup-numbered : total widths ≡ length body / 2 → (i : ℕ) → i < length widths
+        → getD (split widths (pairsOf nodes body)) i [] ≡ lookupNumbered nodes widths body i
+    lookup-numbered e i l =
+        get-split widths (pairsOf nodes body) i l
+        ∙ tabulate-part (pairAt nodes body) (length body / 2) (total (take i widths)) (getD widths i 0) (let q = total-within widths i in omega arith)
+
+    module _ (sizes : List ℕ) (pairs-all : total widths ≡ length body / 2) (lookups-all : total sizes ≡ length widths) where
+      abbrev groups : List (List (List Pair))
+      groups = split sizes (split widths (pairsOf nodes body))
+
+      -- group j, by the sizes
+      pub group-numbered : (j : ℕ) → j < length sizes → getD groups j [] ≡ groupFrom nodes widths body (total (take j sizes)) (getD sizes j 0)
+      group-numbered j l =
+          let ls : List (List Pair) = split widths (pairsOf nodes body) in
+          let first : ℕ = total (take j sizes) in
+          let n : ℕ = getD sizes j 0 in
+          let len : length ls ≡ length widths = split-length widths (pairsOf nodes body) in
+          let fits : first + n ≤ length widths = let q = total-within sizes j in omega arith in
+          get-split sizes ls j l
+          ∙ ap (λ (xs : List (List Pair)). take n (drop first xs)) (sym (tabulate-of ls []))
+          ∙ tabulate-part (λ i. getD ls i []) (length ls) first n (omega arith)
+          ∙ tabulate-cong (λ i. getD ls (first + i) []) (λ i. lookupNumbered nodes widths body (first + i)) n
+          (λ i h. lookup-numbered pairs-all (first + i) (omega arith))
+
+      -- the degree of group j
+      abbrev pub degreeNumbered : ℕ → ℕ
+      degreeNumbered j = groupDegree (groupFrom nodes widths body (total (take j sizes)) (getD sizes j 0))
+
+      pub groups-degree : maximum (tabulate degreeNumbered (length sizes)) ≡ groupsDegree groups
+      groups-degree =
+          let len : length groups ≡ length sizes = split-length sizes (split widths (pairsOf nodes body)) in
+          ap maximum
+          (tabulate-cong degreeNumbered (λ j. groupDegree (getD groups j [])) (length sizes) (λ j l. ap (λ g. groupDegree g) (sym (group-numbered j l)))
+          ∙ ap (tabulate (λ j. groupDegree (getD groups j []))) (sym len)
+          ∙ sym (map-tabulate (λ g. groupDegree g) (λ j. getD groups j []) (length groups))
+          ∙ ap (map (λ g. groupDegree g)) (tabulate-of groups []))
 
 -- ---- D, where question 10 is answered yes
-module _ (stated : ℕ) (constraints : List Expr) (lookups : List (List Pair)) (h : degreesFit (statedOf stated) constraints lookups ≡ true) where
+module _ (stated : ℕ) (constraints : List Expr) (groups : List (List (List Pair))) (h : degreesFit (statedOf stated) constraints groups ≡ true) where
   fit-users : maximum (map degree constraints) ≤ 1024
   unfolding degreesFit
   fit-users =
       leb-true (maximum (map degree constraints)) 1024
       (sym (all-most degree 1024 constraints)
-      ∙ and-left (allOf (λ e. leb (degree e) 1024) constraints) (allOf (λ l. leb (lookupDegree l) 1024) lookups)
-      (and-left (allOf (λ e. leb (degree e) 1024) constraints && allOf (λ l. leb (lookupDegree l) 1024) lookups)
+      ∙ and-left (allOf (λ e. leb (degree e) 1024) constraints) (allOf (λ g. leb (groupDegree g) 1024) groups)
+      (and-left (allOf (λ e. leb (degree e) 1024) constraints && allOf (λ g. leb (groupDegree g) 1024) groups)
       (allOf (λ e. atMost (statedOf stated) (degree e)) constraints)
       h))
 
-  fit-looks : lookupsDegree lookups ≤ 1024
+  fit-looks : groupsDegree groups ≤ 1024
   unfolding degreesFit
   fit-looks =
-      leb-true (lookupsDegree lookups) 1024
-      (sym (all-most lookupDegree 1024 lookups)
-      ∙ and-right (allOf (λ e. leb (degree e) 1024) constraints) (allOf (λ l. leb (lookupDegree l) 1024) lookups)
-      (and-left (allOf (λ e. leb (degree e) 1024) constraints && allOf (λ l. leb (lookupDegree l) 1024) lookups)
+      leb-true (groupsDegree groups) 1024
+      (sym (all-most (λ g. groupDegree g) 1024 groups)
+      ∙ and-right (allOf (λ e. leb (degree e) 1024) constraints) (allOf (λ g. leb (groupDegree g) 1024) groups)
+      (and-left (allOf (λ e. leb (degree e) 1024) constraints && allOf (λ g. leb (groupDegree g) 1024) groups)
       (allOf (λ e. atMost (statedOf stated) (degree e)) constraints)
       h))
 
-  pub d-of : (least u k m r : ℕ) → least ≡ leastD (statedOf stated) → u ≡ min 1025 (degreeOf constraints) → k ≡ min 1025 (lookupsDegree lookups)
+  pub d-of : (least u k m r : ℕ) → least ≡ leastD (statedOf stated) → u ≡ min 1025 (degreeOf constraints) → k ≡ min 1025 (groupsDegree groups)
       → m ≡ max u k
       → r ≡ max least m
-      → r ≡ largestDegree (statedOf stated) constraints lookups
+      → r ≡ largestDegree (statedOf stated) constraints groups
   unfolding largestDegree maximum
   d-of least u k m r p q s t w =
-      w ∙ ap₂ max p (t ∙ ap₂ max (q ∙ exact (degreeOf constraints) fit-users) (s ∙ exact (lookupsDegree lookups) fit-looks))
-      ∙ ap (max (leastD (statedOf stated))) (sym (maximum-append (map degree constraints) (map lookupDegree lookups)))
+      w ∙ ap₂ max p (t ∙ ap₂ max (q ∙ exact (degreeOf constraints) fit-users) (s ∙ exact (groupsDegree groups) fit-looks))
+      ∙ ap (max (leastD (statedOf stated))) (sym (maximum-append (map degree constraints) (map (λ g. groupDegree g) groups)))
     where
       exact : (n : ℕ) → n ≤ 1024 → min 1025 n ≡ n
       exact n l = omega arith
