@@ -8,7 +8,7 @@ use lib.Dec.{eqb}
 use Rattle.lists.specs.Lists.{tabulate, ceilDiv, split, total, writeWindow, All}
 use Rattle.expression.specs.Expr.{Expr, Exprs, exprsOf}
 use Rattle.expression.specs.Nodes.{exprOf}
-use Rattle.backend.specs.Circuit.{Circuit, Pair, pairsOf, maxPolys, copied}
+use Rattle.backend.specs.Circuit.{Circuit, Pair, pairsOf, maxPolys, copied, groupsOf}
 use Rattle.backend.specs.Constraints.{sideOf}
 use Rattle.preprocessor.specs.Compose.{paramsOf, constraintTrees, composedWords, composedNodes}
 use Rattle.preprocessor.specs.declared.CircuitParams.{CircuitParams}
@@ -16,6 +16,10 @@ use Rattle.preprocessor.specs.declared.CircuitParams.{CircuitParams}
 -- "lookup pairs (input root, table root)", parted by the widths
 unfoldable pub lookupsOf : List ℕ → List ℕ → List ℕ → List (List Pair)
 lookupsOf nodes widths pairs = split widths (pairsOf nodes pairs)
+
+-- those, in groups of these sizes
+unfoldable pub groupsFromWords : List ℕ → List ℕ → List ℕ → List ℕ → List (List (List Pair))
+groupsFromWords nodes sizes widths pairs = split sizes (lookupsOf nodes widths pairs)
 
 -- the expressions whose roots are every second word, w of them from s on
 unfoldable pub sideExprs : List ℕ → List ℕ → ℕ → ℕ → List Expr
@@ -26,9 +30,9 @@ unfoldable pub sideTree : List ℕ → List ℕ → ℕ → ℕ → ℕ → Expr
 sideTree nodes pairs user s w = sideOf user (sideExprs nodes pairs s w)
 
 -- the constraints of the words that the code is handed
-abbrev pub constraintsFromWords : CircuitParams → List ℕ → List ℕ → List ℕ → List ℕ → List ℕ → List Expr
-constraintsFromWords params names nodes roots widths pairs =
-    constraintTrees params names (map (exprOf nodes) roots) (lookupsOf nodes widths pairs)
+abbrev pub constraintsFromWords : CircuitParams → List ℕ → List ℕ → List ℕ → List ℕ → List ℕ → List ℕ → List Expr
+constraintsFromWords params names nodes roots sizes widths pairs =
+    constraintTrees params names (map (exprOf nodes) roots) (groupsFromWords nodes sizes widths pairs)
 
 -- the expressions of a list from number i on
 unfoldable pub exprsFrom : List Expr → ℕ → Exprs
@@ -43,38 +47,42 @@ pub record Limits (params : CircuitParams) : Type 0 where
   pub few-polys : params .«num_poly» ≤ maxPolys
   pub few-copied : params .«num_permutation_polys» ≤ maxPolys
   pub few-lookups : params .«num_lookups» ≤ 8
+  pub few-groups : params .«num_groups» ≤ params .«num_lookups»
   pub few-user : params .«num_challenges» ≤ 16
   pub few-rows : params .rows ≤ 1048576
   pub some-part : 0 < params .«chunk_size»
   pub parts-are : params .«num_chunks» ≡ ceilDiv (params .«num_permutation_polys») (params .«chunk_size»)
 
--- the words that go with them: every root is a node
-pub record Words (params : CircuitParams) (nodes roots widths pairs : List ℕ) : Type 0 where
+-- the words that go with them: every root is a node, and every lookup has a group
+pub record Words (params : CircuitParams) (nodes roots sizes widths pairs : List ℕ) : Type 0 where
   pub limits : Limits params
+  pub all-groups : params .«num_groups» ≡ length sizes
+  pub some-members : All (λ n. 0 < n) sizes
+  pub all-members : total sizes ≡ length widths
   pub all-lookups : params .«num_lookups» ≡ length widths
   pub all-pairs : total widths * 2 ≤ length pairs
   pub constraints-named : All (IsNode nodes) roots
   pub pairs-named : All (IsNode nodes) pairs
 
 -- and the copied columns
-pub record ComposeInput (params : CircuitParams) (names nodes roots widths pairs : List ℕ) : Type 0 where
-  pub words : Words params nodes roots widths pairs
+pub record ComposeInput (params : CircuitParams) (names nodes roots sizes widths pairs : List ℕ) : Type 0 where
+  pub words : Words params nodes roots sizes widths pairs
   pub all-copied : params .«num_permutation_polys» ≤ length names
 
 -- how many constraints there are, with as many of the user's own
 unfoldable pub numConstraints : ℕ → CircuitParams → ℕ
-numConstraints own params = own + params .«num_lookups» + cond (eqb (params .«num_permutation_polys») 0) 0 (suc (params .«num_chunks»))
+numConstraints own params = own + params .«num_groups» + cond (eqb (params .«num_permutation_polys») 0) 0 (suc (params .«num_chunks»))
 
 -- the nodes of the permutation's constraints
 unfoldable pub permutationNodes : CircuitParams → ℕ
 permutationNodes params = cond (eqb (params .«num_permutation_polys») 0) 0 (6 + params .«num_permutation_polys» * 18 + params .«num_chunks» * 4)
 
 -- the numbers and the words are those of a circuit
-pub record DecodedFrom (c : Circuit) (params : CircuitParams) (names nodes roots widths pairs : List ℕ) : Type 0 where
+pub record DecodedFrom (c : Circuit) (params : CircuitParams) (names nodes roots sizes widths pairs : List ℕ) : Type 0 where
   pub params-are : params ≡ paramsOf c
   pub copied-are : names ≡ copied c
   pub constraints-are : map (exprOf nodes) roots ≡ c .constraints
-  pub lookups-are : lookupsOf nodes widths pairs ≡ c .lookups
+  pub groups-are : groupsFromWords nodes sizes widths pairs ≡ groupsOf c
 
 -- the composed nodes of a circuit stand from node 0 on, as far as they fall into the buffer, which stands for the words from `from` on
 pub record Composed (from : ℕ) (c : Circuit) (before after : List ℕ) (next : ℕ) : Type 0 where
