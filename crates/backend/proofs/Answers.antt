@@ -12,7 +12,7 @@ use Rattle.lists.proofs.First.{first-none, first-next, first-number, first-yes,
 use Rattle.expression.specs.Nodes.{exprOf}
 use Rattle.backend.specs.Circuit.{Section, wordK, entries, bodyOf, pairsOf, cellAt, cellsOf, statedOf, circuitOf, numPoly, numChallenges, groupSizes, groupsOf}
 use Rattle.backend.specs.Layout.{laidOut, nodesInRange}
-use Rattle.backend.specs.Questions.{q1, q2, q3, q4, q3-bodies, q4-bodies, q5, q6, q7, q8, q9, q10, cyclesGood, q11, layoutQuestions, bodyQuestions, circuitQuestions}
+use Rattle.backend.specs.Questions.{q1, q2, q3, q4, q3-bodies, q4-bodies, q5, q6, q7, q8, q9, q18, q10, cyclesGood, q11, layoutQuestions, bodyQuestions, circuitQuestions}
 use Rattle.backend.specs.Degrees.{degreeOf, groupsDegree, degreesFit}
 use Rattle.backend.specs.Laid.{ContentsValid, BodiesValid}
 use Rattle.backend.proofs.Sections.{body-length, laid}
@@ -153,16 +153,22 @@ module _ (ws : List ℕ) where
           no-9 h = sym (to-8 ∙ first-next _ _ ws d ∙ first-number _ _ ws h)
 
           module _ (e : q9 (circuitOf ws) ≡ true) where
-            pub no-10 : q10 (circuitOf ws) ≡ false → 10 ≡ firstNo bodyQuestions ws
-            no-10 h = sym (to-8 ∙ first-next _ _ ws d ∙ first-next _ _ ws e ∙ first-number _ _ ws h)
+            to-18 : firstNo bodyQuestions ws ≡ firstNo (drop 5 bodyQuestions) ws
+            to-18 = to-8 ∙ first-next _ _ ws d ∙ first-next _ _ ws e
 
-            module _ (f : q10 (circuitOf ws) ≡ true) where
-              pub no-11 : q11 (circuitOf ws) ≡ false → 11 ≡ firstNo bodyQuestions ws
-              no-11 h = sym (to-8 ∙ first-next _ _ ws d ∙ first-next _ _ ws e ∙ first-next _ _ ws f ∙ first-number _ _ ws h)
+            pub no-18 : q18 (circuitOf ws) ≡ false → 18 ≡ firstNo bodyQuestions ws
+            no-18 h = sym (to-18 ∙ first-number _ _ ws h)
 
-              pub no-more : q11 (circuitOf ws) ≡ true → 0 ≡ firstNo bodyQuestions ws
-              no-more h =
-                  sym (to-8 ∙ first-next _ _ ws d ∙ first-next _ _ ws e ∙ first-next _ _ ws f ∙ first-next _ _ ws h ∙ first-none ws)
+            module _ (g : q18 (circuitOf ws) ≡ true) where
+              pub no-10 : q10 (circuitOf ws) ≡ false → 10 ≡ firstNo bodyQuestions ws
+              no-10 h = sym (to-18 ∙ first-next _ _ ws g ∙ first-number _ _ ws h)
+
+              module _ (f : q10 (circuitOf ws) ≡ true) where
+                pub no-11 : q11 (circuitOf ws) ≡ false → 11 ≡ firstNo bodyQuestions ws
+                no-11 h = sym (to-18 ∙ first-next _ _ ws g ∙ first-next _ _ ws f ∙ first-number _ _ ws h)
+
+                pub no-more : q11 (circuitOf ws) ≡ true → 0 ≡ firstNo bodyQuestions ws
+                no-more h = sym (to-18 ∙ first-next _ _ ws g ∙ first-next _ _ ws f ∙ first-next _ _ ws h ∙ first-none ws)
 
 -- ---- all
 

@@ -5,3 +5,4 @@ pub mod Passed
 pub mod Cells
 pub mod Degree
 pub mod Forest
+pub mod Groups

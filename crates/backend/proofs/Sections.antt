@@ -58,7 +58,8 @@ single k (suc (suc (suc (suc (suc zero))))) a b c d e = refl
 single k (suc (suc (suc (suc (suc (suc zero)))))) a b c d e = absurd (d refl)
 single k (suc (suc (suc (suc (suc (suc (suc zero))))))) a b c d e = refl
 single k (suc (suc (suc (suc (suc (suc (suc (suc zero)))))))) a b c d e = absurd (e refl)
-single k (suc (suc (suc (suc (suc (suc (suc (suc (suc s))))))))) a b c d e = refl
+single k (suc (suc (suc (suc (suc (suc (suc (suc (suc zero))))))))) a b c d e = refl
+single k (suc (suc (suc (suc (suc (suc (suc (suc (suc (suc s)))))))))) a b c d e = refl
 
 -- an entry has a word or more, and at most 64 bits count them, or the 64 are 0
 pub entry-pos : (k s : ℕ) → 0 < entry k (sectionAt s)
@@ -71,7 +72,8 @@ entry-pos k (suc (suc (suc (suc (suc zero))))) = omega arith
 entry-pos k (suc (suc (suc (suc (suc (suc zero)))))) = omega arith
 entry-pos k (suc (suc (suc (suc (suc (suc (suc zero))))))) = omega arith
 entry-pos k (suc (suc (suc (suc (suc (suc (suc (suc zero)))))))) = omega arith
-entry-pos k (suc (suc (suc (suc (suc (suc (suc (suc (suc s))))))))) = omega arith
+entry-pos k (suc (suc (suc (suc (suc (suc (suc (suc (suc zero))))))))) = omega arith
+entry-pos k (suc (suc (suc (suc (suc (suc (suc (suc (suc (suc s)))))))))) = omega arith
 
 pub entry-bits : (k s : ℕ) → (entry k (sectionAt s) < 2 ^ 64) ⊎ (2 ^ 64 ≤ entry k (sectionAt s)) × (entry k (sectionAt s) % 2 ^ 64 ≡ 0)
 entry-bits k zero = inl (omega arith)
@@ -87,7 +89,8 @@ entry-bits k (suc (suc (suc (suc (suc zero))))) = inl (omega arith)
 entry-bits k (suc (suc (suc (suc (suc (suc zero)))))) = inl (omega arith)
 entry-bits k (suc (suc (suc (suc (suc (suc (suc zero))))))) = inl (omega arith)
 entry-bits k (suc (suc (suc (suc (suc (suc (suc (suc zero)))))))) = inl (omega arith)
-entry-bits k (suc (suc (suc (suc (suc (suc (suc (suc (suc s))))))))) = inl (omega arith)
+entry-bits k (suc (suc (suc (suc (suc (suc (suc (suc (suc zero))))))))) = inl (omega arith)
+entry-bits k (suc (suc (suc (suc (suc (suc (suc (suc (suc (suc s)))))))))) = inl (omega arith)
 
 -- ---- the words of a section, capped
 
@@ -124,17 +127,16 @@ module _ (e size count room : ℕ) (some : 0 < e) (bits : (e < 2 ^ 64) ⊎ (2 ^ 
 -- ---- 4
 
 pub record Following (ws : List ℕ) (at s : ℕ) : Type 0 where
-  pub few : s ≤ 9
+  pub few : s ≤ 10
   pub late : contents ≤ at
   pub inside : at ≤ length ws
-  pub rest : q4 ws ≡ follow ws at (drop s sections)
+  pub rest : follow ws contents sections ≡ follow ws at (drop s sections)
 
 pub following-none : (ws : List ℕ) → contents ≤ length ws → Following ws contents 0
-unfolding q4
 following-none ws h = record { few = omega arith; late = omega arith; inside = h; rest = refl }
 
 -- a section at a time
-follow-one : (ws : List ℕ) (at s : ℕ) → s < 9
+follow-one : (ws : List ℕ) (at s : ℕ) → s < 10
     → follow ws at (drop s sections)
     ≡ (eqb (getD ws (2 + s * 2) 0) at && follow ws (at + getD ws (3 + s * 2) 0 * entry (wordK ws) (sectionAt s)) (drop (s + 1) sections))
 unfolding follow
@@ -147,7 +149,8 @@ follow-one ws at (suc (suc (suc (suc (suc zero))))) h = refl
 follow-one ws at (suc (suc (suc (suc (suc (suc zero)))))) h = refl
 follow-one ws at (suc (suc (suc (suc (suc (suc (suc zero))))))) h = refl
 follow-one ws at (suc (suc (suc (suc (suc (suc (suc (suc zero)))))))) h = refl
-follow-one ws at (suc (suc (suc (suc (suc (suc (suc (suc (suc s))))))))) h = absurd (omega arith)
+follow-one ws at (suc (suc (suc (suc (suc (suc (suc (suc (suc zero))))))))) h = refl
+follow-one ws at (suc (suc (suc (suc (suc (suc (suc (suc (suc (suc s)))))))))) h = absurd (omega arith)
 
 -- past the end nothing follows
 follow-past : (ws : List ℕ) (at : ℕ) (ss : List Section) → length ws < at → follow ws at ss ≡ false
@@ -155,11 +158,15 @@ unfolding follow
 follow-past ws at [] h = ne-eqb at (length ws) (λ e. omega arith)
 follow-past ws at (s ∷ ss) h = ap (λ (b : Bool). eqb (startOf ws s) at && b) (follow-past ws (at + wordsIn ws s) ss (omega arith)) ∙ and-false (eqb (startOf ws s) at)
 
-pub too-short : (ws : List ℕ) → length ws < contents → false ≡ q4 ws
+-- where the sections do not follow, 4 is no
+not-laid : (ws : List ℕ) → follow ws contents sections ≡ false → false ≡ q4 ws
 unfolding q4
-too-short ws h = sym (follow-past ws contents sections h)
+not-laid ws h = sym (ap (λ (b : Bool). b && eqb (entries ws Section.groups) (entries ws Section.widths)) h)
 
-module _ (ws : List ℕ) (at s k start count words : ℕ) (f : Following ws at s) (low : s < 9) (k-is : k ≡ wordK ws)
+pub too-short : (ws : List ℕ) → length ws < contents → false ≡ q4 ws
+too-short ws h = not-laid ws (follow-past ws contents sections h)
+
+module _ (ws : List ℕ) (at s k start count words : ℕ) (f : Following ws at s) (low : s < 10) (k-is : k ≡ wordK ws)
     (start-is : start ≡ getD ws (2 + s * 2) 0) (count-is : count ≡ getD ws (3 + s * 2) 0)
     (words-are : words ≡ min (count * entry k (sectionAt s)) (length ws - at + 1)) where
   counted : count * entry k (sectionAt s) ≡ getD ws (3 + s * 2) 0 * entry (wordK ws) (sectionAt s)
@@ -167,13 +174,13 @@ module _ (ws : List ℕ) (at s k start count words : ℕ) (f : Following ws at s
 
   pub elsewhere : (start ≡ at → ⊥) → false ≡ q4 ws
   elsewhere h =
-      sym (f .rest ∙ follow-one ws at s low ∙ ap (λ (b : Bool). b && follow ws (at + getD ws (3 + s * 2) 0 * entry (wordK ws) (sectionAt s)) (drop (s + 1) sections)) (ne-eqb (getD ws (2 + s * 2) 0) at (λ e. h (start-is ∙ e))))
+      not-laid ws (f .rest ∙ follow-one ws at s low ∙ ap (λ (b : Bool). b && follow ws (at + getD ws (3 + s * 2) 0 * entry (wordK ws) (sectionAt s)) (drop (s + 1) sections)) (ne-eqb (getD ws (2 + s * 2) 0) at (λ e. h (start-is ∙ e))))
 
   pub overrun : length ws - at < words → false ≡ q4 ws
   overrun h =
       let n : ℕ = count * entry k (sectionAt s) in
       let far : length ws < at + getD ws (3 + s * 2) 0 * entry (wordK ws) (sectionAt s) = let i = f .inside in let m = min-le-left n (length ws - at + 1) in omega (arith, counted) in
-      sym (f .rest ∙ follow-one ws at s low ∙ ap (λ (b : Bool). eqb (getD ws (2 + s * 2) 0) at && b) (follow-past ws _ (drop (s + 1) sections) far) ∙ and-false (eqb (getD ws (2 + s * 2) 0) at))
+      not-laid ws (f .rest ∙ follow-one ws at s low ∙ ap (λ (b : Bool). eqb (getD ws (2 + s * 2) 0) at && b) (follow-past ws _ (drop (s + 1) sections) far) ∙ and-false (eqb (getD ws (2 + s * 2) 0) at))
 
   pub following-more : start ≡ at → words ≤ length ws - at → Following ws (at + words) (s + 1)
   following-more e h =
@@ -189,11 +196,14 @@ module _ (ws : List ℕ) (at s k start count words : ℕ) (f : Following ws at s
             (ap (λ (m : ℕ). follow ws (at + m) (drop (s + 1) sections)) (sym (exact ∙ counted)));
       }
 
-pub followed : (ws : List ℕ) (at s : ℕ) → Following ws at s → 9 ≤ s → eqb at (length ws) ≡ q4 ws
-unfolding follow
-followed ws at s f h =
-    let nine : s ≡ 9 = let w = f .few in omega arith in
-    sym (f .rest ∙ ap (λ (s : ℕ). follow ws at (drop s sections)) nine)
+-- at the end, with as many groups as lookups
+pub followed : (ws : List ℕ) (at s groups widths : ℕ) → Following ws at s → 10 ≤ s → groups ≡ entries ws Section.groups
+    → widths ≡ entries ws Section.widths
+    → (eqb at (length ws) && eqb groups widths) ≡ q4 ws
+unfolding q4 follow
+followed ws at s groups widths f h g w =
+    let ten : s ≡ 10 = let w = f .few in omega arith in
+    ap₂ _&&_ (sym (f .rest ∙ ap (λ (s : ℕ). follow ws at (drop s sections)) ten)) (ap₂ eqb g w)
 
 -- ---- the sections, once laid
 
@@ -213,6 +223,7 @@ follow-end ws start h = sym (eqb-true start (length ws) h)
 pub laid : (ws : List ℕ) → q1 ws ≡ true → q2 ws ≡ true → q3 ws ≡ true → q4 ws ≡ true → ContentsValid ws
 unfolding q1 q2 q3 q4 allOf
 laid ws one two three four =
+    let chain = and-left (follow ws contents sections) (eqb (entries ws Section.groups) (entries ws Section.widths)) four in
     let c1 = and-right (leb (getD ws 1 0) 33) _ three in
     let c2 = and-right (leb (getD ws 3 0) 8) _ c1 in
     let c3 = and-right (leb (getD ws 5 0) 32) _ c2 in
@@ -222,7 +233,7 @@ laid ws one two three four =
     let c6 = and-right (leb (getD ws 11 0) 32) _ c5 in
     let c7 = and-right (leb (getD ws 13 0) 8) _ c6 in
     let c8 = and-right (leb (getD ws 17 0) 1024) _ c7 in
-    let f0 = follow-head ws contents Section.instances _ four in
+    let f0 = follow-head ws contents Section.instances _ chain in
     let f1 = follow-head ws _ Section.preprocess _ (f0 .1) in
     let f2 = follow-head ws _ Section.rounds _ (f1 .1) in
     let f3 = follow-head ws _ Section.nodes _ (f2 .1) in
@@ -231,6 +242,7 @@ laid ws one two three four =
     let f6 = follow-head ws _ Section.pairs _ (f5 .1) in
     let f7 = follow-head ws _ Section.lengths _ (f6 .1) in
     let f8 = follow-head ws _ Section.cells _ (f7 .1) in
+    let f9 = follow-head ws _ Section.groups _ (f8 .1) in
     record {
       long = leb-true contents (length ws) one;
       k-low = leb-true 1 (wordK ws) (and-left (leb 1 (wordK ws)) _ two);
@@ -254,11 +266,13 @@ laid ws one two three four =
       pairs-at = f6 .0;
       lengths-at = f7 .0;
       cells-at = f8 .0;
-      whole = follow-end ws _ (f8 .1);
+      groups-at = f9 .0;
+      whole = follow-end ws _ (f9 .1);
+      groups-are = eqb-true (entries ws Section.groups) (entries ws Section.widths) (and-right (follow ws contents sections) _ four);
     }
 
 -- a section ends where the next begins, the last where the words end
-next-start : (ws : List ℕ) → ContentsValid ws → (s : ℕ) → s < 9 → (s ≡ 8 → ⊥) → getD ws (4 + s * 2) 0 ≡ endOf ws (sectionAt s)
+next-start : (ws : List ℕ) → ContentsValid ws → (s : ℕ) → s < 10 → (s ≡ 9 → ⊥) → getD ws (4 + s * 2) 0 ≡ endOf ws (sectionAt s)
 next-start ws l zero h n = l .preprocess-at
 next-start ws l (suc zero) h n = l .rounds-at
 next-start ws l (suc (suc zero)) h n = l .nodes-at
@@ -267,10 +281,11 @@ next-start ws l (suc (suc (suc (suc zero)))) h n = l .widths-at
 next-start ws l (suc (suc (suc (suc (suc zero))))) h n = l .pairs-at
 next-start ws l (suc (suc (suc (suc (suc (suc zero)))))) h n = l .lengths-at
 next-start ws l (suc (suc (suc (suc (suc (suc (suc zero))))))) h n = l .cells-at
-next-start ws l (suc (suc (suc (suc (suc (suc (suc (suc zero)))))))) h n = absurd (n refl)
-next-start ws l (suc (suc (suc (suc (suc (suc (suc (suc (suc s))))))))) h n = absurd (omega arith)
+next-start ws l (suc (suc (suc (suc (suc (suc (suc (suc zero)))))))) h n = l .groups-at
+next-start ws l (suc (suc (suc (suc (suc (suc (suc (suc (suc zero))))))))) h n = absurd (n refl)
+next-start ws l (suc (suc (suc (suc (suc (suc (suc (suc (suc (suc s)))))))))) h n = absurd (omega arith)
 
-place-at : (s : ℕ) → s < 9 → place (sectionAt s) ≡ s
+place-at : (s : ℕ) → s < 10 → place (sectionAt s) ≡ s
 place-at zero h = refl
 place-at (suc zero) h = refl
 place-at (suc (suc zero)) h = refl
@@ -280,9 +295,10 @@ place-at (suc (suc (suc (suc (suc zero))))) h = refl
 place-at (suc (suc (suc (suc (suc (suc zero)))))) h = refl
 place-at (suc (suc (suc (suc (suc (suc (suc zero))))))) h = refl
 place-at (suc (suc (suc (suc (suc (suc (suc (suc zero)))))))) h = refl
-place-at (suc (suc (suc (suc (suc (suc (suc (suc (suc s))))))))) h = absurd (omega arith)
+place-at (suc (suc (suc (suc (suc (suc (suc (suc (suc zero))))))))) h = refl
+place-at (suc (suc (suc (suc (suc (suc (suc (suc (suc (suc s)))))))))) h = absurd (omega arith)
 
-part-of : (ws : List ℕ) (s end : ℕ) → s < 9 → end ≡ endOf ws (sectionAt s)
+part-of : (ws : List ℕ) (s end : ℕ) → s < 10 → end ≡ endOf ws (sectionAt s)
     → _≡_ {A = Part} (record { start = getD ws (2 + s * 2) 0; end = end; count = getD ws (3 + s * 2) 0 }) (boundsOf ws (sectionAt s))
 part-of ws s end h e =
     rw e
@@ -290,6 +306,7 @@ part-of ws s end h e =
 
 -- a section lies in the words
 pub end-inside : (ws : List ℕ) → ContentsValid ws → (s : Section) → endOf ws s ≤ length ws
+end-inside ws l Section.groups = omega arith
 end-inside ws l Section.cells = omega arith
 end-inside ws l Section.lengths = omega arith
 end-inside ws l Section.pairs = omega arith
@@ -311,12 +328,12 @@ placed ws s p l e =
     let i = end-inside ws l (sectionAt s) in
     (e, (omega arith, omega arith))
 
-pub last-section : (ws : List ℕ) (s : ℕ) → ContentsValid ws → s < 9 → s ≡ 8
+pub last-section : (ws : List ℕ) (s : ℕ) → ContentsValid ws → s < 10 → s ≡ 9
     → Placed ws s (record { start = getD ws (2 + s * 2) 0; end = length ws; count = getD ws (3 + s * 2) 0 })
 last-section ws s l h e =
     placed ws s _ l (part-of ws s (length ws) h (l .whole ∙ ap (λ (s : ℕ). endOf ws (sectionAt s)) (sym e)))
 
-pub one-section : (ws : List ℕ) (s : ℕ) → ContentsValid ws → s < 9 → (s ≡ 8 → ⊥)
+pub one-section : (ws : List ℕ) (s : ℕ) → ContentsValid ws → s < 10 → (s ≡ 9 → ⊥)
     → Placed ws s (record { start = getD ws (2 + s * 2) 0; end = getD ws (4 + s * 2) 0; count = getD ws (3 + s * 2) 0 })
 one-section ws s l h n = placed ws s _ l (part-of ws s (getD ws (4 + s * 2) 0) h (next-start ws l s h n))
 

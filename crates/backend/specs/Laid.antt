@@ -40,7 +40,9 @@ pub record ContentsValid (ws : List ℕ) : Type 0 where
   pub pairs-at : startOf ws Section.pairs ≡ endOf ws Section.widths
   pub lengths-at : startOf ws Section.lengths ≡ endOf ws Section.pairs
   pub cells-at : startOf ws Section.cells ≡ endOf ws Section.lengths
-  pub whole : length ws ≡ endOf ws Section.cells
+  pub groups-at : startOf ws Section.groups ≡ endOf ws Section.cells
+  pub whole : length ws ≡ endOf ws Section.groups
+  pub groups-are : entries ws Section.groups ≡ entries ws Section.widths
 
 -- yes to 3 and 4 at the bodies
 pub record BodiesValid (ws : List ℕ) : Type 0 where
