@@ -124,3 +124,8 @@ groups-few (g ∷ gs) e =
     let z = eqb-true g 0 (and-left (eqb g 0) (numbersFollow g gs) e) in
     let r = follow-few g gs (and-right (eqb g 0) (numbersFollow g gs) e) in
     omega arith
+
+-- each number is below how many there are
+pub numbers-below : (ns : List ℕ) → groupNumbersGood ns ≡ true → All (λ g. g < length ns) ns
+unfolding numGroupsIn
+numbers-below ns e = below-largest ns (length ns) (groups-few ns e)

@@ -53,6 +53,10 @@ pub const CELL_START: usize = 18;
 
 pub const CELL_COUNT: usize = 19;
 
+pub const GROUP_START: usize = 20;
+
+pub const GROUP_COUNT: usize = 21;
+
 // The places of the sections.
 pub const INSTANCES: usize = 0;
 
@@ -72,15 +76,17 @@ pub const LENGTHS: usize = 7;
 
 pub const CELLS: usize = 8;
 
+pub const GROUPS: usize = 9;
+
 // The section at a place of the contents.
 pub(crate) fn section(circuit: &[u64], s: usize) -> Part
-    requires { ⌜ ContentsValid (now circuit) × (s < 9) ⌝ }
+    requires { ⌜ ContentsValid (now circuit) × (s < 10) ⌝ }
     ensures { λ r. ⌜ r ≡ boundsOf (now (circuit .entry)) (sectionAt s) ⌝ }
     ensures { λ r. ⌜ (r .start ≤ r .end) × (r .end ≤ length (now (circuit .entry))) ⌝ }
 {
     let start = circuit[FIRST_START + s * 2] as usize;
     let count = circuit[FIRST_COUNT + s * 2] as usize;
-    if s == CELLS {
+    if s == GROUPS {
         return Part {
             start: start,
             end: circuit.len(),

@@ -2,5 +2,6 @@
 pub mod bodies;
 pub mod contents;
 pub mod copied;
+pub mod groups;
 pub mod reader;
 pub mod words;

@@ -2,6 +2,7 @@
 // proved by a walk of its MIR; `section_words` and `lists::word_at`, which do the work, are covered.
 use crate::contents::CELLS;
 use crate::contents::CONSTRAINTS;
+use crate::contents::GROUPS;
 use crate::contents::INSTANCES;
 use crate::contents::LENGTHS;
 use crate::contents::NODES;
@@ -19,7 +20,7 @@ ghost use Rattle.backend.specs.Laid.{ContentsValid};
 
 // The words of the section at a place of the contents.
 fn section_words<'a>(circuit: &'a [u64], s: usize) -> &'a [u64]
-    requires { ⌜ ContentsValid (now circuit) × (s < 9) ⌝ }
+    requires { ⌜ ContentsValid (now circuit) × (s < 10) ⌝ }
     ensures { λ r. ⌜ now r ≡ bodyOf (now (circuit .entry)) (sectionAt s) ⌝ }
 {
     let part = section(circuit, s);
@@ -124,6 +125,14 @@ impl<'a> Circuit<'a> {
     {
         section_words(self.words, CELLS)
     }
+
+    // "one group number per lookup"
+    fn groups(self) -> &'a [u64]
+        requires { ⌜ ContentsValid (now (self .words)) ⌝ }
+        ensures { λ r. ⌜ now r ≡ bodyOf (now (self .entry .words)) Section.groups ⌝ }
+    {
+        section_words(self.words, GROUPS)
+    }
 }
 
 // The same over the circuit words, a plain slice: a caller of these has no reader of its own, and is covered.
@@ -212,4 +221,12 @@ pub fn cells_of<'a>(circuit: &'a [u64]) -> &'a [u64]
     ensures { λ r. ⌜ now r ≡ bodyOf (now (circuit .entry)) Section.cells ⌝ }
 {
     Circuit::new(circuit).cells()
+}
+
+// "one group number per lookup"
+pub fn groups_of<'a>(circuit: &'a [u64]) -> &'a [u64]
+    requires { ⌜ ContentsValid (now circuit) ⌝ }
+    ensures { λ r. ⌜ now r ≡ bodyOf (now (circuit .entry)) Section.groups ⌝ }
+{
+    Circuit::new(circuit).groups()
 }

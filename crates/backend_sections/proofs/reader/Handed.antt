@@ -90,7 +90,7 @@ module _ {M : Type 1} (𝓤 : URA M) (H : Heap 𝓤) (A : Atoms 𝓤) (mem : Mem
   abbrev pub SectionWords : Contract 𝓤
   SectionWords = tripleOf 𝓤 H A sec.signature (sec.spec 𝓤 H A mem run)
 
-module _ {M : Type 1} (𝓤 : URA M) (H : Heap 𝓤) (A : Atoms 𝓤) (W : Given 𝓤 H A) (mem : Memory → SProp 𝓤) (run : Routine → Fun 𝓤) (s : ℕ) (low : s < 9) (c : Clauses 𝓤 ended) (gives : Gives 𝓤 c s) (κ : Lft) (q : Share) (d : Circuit) (g : c (κ, tt) (d, tt) .ghost) (laid : ContentsValid (now (d .words))) where
+module _ {M : Type 1} (𝓤 : URA M) (H : Heap 𝓤) (A : Atoms 𝓤) (W : Given 𝓤 H A) (mem : Memory → SProp 𝓤) (run : Routine → Fun 𝓤) (s : ℕ) (low : s < 10) (c : Clauses 𝓤 ended) (gives : Gives 𝓤 c s) (κ : Lft) (q : Share) (d : Circuit) (g : c (κ, tt) (d, tt) .ghost) (laid : ContentsValid (now (d .words))) where
   abbrev mach : Val
   mach = T′.lowered d
 
@@ -173,7 +173,7 @@ module _ {M : Type 1} (𝓤 : URA M) (H : Heap 𝓤) (A : Atoms 𝓤) (W : Given
         returns ! (look ! 7 refl) $ forget ! 3 refl $ forget ! 5 refl $ forget ! 7 refl $
         move ! (7 ∷ 8 ∷ []) $ free1 ! $ move ! (5 ∷ 6 ∷ []) $ free1 ! $ move ! (3 ∷ 4 ∷ []) $ free1 ! $ free0 ! $ by ! (exits r u e))))))))
 
-module _ {M : Type 1} (𝓤 : URA M) (H : Heap 𝓤) (A : Atoms 𝓤) (W : Given 𝓤 H A) (mem : Memory → SProp 𝓤) (run : Routine → Fun 𝓤) (s : ℕ) (low : s < 9) (c : Clauses 𝓤 ended) (asks : Asks 𝓤 c) (gives : Gives 𝓤 c s) where
+module _ {M : Type 1} (𝓤 : URA M) (H : Heap 𝓤) (A : Atoms 𝓤) (W : Given 𝓤 H A) (mem : Memory → SProp 𝓤) (run : Routine → Fun 𝓤) (s : ℕ) (low : s < 10) (c : Clauses 𝓤 ended) (asks : Asks 𝓤 c) (gives : Gives 𝓤 c s) where
   abbrev Entry : Lfts 1 → Shares 1 → Circuit → SProp 𝓤
   Entry κs qs d = onEntry 𝓤 H A (ended .signature) κs qs (d, tt) (T′.lowered d ∷ [], tt)
 
