@@ -2,17 +2,18 @@
 use mathlib.Core.Path.{_≡_, refl, sym, ap, ap₂, _∙_}
 use mathlib.Core.Bool.{Bool, true, false, not}
 use mathlib.Core.List.{List, _++_, map}
-use Prim.Native.Nat.{ℕ, suc, _-_, _/_, _^_, min}
+use Prim.Native.Nat.{ℕ, suc, _-_, _*_, _/_, _^_, _≤_, min}
 use native.Mathlib.Nat.{mul-div-cancel}
 use native.Mathlib.Omega.{arith}
 use lib.ListN.{length, getD, drop}
 use borrow.Author.Tests.{not-true, not-false}
-use Rattle.lists.specs.Lists.{tabulate, total, split, firstNo}
+use Rattle.lists.specs.Lists.{allOf, tabulate, total, split, firstNo}
+use Rattle.lists.proofs.Tests.{and-left}
 use Rattle.lists.proofs.First.{first-none, first-next, first-number, first-yes, first-append, first-refused}
 use Rattle.expression.specs.Nodes.{exprOf}
 use Rattle.backend.specs.Circuit.{Section, wordK, entries, bodyOf, pairsOf, cellAt, cellsOf, statedOf, circuitOf, numPoly, numChallenges, groupSizes, groupsOf}
 use Rattle.backend.specs.Layout.{laidOut, nodesInRange}
-use Rattle.backend.specs.Questions.{q1, q2, q3, q4, q3-bodies, q4-bodies, q5, q6, q7, q8, q9, q18, q10, cyclesGood, q11, layoutQuestions, bodyQuestions, circuitQuestions}
+use Rattle.backend.specs.Questions.{q1, q2, q3, q4, q3-bodies, q4-bodies, q5, q6, q7, q8, q9, groupNumbersGood, tablesAlike, q18, q10, cyclesGood, q11, layoutQuestions, bodyQuestions, circuitQuestions}
 use Rattle.backend.specs.Degrees.{degreeOf, groupsDegree, degreesFit}
 use Rattle.backend.specs.Laid.{ContentsValid, BodiesValid}
 use Rattle.backend.proofs.Sections.{body-length, laid}
@@ -126,6 +127,23 @@ groups-degree-of ws n w p g a x z q s u e = e ∙ rw (s, x, z, q, pair-count ws 
 pub ten : (ws : List ℕ) (s : ℕ) → s ≡ getD ws 1 0 → (r : Bool) → r ≡ degreesFit (statedOf s) (circuitOf ws .constraints) (groupsOf (circuitOf ws)) → r ≡ q10 (circuitOf ws)
 unfolding circuitOf
 ten ws s t r e = e ∙ rw t (sym (ten-is (circuitOf ws)))
+
+-- ---- the groups, where 18 is yes
+pub groups-read : (ws : List ℕ) → bodyOf ws Section.groups ≡ circuitOf ws .groups
+unfolding circuitOf
+groups-read ws = refl
+
+module _ (ws : List ℕ) (a : ContentsValid ws) where
+  pub numbers-many : length (bodyOf ws Section.groups) ≡ length (bodyOf ws Section.widths)
+  numbers-many = body-length ws a Section.groups ∙ ap (λ (n : ℕ). n * 1) (a .groups-are) ∙ sym (body-length ws a Section.widths)
+
+  pub numbers-few : length (bodyOf ws Section.groups) ≤ 8
+  numbers-few = let q = body-length ws a Section.groups in let e = a .groups-are in let f = a .few-widths in omega arith
+
+  module _ (e : q18 (circuitOf ws) ≡ true) where
+    pub numbers-good : groupNumbersGood (bodyOf ws Section.groups) ≡ true
+    unfolding q18 circuitOf
+    numbers-good = and-left (groupNumbersGood (bodyOf ws Section.groups)) (allOf tablesAlike (groupsOf (circuitOf ws))) e
 
 -- ---- 5 to 11, in their order
 

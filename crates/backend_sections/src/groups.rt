@@ -22,7 +22,7 @@ fn larger(a: usize, b: usize) -> usize
 // How many lookups have the number 0, how many 1, …, of numbers that follow the rule.
 pub fn group_sizes(groups: &[u64]) -> GroupSizes
     requires { ⌜ (groupNumbersGood (now groups) ≡ true) × (length (now groups) ≤ 8) ⌝ }
-    ensures { λ r. ⌜ (r .count ≤ 8) × (r .count ≡ numGroupsIn (now (groups .entry))) × (take (r .count) (r .of) ≡ groupSizes (now (groups .entry))) ⌝ }
+    ensures { λ r. ⌜ (r .count ≤ 8) × (length (r .of) ≡ 8) × (r .count ≡ numGroupsIn (now (groups .entry))) × (take (r .count) (r .of) ≡ groupSizes (now (groups .entry))) ⌝ }
 {
     let mut of = [0; 8];
     let mut count: usize = 0;

@@ -90,7 +90,7 @@ module _ (ns : List ℕ) (good : groupNumbersGood ns ≡ true) (few : length ns 
                 ∙ sym (count-more (λ x. eqb x j) 0 ns i l ∙ ap (λ (t : Bool). countOf (λ x. eqb x j) (take i ns) + cond t 1 0) (ne-eqb g j (λ q. p (sym q))) ∙ omega arith)
 
   pub sized-all : (of : List ℕ) (count i : ℕ) → Sized ns of count i → length ns ≤ i
-      → (count ≤ 8) × (count ≡ numGroupsIn ns) × (take count of ≡ groupSizes ns)
+      → (count ≤ 8) × (length of ≡ 8) × (count ≡ numGroupsIn ns) × (take count of ≡ groupSizes ns)
   unfolding groupSizes
   sized-all of count i v h =
       let u = v .upto in
@@ -99,6 +99,7 @@ module _ (ns : List ℕ) (good : groupNumbersGood ns ≡ true) (few : length ns 
       let f = groups-few ns good in
       let m = v .many in (
         omega arith,
+        m,
         c,
         sym (tabulate-take of 0 count (omega arith))
             ∙ tabulate-cong (λ j. getD of j 0) (λ j. countOf (λ g. eqb g j) ns) count
