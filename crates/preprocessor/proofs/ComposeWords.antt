@@ -10,10 +10,10 @@ use lib.IntN.{pos}
 use lib.ListN.{length, getD, take, drop, length-append, length-map}
 use borrow.Author.Tests.{eq-eqb, ne-eqb}
 use Rattle.lists.specs.Lists.{tabulate, split, total, All}
-use Rattle.lists.proofs.Lists.{get-left, get-past, get-map}
-use Rattle.lists.proofs.Columns.{tabulate-length, get-tabulate, tabulate-cong, map-tabulate}
+use Rattle.lists.proofs.Lists.{get-left, get-past, get-map, split-length}
+use Rattle.lists.proofs.Columns.{tabulate-length, get-tabulate, tabulate-cong, tabulate-of, map-tabulate}
 use Rattle.lists.proofs.All.{all-get}
-use Rattle.lists.proofs.Parts.{get-split, total-next}
+use Rattle.lists.proofs.Parts.{get-split, total-next, total-within}
 use Rattle.lists.proofs.Runs.{part-tabulate, total-first}
 use Rattle.expression.specs.Expr.{Expr, minus, at, distributePowers}
 use Rattle.expression.specs.Nodes.{exprOf}
@@ -21,10 +21,10 @@ use Rattle.expression.specs.Flat.{size}
 use Rattle.expression.specs.Walks.{weight}
 use Rattle.expression.specs.Written.{Pushed, ExprWritten}
 use Rattle.expression.proofs.Visits.{size-is}
-use Rattle.backend.specs.Circuit.{Pair, pairAt}
-use Rattle.backend.specs.Constraints.{inputsOf, tablesOf, lookupTree}
+use Rattle.backend.specs.Circuit.{Pair, pairAt, pairsOf}
+use Rattle.backend.specs.Constraints.{inputsOf, tablesOf, sideOf, groupTree, groupWith}
 use Rattle.preprocessor.specs.Compose.{numberOfM, numberOfH, startTree, partTree, lookupTreeOf, permutationTrees, constraintTrees, zeroTree, outerTrees, composeTree}
-use Rattle.preprocessor.specs.ComposeWords.{Limits, ComposeInput, IsNode, lookupsOf, sideExprs, sideTree, constraintsFromWords, numConstraints}
+use Rattle.preprocessor.specs.ComposeWords.{Limits, ComposeInput, IsNode, lookupsOf, groupsFromWords, sideExprs, sideTree, inputSide, tableSide, inputSides, groupFromWords, constraintsFromWords, numConstraints}
 use Rattle.preprocessor.specs.declared.CircuitParams.{CircuitParams}
 use Rattle.preprocessor.proofs.Lists.{nth}
 
@@ -65,19 +65,54 @@ module _ (nodes widths pairs : List ℕ) (enough : total widths * 2 ≤ length p
       ∙ tabulate-cong (λ i. exprOf nodes (getD pairs ((before + i) * 2 + 1) 0)) (λ i. exprOf nodes (getD pairs (before * 2 + 1 + i * 2) 0)) width
       (λ i l. ap (λ (n : ℕ). exprOf nodes (getD pairs n 0)) (omega arith))
 
-  pub lookup-tree : (v : CircuitParams)
-      → lookupTreeOf v (lookupsOf nodes widths pairs) j
-      ≡ lookupTree (at (numberOfM v j)) (at (numberOfH v j)) (sideTree nodes pairs (v .«num_challenges») (before * 2) width)
-      (sideTree nodes pairs (v .«num_challenges») (before * 2 + 1) width)
-  unfolding lookupTreeOf sideTree
-  lookup-tree v =
-      ap₂
-      (λ (a b : List Expr).
-      lookupTree (at (numberOfM v j)) (at (numberOfH v j))
-      (Expr.sum (distributePowers a (Expr.challenge (v .«num_challenges»))) (Expr.challenge (v .«num_challenges» + 1)))
-      (Expr.sum (distributePowers b (Expr.challenge (v .«num_challenges»))) (Expr.challenge (v .«num_challenges» + 1))))
-      inputs-are
-      tables-are
+-- ---- a group's lookups
+module _ (nodes sizes widths pairs : List ℕ) (enough : total widths * 2 ≤ length pairs) (members : total sizes ≡ length widths) (j : ℕ)
+    (h : j < length sizes) (some : 0 < getD sizes j 0) where
+  abbrev first : ℕ
+  first = total (take j sizes)
+
+  abbrev count : ℕ
+  count = getD sizes j 0
+
+  abbrev ls : List (List Pair)
+  ls = lookupsOf nodes widths pairs
+
+  pub members-end : first + count ≤ length widths
+  members-end = let q = total-within sizes j in omega arith
+
+  lookups-length : length ls ≡ length widths
+  unfolding lookupsOf
+  lookups-length = split-length widths (pairsOf nodes pairs)
+
+  group-lookups : getD (groupsFromWords nodes sizes widths pairs) j [] ≡ tabulate (λ i. getD ls (first + i) []) count
+  unfolding groupsFromWords
+  group-lookups =
+      get-split sizes ls j h ∙ ap (λ (xs : List (List Pair)). take count (drop first xs)) (sym (tabulate-of ls []))
+      ∙ part-tabulate (λ i. getD ls i []) first count (length ls) (let l = lookups-length in let q = members-end in omega arith)
+
+  module _ (user : ℕ) where
+    group-inputs : map (λ l. sideOf user (inputsOf l)) (getD (groupsFromWords nodes sizes widths pairs) j [])
+        ≡ inputSides nodes widths pairs user first count
+    unfolding inputSide sideTree
+    group-inputs =
+        ap (map (λ l. sideOf user (inputsOf l))) group-lookups
+        ∙ map-tabulate (λ l. sideOf user (inputsOf l)) (λ i. getD ls (first + i) []) count
+        ∙ tabulate-cong (λ i. sideOf user (inputsOf (getD ls (first + i) []))) (λ i. inputSide nodes widths pairs user (first + i)) count
+        (λ i l. ap (sideOf user) (inputs-are nodes widths pairs enough (first + i) (let q = members-end in omega arith)))
+
+    group-table : sideOf user (tablesOf (getD (getD (groupsFromWords nodes sizes widths pairs) j []) 0 [])) ≡ tableSide nodes widths pairs user first
+    unfolding tableSide sideTree
+    group-table =
+        ap (λ (ls : List (List Pair)). sideOf user (tablesOf (getD ls 0 []))) group-lookups
+        ∙ ap (λ (l : List Pair). sideOf user (tablesOf l))
+        (get-tabulate (λ i. getD ls (first + i) []) count 0 [] some ∙ ap (λ (i : ℕ). getD ls i []) (add-zero first))
+        ∙ ap (sideOf user) (tables-are nodes widths pairs enough first (let q = members-end in omega arith))
+
+  pub group-tree : (v : CircuitParams) → lookupTreeOf v (groupsFromWords nodes sizes widths pairs) j ≡ groupFromWords v nodes widths pairs j first count
+  unfolding lookupTreeOf groupWith groupFromWords
+  group-tree v =
+      ap₂ (λ (is : List Expr) (t : Expr). groupTree (at (numberOfM v j)) (at (numberOfH v j)) is t) (group-inputs (v .«num_challenges»))
+      (group-table (v .«num_challenges»))
 
 -- a root that stands in a list of roots
 pub root-node : (nodes roots : List ℕ) (i n : ℕ) → All (IsNode nodes) roots → i < length roots → n ≡ getD roots i 0 → n * 4 + 4 ≤ length nodes
@@ -94,37 +129,27 @@ module _ (nodes pairs : List ℕ) (s w : ℕ) where
   side-nth i n h e =
       get-tabulate (λ i. exprOf nodes (getD pairs (s + i * 2) 0)) w i (Expr.constant 0) h ∙ ap (exprOf nodes) (sym e)
 
--- the nodes of a lookup's constraint, an Item counted as `item`; and those that are written
-pub lookup-weight : (item m h : ℕ) (a b : Expr) → weight item (lookupTree (at m) (at h) a b) ≡ weight item a * 2 + weight item b * 2 + 8
-unfolding weight
-lookup-weight item m h a b = omega arith
-
-pub lookup-size : (m h : ℕ) (a b : Expr) → size (lookupTree (at m) (at h) a b) ≡ size a * 2 + size b * 2 + 8
-lookup-size m h a b =
-    sym (size-is (lookupTree (at m) (at h) a b)) ∙ lookup-weight 1 m h a b
-    ∙ ap₂ (λ (x y : ℕ). x * 2 + y * 2 + 8) (size-is a) (size-is b)
-
 -- ---- how many constraints
-pub num-none : (own : ℕ) (v : CircuitParams) → v .«num_permutation_polys» ≡ 0 → numConstraints own v ≡ own + v .«num_lookups»
+pub num-none : (own : ℕ) (v : CircuitParams) → v .«num_permutation_polys» ≡ 0 → numConstraints own v ≡ own + v .«num_groups»
 unfolding numConstraints
 num-none own v h =
-    ap (λ (t : Bool). own + v .«num_lookups» + cond t 0 (suc (v .«num_chunks»))) (eq-eqb (v .«num_permutation_polys») 0 h) ∙ add-zero (own + v .«num_lookups»)
+    ap (λ (t : Bool). own + v .«num_groups» + cond t 0 (suc (v .«num_chunks»))) (eq-eqb (v .«num_permutation_polys») 0 h) ∙ add-zero (own + v .«num_groups»)
 
-pub num-some : (own : ℕ) (v : CircuitParams) → (v .«num_permutation_polys» ≡ 0 → ⊥) → numConstraints own v ≡ own + v .«num_lookups» + (1 + v .«num_chunks»)
+pub num-some : (own : ℕ) (v : CircuitParams) → (v .«num_permutation_polys» ≡ 0 → ⊥) → numConstraints own v ≡ own + v .«num_groups» + (1 + v .«num_chunks»)
 unfolding numConstraints
 num-some own v h =
-    ap (λ (t : Bool). own + v .«num_lookups» + cond t 0 (suc (v .«num_chunks»))) (ne-eqb (v .«num_permutation_polys») 0 h) ∙ omega arith
+    ap (λ (t : Bool). own + v .«num_groups» + cond t 0 (suc (v .«num_chunks»))) (ne-eqb (v .«num_permutation_polys») 0 h) ∙ omega arith
 
 -- ---- the constraints by their numbers
-module _ (v : CircuitParams) (names nodes roots widths pairs : List ℕ) where
+module _ (v : CircuitParams) (names nodes roots sizes widths pairs : List ℕ) where
   abbrev es : List Expr
-  es = constraintsFromWords v names nodes roots widths pairs
+  es = constraintsFromWords v names nodes roots sizes widths pairs
 
   abbrev user : List Expr
   user = map (exprOf nodes) roots
 
   abbrev lookup : ℕ → Expr
-  lookup = lookupTreeOf v (lookupsOf nodes widths pairs)
+  lookup = lookupTreeOf v (groupsFromWords nodes sizes widths pairs)
 
   abbrev some : List Expr
   some = startTree v ∷ tabulate (partTree v names) (v .«num_chunks»)
@@ -136,96 +161,90 @@ module _ (v : CircuitParams) (names nodes roots widths pairs : List ℕ) where
   pub constraints-length : length es ≡ numConstraints (length roots) v
   unfolding constraintTrees permutationTrees numConstraints
   constraints-length =
-      length-append user (tabulate lookup (v .«num_lookups») ++ cond (eqb (v .«num_permutation_polys») 0) [] some)
+      length-append user (tabulate lookup (v .«num_groups») ++ cond (eqb (v .«num_permutation_polys») 0) [] some)
       ∙ ap₂ _+_ (length-map roots (exprOf nodes))
-      (length-append (tabulate lookup (v .«num_lookups»)) (cond (eqb (v .«num_permutation_polys») 0) [] some)
-      ∙ ap₂ _+_ (tabulate-length lookup (v .«num_lookups»)) (some-length (eqb (v .«num_permutation_polys») 0)))
+      (length-append (tabulate lookup (v .«num_groups»)) (cond (eqb (v .«num_permutation_polys») 0) [] some)
+      ∙ ap₂ _+_ (tabulate-length lookup (v .«num_groups»)) (some-length (eqb (v .«num_permutation_polys») 0)))
       ∙ omega arith
 
   pub own-nth : (i n : ℕ) → i < length roots → n ≡ getD roots i 0 → nth es i ≡ exprOf nodes n
   unfolding constraintTrees permutationTrees
   own-nth i n h e =
-      get-left user (tabulate lookup (v .«num_lookups») ++ cond (eqb (v .«num_permutation_polys») 0) [] some) i (Expr.constant 0)
+      get-left user (tabulate lookup (v .«num_groups») ++ cond (eqb (v .«num_permutation_polys») 0) [] some) i (Expr.constant 0)
       (let e = length-map roots (exprOf nodes) in omega arith)
       ∙ get-map (exprOf nodes) roots i 0 (Expr.constant 0) h
       ∙ ap (exprOf nodes) (sym e)
 
   past-own : (i k : ℕ) → i ≡ length roots + k
-      → nth es i ≡ nth (tabulate lookup (v .«num_lookups») ++ cond (eqb (v .«num_permutation_polys») 0) [] some) k
+      → nth es i ≡ nth (tabulate lookup (v .«num_groups») ++ cond (eqb (v .«num_permutation_polys») 0) [] some) k
   unfolding constraintTrees permutationTrees
   past-own i k e =
-      get-past user (tabulate lookup (v .«num_lookups») ++ cond (eqb (v .«num_permutation_polys») 0) [] some) i k (Expr.constant 0)
+      get-past user (tabulate lookup (v .«num_groups») ++ cond (eqb (v .«num_permutation_polys») 0) [] some) i k (Expr.constant 0)
       (e ∙ ap (λ (n : ℕ). n + k) (sym (length-map roots (exprOf nodes))))
 
-  pub lookup-nth : (i j s w : ℕ) → i ≡ length roots + j → j < v .«num_lookups» → v .«num_lookups» ≡ length widths
+  pub lookup-nth : (i j s n : ℕ) → i ≡ length roots + j → j < v .«num_groups» → v .«num_groups» ≡ length sizes → All (λ n. 0 < n) sizes
+      → total sizes ≡ length widths
       → total widths * 2 ≤ length pairs
-      → s ≡ total (take j widths)
-      → w ≡ getD widths j 0
-      → nth es i
-      ≡ lookupTree (at (numberOfM v j)) (at (numberOfH v j)) (sideTree nodes pairs (v .«num_challenges») (s * 2) w)
-      (sideTree nodes pairs (v .«num_challenges») (s * 2 + 1) w)
-  lookup-nth i j s w e h all enough es ew =
+      → s ≡ total (take j sizes)
+      → n ≡ getD sizes j 0
+      → nth es i ≡ groupFromWords v nodes widths pairs j s n
+  lookup-nth i j s n e h all positive members enough es en =
       past-own i j e
-      ∙ get-left (tabulate lookup (v .«num_lookups»)) (cond (eqb (v .«num_permutation_polys») 0) [] some) j (Expr.constant 0)
-      (let l = tabulate-length lookup (v .«num_lookups») in omega arith)
-      ∙ get-tabulate lookup (v .«num_lookups») j (Expr.constant 0) h
-      ∙ lookup-tree nodes widths pairs enough j (omega arith) v
-      ∙ ap₂
-      (λ (s w : ℕ).
-      lookupTree (at (numberOfM v j)) (at (numberOfH v j)) (sideTree nodes pairs (v .«num_challenges») (s * 2) w)
-      (sideTree nodes pairs (v .«num_challenges») (s * 2 + 1) w))
-      (sym es)
-      (sym ew)
+      ∙ get-left (tabulate lookup (v .«num_groups»)) (cond (eqb (v .«num_permutation_polys») 0) [] some) j (Expr.constant 0)
+      (let l = tabulate-length lookup (v .«num_groups») in omega arith)
+      ∙ get-tabulate lookup (v .«num_groups») j (Expr.constant 0) h
+      ∙ group-tree nodes sizes widths pairs enough members j (omega arith) (all-get (λ n. 0 < n) sizes positive j 0 (omega arith)) v
+      ∙ ap₂ (groupFromWords v nodes widths pairs j) (sym es) (sym en)
 
   some-at : (t : Bool) (p : ℕ) → p < cond t 0 (suc (v .«num_chunks»)) → nth (cond t [] some) p ≡ nth some p
   some-at true p h = absurd (omega arith)
   some-at false p h = refl
 
-  past-lookups : (i p : ℕ) → i ≡ length roots + (v .«num_lookups» + p) → i < numConstraints (length roots) v → nth es i ≡ nth some p
+  past-lookups : (i p : ℕ) → i ≡ length roots + (v .«num_groups» + p) → i < numConstraints (length roots) v → nth es i ≡ nth some p
   unfolding numConstraints
   past-lookups i p e h =
-      past-own i (v .«num_lookups» + p) e
-      ∙ get-past (tabulate lookup (v .«num_lookups»)) (cond (eqb (v .«num_permutation_polys») 0) [] some) (v .«num_lookups» + p) p (Expr.constant 0)
-      (ap (λ (n : ℕ). n + p) (sym (tabulate-length lookup (v .«num_lookups»))))
+      past-own i (v .«num_groups» + p) e
+      ∙ get-past (tabulate lookup (v .«num_groups»)) (cond (eqb (v .«num_permutation_polys») 0) [] some) (v .«num_groups» + p) p (Expr.constant 0)
+      (ap (λ (n : ℕ). n + p) (sym (tabulate-length lookup (v .«num_groups»))))
       ∙ some-at (eqb (v .«num_permutation_polys») 0) p (omega arith)
 
-  pub start-nth : (i : ℕ) → i ≡ length roots + v .«num_lookups» → i < numConstraints (length roots) v → nth es i ≡ startTree v
-  start-nth i e h = past-lookups i 0 (e ∙ ap (λ (n : ℕ). length roots + n) (sym (add-zero (v .«num_lookups»)))) h
+  pub start-nth : (i : ℕ) → i ≡ length roots + v .«num_groups» → i < numConstraints (length roots) v → nth es i ≡ startTree v
+  start-nth i e h = past-lookups i 0 (e ∙ ap (λ (n : ℕ). length roots + n) (sym (add-zero (v .«num_groups»)))) h
 
   few : (t : Bool) (p : ℕ) → suc p < cond t 0 (suc (v .«num_chunks»)) → p < v .«num_chunks»
   few true p h = absurd (omega arith)
   few false p h = omega arith
 
-  pub part-below : (i p : ℕ) → i ≡ length roots + (v .«num_lookups» + suc p) → i < numConstraints (length roots) v → p < v .«num_chunks»
+  pub part-below : (i p : ℕ) → i ≡ length roots + (v .«num_groups» + suc p) → i < numConstraints (length roots) v → p < v .«num_chunks»
   unfolding numConstraints
   part-below i p e h = few (eqb (v .«num_permutation_polys») 0) p (omega arith)
 
-  pub part-nth : (i p : ℕ) → i ≡ length roots + (v .«num_lookups» + suc p) → i < numConstraints (length roots) v
+  pub part-nth : (i p : ℕ) → i ≡ length roots + (v .«num_groups» + suc p) → i < numConstraints (length roots) v
       → nth es i ≡ partTree v names p
   part-nth i p e h =
       past-lookups i (suc p) e h ∙ get-tabulate (partTree v names) (v .«num_chunks») p (Expr.constant 0) (part-below i p e h)
 
 -- ---- the h queries and the zero check
 module _ (v : CircuitParams) (es : List Expr) where
-  pub outer-length : length (outerTrees v es) ≡ suc (v .«num_lookups»)
+  pub outer-length : length (outerTrees v es) ≡ suc (v .«num_groups»)
   unfolding outerTrees
   outer-length =
-      length-append (tabulate (λ j. at (numberOfH v j)) (v .«num_lookups»)) (zeroTree v es ∷ [])
-      ∙ ap (λ (n : ℕ). n + 1) (tabulate-length (λ j. at (numberOfH v j)) (v .«num_lookups»))
+      length-append (tabulate (λ j. at (numberOfH v j)) (v .«num_groups»)) (zeroTree v es ∷ [])
+      ∙ ap (λ (n : ℕ). n + 1) (tabulate-length (λ j. at (numberOfH v j)) (v .«num_groups»))
       ∙ omega arith
 
-  pub query-nth : (i : ℕ) → i < v .«num_lookups» → nth (outerTrees v es) i ≡ at (numberOfH v i)
+  pub query-nth : (i : ℕ) → i < v .«num_groups» → nth (outerTrees v es) i ≡ at (numberOfH v i)
   unfolding outerTrees
   query-nth i h =
-      get-left (tabulate (λ j. at (numberOfH v j)) (v .«num_lookups»)) (zeroTree v es ∷ []) i (Expr.constant 0)
-      (let l = tabulate-length (λ j. at (numberOfH v j)) (v .«num_lookups») in omega arith)
-      ∙ get-tabulate (λ j. at (numberOfH v j)) (v .«num_lookups») i (Expr.constant 0) h
+      get-left (tabulate (λ j. at (numberOfH v j)) (v .«num_groups»)) (zeroTree v es ∷ []) i (Expr.constant 0)
+      (let l = tabulate-length (λ j. at (numberOfH v j)) (v .«num_groups») in omega arith)
+      ∙ get-tabulate (λ j. at (numberOfH v j)) (v .«num_groups») i (Expr.constant 0) h
 
-  pub zero-nth : (i : ℕ) → i ≡ v .«num_lookups» → nth (outerTrees v es) i ≡ zeroTree v es
+  pub zero-nth : (i : ℕ) → i ≡ v .«num_groups» → nth (outerTrees v es) i ≡ zeroTree v es
   unfolding outerTrees
   zero-nth i h =
-      get-past (tabulate (λ j. at (numberOfH v j)) (v .«num_lookups»)) (zeroTree v es ∷ []) i 0 (Expr.constant 0)
-      (let l = tabulate-length (λ j. at (numberOfH v j)) (v .«num_lookups») in omega arith)
+      get-past (tabulate (λ j. at (numberOfH v j)) (v .«num_groups»)) (zeroTree v es ∷ []) i 0 (Expr.constant 0)
+      (let l = tabulate-length (λ j. at (numberOfH v j)) (v .«num_groups») in omega arith)
 
 -- the nodes of a sum with gamma, and of a product with a query
 pub side-weight : (item : ℕ) (nodes pairs : List ℕ) (user s w : ℕ)
@@ -250,8 +269,8 @@ zero-size v es =
     sym (size-is (zeroTree v es)) ∙ zero-weight 1 v es
     ∙ ap (λ (n : ℕ). n + 2) (size-is (distributePowers es (Expr.challenge (v .«num_challenges» + 2))))
 
--- with no lookup the composed expression is the zero check
-pub compose-alone : (v : CircuitParams) (es : List Expr) → v .«num_lookups» ≡ 0 → composeTree v es ≡ zeroTree v es
+-- with no group the composed expression is the zero check
+pub compose-alone : (v : CircuitParams) (es : List Expr) → v .«num_groups» ≡ 0 → composeTree v es ≡ zeroTree v es
 unfolding composeTree outerTrees distributePowers tabulate
 compose-alone v es h =
     ap (λ (n : ℕ). distributePowers (tabulate (λ j. at (numberOfH v j)) n ++ (zeroTree v es ∷ [])) (Expr.challenge (v .«num_challenges» + 2))) h

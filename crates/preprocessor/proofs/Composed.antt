@@ -13,7 +13,7 @@ use Rattle.expression.specs.Nodes.{exprOf}
 use Rattle.expression.specs.Flat.{size, flat}
 use Rattle.expression.specs.Written.{ExprWritten}
 use Rattle.expression.proofs.FlatLength.{flat-length}
-use Rattle.backend.specs.Circuit.{Circuit, Pair, Section, circuitOf, bodyOf, entries, pairAt, copied, numCopied}
+use Rattle.backend.specs.Circuit.{Circuit, Pair, Section, circuitOf, bodyOf, entries, pairAt, copied, numCopied, groupSizes, groupsOf}
 use Rattle.backend.specs.Constraints.{maxDegree}
 use Rattle.preprocessor.specs.Compose.{
   numZ,
@@ -26,7 +26,7 @@ use Rattle.preprocessor.specs.Compose.{
   constraintTrees,
   composeTree,
 }
-use Rattle.preprocessor.specs.ComposeWords.{lookupsOf, constraintsFromWords, DecodedFrom, Composed}
+use Rattle.preprocessor.specs.ComposeWords.{lookupsOf, groupsFromWords, constraintsFromWords, DecodedFrom, Composed}
 use Rattle.preprocessor.specs.declared.CircuitParams.{CircuitParams}
 
 -- "the constraints cut by D − 1" have N parts
@@ -36,20 +36,20 @@ constraint-parts c =
     cut-length (maxDegree c - 1) (range (numCopied c))
     ∙ ap (λ (n : ℕ). ceilDiv n (maxDegree c - 1)) (below-length (numCopied c))
 
-module _ {c : Circuit} {v : CircuitParams} {names nodes roots widths pairs : List ℕ} where
-  pub decoded-constraints : DecodedFrom c v names nodes roots widths pairs → constraintsFromWords v names nodes roots widths pairs ≡ composedConstraints c
+module _ {c : Circuit} {v : CircuitParams} {names nodes roots sizes widths pairs : List ℕ} where
+  pub decoded-constraints : DecodedFrom c v names nodes roots sizes widths pairs → constraintsFromWords v names nodes roots sizes widths pairs ≡ composedConstraints c
   decoded-constraints p =
-      ap (λ (u : CircuitParams). constraintTrees u names (map (exprOf nodes) roots) (lookupsOf nodes widths pairs)) (p .params-are)
-      ∙ ap (λ (ns : List ℕ). constraintTrees (paramsOf c) ns (map (exprOf nodes) roots) (lookupsOf nodes widths pairs)) (p .copied-are)
-      ∙ ap (λ (es : List Expr). constraintTrees (paramsOf c) (copied c) es (lookupsOf nodes widths pairs)) (p .constraints-are)
-      ∙ ap (λ (ls : List (List Pair)). constraintTrees (paramsOf c) (copied c) (c .constraints) ls) (p .lookups-are)
+      ap (λ (u : CircuitParams). constraintTrees u names (map (exprOf nodes) roots) (groupsFromWords nodes sizes widths pairs)) (p .params-are)
+      ∙ ap (λ (ns : List ℕ). constraintTrees (paramsOf c) ns (map (exprOf nodes) roots) (groupsFromWords nodes sizes widths pairs)) (p .copied-are)
+      ∙ ap (λ (es : List Expr). constraintTrees (paramsOf c) (copied c) es (groupsFromWords nodes sizes widths pairs)) (p .constraints-are)
+      ∙ ap (λ (gs : List (List (List Pair))). constraintTrees (paramsOf c) (copied c) (c .constraints) gs) (p .groups-are)
 
-  pub composed-is : DecodedFrom c v names nodes roots widths pairs → composeTree v (constraintsFromWords v names nodes roots widths pairs) ≡ compose c
+  pub composed-is : DecodedFrom c v names nodes roots sizes widths pairs → composeTree v (constraintsFromWords v names nodes roots sizes widths pairs) ≡ compose c
   composed-is p =
       ap (composeTree v) (decoded-constraints p) ∙ ap (λ (u : CircuitParams). composeTree u (composedConstraints c)) (p .params-are)
 
-  pub composed-written : {from : ℕ} {d d1 : List ℕ} {next : ℕ} → DecodedFrom c v names nodes roots widths pairs
-      → ExprWritten from (composeTree v (constraintsFromWords v names nodes roots widths pairs)) 0 d d1 next
+  pub composed-written : {from : ℕ} {d d1 : List ℕ} {next : ℕ} → DecodedFrom c v names nodes roots sizes widths pairs
+      → ExprWritten from (composeTree v (constraintsFromWords v names nodes roots sizes widths pairs)) 0 d d1 next
       → Composed from c d d1 next
   unfolding composedNodes composedWords
   composed-written {from} {d} {d1} {next} p w =
@@ -77,17 +77,18 @@ composed-part {from} {c} {d} n h l w =
 pub circuit-decoded : (ws : List ℕ) → length (bodyOf ws Section.pairs) / 2 ≡ entries ws Section.pairs
     → DecodedFrom (circuitOf ws) (paramsOf (circuitOf ws)) (copied (circuitOf ws)) (bodyOf ws Section.nodes)
     (bodyOf ws Section.constraints)
+    (groupSizes (circuitOf ws .groups))
     (bodyOf ws Section.widths)
     (bodyOf ws Section.pairs)
-unfolding circuitOf lookupsOf
+unfolding circuitOf lookupsOf groupsFromWords groupsOf
 circuit-decoded ws h =
     record {
       params-are = refl;
       copied-are = refl;
       constraints-are = refl;
-      lookups-are =
+      groups-are =
           ap
           (λ (n : ℕ).
-          split (bodyOf ws Section.widths) (tabulate (pairAt (bodyOf ws Section.nodes) (bodyOf ws Section.pairs)) n))
+          split (groupSizes (circuitOf ws .groups)) (split (bodyOf ws Section.widths) (tabulate (pairAt (bodyOf ws Section.nodes) (bodyOf ws Section.pairs)) n)))
           h;
     }

@@ -5,27 +5,63 @@ use mathlib.Core.List.{List, [], _∷_, _++_, map}
 use borrow.Author.Tests.{eq-eqb, ne-eqb}
 use Prim.Native.Nat.{ℕ, zero, suc, _+_, _-_, _*_, _≤_, _<_, min}
 use native.Mathlib.Nat.{mul-le-mul-right, suc-mul, mul-one, zero-add}
+use native.Mathlib.Decide.{decLe}
 use native.Mathlib.Numerals.{add-one}
 use native.Mathlib.Omega.{arith}
 use lib.ListN.{length, getD, take}
 use Rattle.lists.specs.Lists.{tabulate, total, All}
-use Rattle.lists.proofs.Columns.{tabulate-suc, tabulate-cong, tabulate-of, map-tabulate}
+use Rattle.lists.proofs.Columns.{tabulate-suc, tabulate-cong, tabulate-length, tabulate-of, map-tabulate}
+use Rattle.lists.proofs.All.{all-get}
 use Rattle.expression.specs.Expr.{Expr, distributePowers}
 use Rattle.expression.specs.Nodes.{exprOf}
 use Rattle.expression.specs.Flat.{largestSize}
 use Rattle.expression.specs.Walks.{weight}
 use Rattle.backend.specs.Circuit.{Circuit}
 use Rattle.preprocessor.specs.Compose.{compose, numberOfM, numberOfH, lookupTreeOf, composeTree}
-use Rattle.preprocessor.specs.ComposeWords.{Limits, Words, sideExprs, sideTree, lookupsOf, constraintsFromWords, numConstraints, permutationNodes, DecodedFrom}
-use Rattle.preprocessor.specs.Count.{nodesIn, listNodes}
+use Rattle.preprocessor.specs.ComposeWords.{
+  Limits,
+  Words,
+  sideExprs,
+  sideTree,
+  inputSide,
+  tableSide,
+  inputSides,
+  groupFromWords,
+  groupsFromWords,
+  constraintsFromWords,
+  numConstraints,
+  permutationNodes,
+  DecodedFrom,
+}
+use Rattle.preprocessor.specs.Count.{nodesIn, listNodes, groupNodes}
 use Rattle.preprocessor.specs.declared.CircuitParams.{CircuitParams}
-use Rattle.preprocessor.proofs.ComposeWords.{constraints-length, lookup-tree, lookup-weight, side-length, side-weight}
+use Rattle.preprocessor.proofs.Groups.{group-weight}
+use Rattle.preprocessor.proofs.ComposeWords.{constraints-length, group-tree, side-length, side-weight}
 use Rattle.preprocessor.proofs.Composed.{composed-is}
 use Rattle.preprocessor.proofs.Nodes.{nodes-append, nodes-one, list-size, challenge-size, compose-size, constraints-nodes}
 
 -- the capped sum of two capped counts
 pub capped : (r a b A B : ℕ) → r ≡ min largestSize (a + b) → a ≡ min largestSize A → b ≡ min largestSize B → r ≡ min largestSize (A + B)
 capped r a b A B h p q = omega arith
+
+cap-first : (r a n A : ℕ) → r ≡ min largestSize (a + n) → a ≡ min largestSize A → r ≡ min largestSize (A + n)
+cap-first r a n A h p = omega arith
+
+cap-more : (r a b A B : ℕ) → r ≡ min largestSize (a + b) → min largestSize a ≡ min largestSize A → b ≡ min largestSize B → r ≡ min largestSize (A + B)
+cap-more r a b A B h p q = omega arith
+
+cap-last : (r Y T u : ℕ) → u ≡ min largestSize (Y + T + T) → r ≡ min largestSize (u + 6) → r ≡ min largestSize (Y + T * 2 + 6)
+cap-last r Y T u e h = omega arith
+
+cap-times : (n X x : ℕ) → x ≡ min largestSize X → min largestSize (n * x + x) ≡ min largestSize (n * X + X)
+cap-times n X x e = go (decLe X largestSize)
+  where
+    plain : (a b : ℕ) → (x ≡ X → a ≡ b) → X ≤ largestSize → min largestSize (a + x) ≡ min largestSize (b + X)
+    plain a b h l = let d : x ≡ X = omega arith in let q = h d in omega arith
+
+    go : Dec (X ≤ largestSize) → min largestSize (n * x + x) ≡ min largestSize (n * X + X)
+    go (yes l) = plain (n * x) (n * X) (λ d. ap (λ (k : ℕ). n * k) d) l
+    go (no l) = omega arith
 
 -- root i of w, which stand `step` words apart from s on
 pub root-below : (s step w len i : ℕ) → s + w * step < len + step → i < w → s + i * step < len
@@ -78,55 +114,72 @@ module _ (item : ℕ) where
   list-many (suc zero) r h k e = absurd (k refl)
   list-many (suc (suc n)) r h k e = e
 
-  -- a side, a lookup
-  pub side-counted : (nodes pairs : List ℕ) (beta s w r x y : ℕ) → r ≡ min largestSize (x + y)
+  -- a side
+  pub side-counted : (nodes pairs : List ℕ) (beta s w r x y z : ℕ) → r ≡ min largestSize (z + 2) → z ≡ min largestSize (x + y)
       → x ≡ min largestSize (nodesIn item (tabulate (λ i. exprOf nodes (getD pairs (s + i * 2) 0)) w))
       → y ≡ min largestSize (listNodes item w)
-      → r ≡ min largestSize (weight item (distributePowers (sideExprs nodes pairs s w) (Expr.challenge beta)))
+      → r ≡ min largestSize (weight item (sideTree nodes pairs beta s w))
   unfolding sideExprs
-  side-counted nodes pairs beta s w r x y h p q =
+  side-counted nodes pairs beta s w r x y z g h p q =
       let es : List Expr = tabulate (λ i. exprOf nodes (getD pairs (s + i * 2) 0)) w in
-      capped r x y (nodesIn item es) (listNodes item w) h p q
+      let e : z ≡ min largestSize (weight item (distributePowers es (Expr.challenge beta))) =
+      capped z x y (nodesIn item es) (listNodes item w) h p q
       ∙ ap (min largestSize)
       (ap (λ (n : ℕ). nodesIn item es + listNodes item n) (sym (side-length nodes pairs s w))
-      ∙ sym (list-size item (Expr.challenge beta) (challenge-size item beta) es))
-
-  pub lookup-counted : (nodes pairs : List ℕ) (beta s w r a b x y : ℕ) → r ≡ min largestSize (y + 16) → y ≡ min largestSize (x + x)
-      → x ≡ min largestSize (a + b)
-      → a ≡ min largestSize (weight item (distributePowers (sideExprs nodes pairs s w) (Expr.challenge beta)))
-      → b ≡ min largestSize (weight item (distributePowers (sideExprs nodes pairs (s + 1) w) (Expr.challenge beta)))
-      → r ≡ min largestSize (weight item (sideTree nodes pairs beta s w) * 2 + weight item (sideTree nodes pairs beta (s + 1) w) * 2 + 8)
-  lookup-counted nodes pairs beta s w r a b x y h p q ea eb =
-      let A : ℕ = weight item (distributePowers (sideExprs nodes pairs s w) (Expr.challenge beta)) in
-      let B : ℕ = weight item (distributePowers (sideExprs nodes pairs (s + 1) w) (Expr.challenge beta)) in
-      let e : x ≡ min largestSize (A + B) = capped x a b A B q ea eb in
-      let f : y ≡ min largestSize (A + B + (A + B)) = capped y x x (A + B) (A + B) p e e in
+      ∙ sym (list-size item (Expr.challenge beta) (challenge-size item beta) es)) in
       let u = side-weight item nodes pairs beta s w in
-      let t = side-weight item nodes pairs beta (s + 1) w in
-      plain r y A B (weight item (sideTree nodes pairs beta s w)) (weight item (sideTree nodes pairs beta (s + 1) w)) h f u t
+      plain (weight item (distributePowers es (Expr.challenge beta))) (weight item (sideTree nodes pairs beta s w)) e u
     where
-      plain : (r y A B S T : ℕ) → r ≡ min largestSize (y + 16) → y ≡ min largestSize (A + B + (A + B)) → S ≡ A + 2 → T ≡ B + 2
-          → r ≡ min largestSize (S * 2 + T * 2 + 8)
-      plain r y A B S T h f u t = omega arith
+      plain : (D S : ℕ) → z ≡ min largestSize D → S ≡ D + 2 → r ≡ min largestSize S
+      plain D S e u = omega arith
 
-  -- the constraint of lookup j, whose pairs begin at s
-  pub lookup-is : (v : CircuitParams) (nodes widths pairs : List ℕ) (j s w r : ℕ) → total widths * 2 ≤ length pairs → j < length widths
-      → s ≡ total (take j widths)
-      → w ≡ getD widths j 0
-      → r ≡ min largestSize (weight item (sideTree nodes pairs (v .«num_challenges») (s * 2) w) * 2 + weight item (sideTree nodes pairs (v .«num_challenges») (s * 2 + 1) w) * 2 + 8)
-      → r ≡ min largestSize (weight item (lookupTreeOf v (lookupsOf nodes widths pairs) j))
-  lookup-is v nodes widths pairs j s w r enough h es ew e =
+  -- of lookup i, whose pairs begin at s
+  module _ (nodes widths pairs : List ℕ) (beta i s w r : ℕ) (es : s ≡ total (take i widths)) (ew : w ≡ getD widths i 0) where
+    pub input-counted : r ≡ min largestSize (weight item (sideTree nodes pairs beta (s * 2) w))
+        → r ≡ min largestSize (weight item (inputSide nodes widths pairs beta i))
+    unfolding inputSide
+    input-counted e = e ∙ ap₂ (λ (s w : ℕ). min largestSize (weight item (sideTree nodes pairs beta (s * 2) w))) es ew
+
+    pub table-counted : r ≡ min largestSize (weight item (sideTree nodes pairs beta (s * 2 + 1) w))
+        → r ≡ min largestSize (weight item (tableSide nodes widths pairs beta i))
+    unfolding tableSide
+    table-counted e = e ∙ ap₂ (λ (s w : ℕ). min largestSize (weight item (sideTree nodes pairs beta (s * 2 + 1) w))) es ew
+
+  -- a group: (n + 1) times, then the table twice
+  pub group-counted : (n inputs table x y z u r I T : ℕ) → inputs ≡ min largestSize I → table ≡ min largestSize T → x ≡ min largestSize (inputs + n)
+      → y ≡ (n + 1) * x
+      → z ≡ min largestSize (y + table)
+      → u ≡ min largestSize (z + table)
+      → r ≡ min largestSize (u + 6)
+      → r ≡ min largestSize (groupNodes n I T)
+  unfolding groupNodes
+  group-counted n inputs table x y z u r I T ei et ex ey ez eu er =
+      let Y : ℕ = suc n * (I + n) in
+      let e : x ≡ min largestSize (I + n) = cap-first x inputs n I ex ei in
+      let f : min largestSize y ≡ min largestSize Y =
+      ap (min largestSize) (ey ∙ ap (λ (m : ℕ). m * x) (add-one n) ∙ suc-mul n x) ∙ cap-times n (I + n) x e ∙ ap (min largestSize) (sym (suc-mul n (I + n))) in
+      let ez' : z ≡ min largestSize (Y + T) = cap-more z y table Y T ez f et in
+      let eu' : u ≡ min largestSize (Y + T + T) = capped u z table (Y + T) T eu ez' et in
+      cap-last r Y T u eu' er
+
+  pub group-is : (v : CircuitParams) (nodes sizes widths pairs : List ℕ) (j s n r : ℕ) → total widths * 2 ≤ length pairs
+      → total sizes ≡ length widths
+      → All (λ n. 0 < n) sizes
+      → j < length sizes
+      → s ≡ total (take j sizes)
+      → n ≡ getD sizes j 0
+      → r ≡ min largestSize (groupNodes n (nodesIn item (inputSides nodes widths pairs (v .«num_challenges») s n)) (weight item (tableSide nodes widths pairs (v .«num_challenges») s)))
+      → r ≡ min largestSize (weight item (lookupTreeOf v (groupsFromWords nodes sizes widths pairs) j))
+  unfolding groupFromWords
+  group-is v nodes sizes widths pairs j s n r enough members positive h es en e =
+      let user : ℕ = v .«num_challenges» in
       e
-      ∙ ap₂
-      (λ (s w : ℕ).
-      min largestSize (weight item (sideTree nodes pairs (v .«num_challenges») (s * 2) w) * 2 + weight item (sideTree nodes pairs (v .«num_challenges») (s * 2 + 1) w) * 2 + 8))
-      es
-      ew
       ∙ ap (min largestSize)
-      (sym
-      (ap (weight item) (lookup-tree nodes widths pairs enough j h v)
-      ∙ lookup-weight item (numberOfM v j) (numberOfH v j) (sideTree nodes pairs (v .«num_challenges») (total (take j widths) * 2) (getD widths j 0))
-      (sideTree nodes pairs (v .«num_challenges») (total (take j widths) * 2 + 1) (getD widths j 0))))
+      (ap (λ (m : ℕ). groupNodes m (nodesIn item (inputSides nodes widths pairs user s n)) (weight item (tableSide nodes widths pairs user s)))
+      (sym (tabulate-length (λ i. inputSide nodes widths pairs user (s + i)) n))
+      ∙ sym (group-weight item (numberOfM v j) (numberOfH v j) (inputSides nodes widths pairs user s n) (tableSide nodes widths pairs user s))
+      ∙ ap₂ (λ (s n : ℕ). weight item (groupFromWords v nodes widths pairs j s n)) es en
+      ∙ sym (ap (weight item) (group-tree nodes sizes widths pairs enough members j h (all-get (λ n. 0 < n) sizes positive j 0 h) v)))
 
   -- the user's own constraints
   pub own-nodes : (nodes roots : List ℕ)
@@ -139,50 +192,50 @@ module _ (item : ℕ) where
       ∙ ap (map (exprOf nodes)) (tabulate-of roots 0))
 
   -- all of it
-  module _ {c : Circuit} {v : CircuitParams} {names nodes roots widths pairs : List ℕ} where
-    counted : Limits v → DecodedFrom c v names nodes roots widths pairs
+  module _ {c : Circuit} {v : CircuitParams} {names nodes roots sizes widths pairs : List ℕ} where
+    counted : Limits v → DecodedFrom c v names nodes roots sizes widths pairs
         → weight item (compose c)
-        ≡ nodesIn item (map (exprOf nodes) roots) + nodesIn item (tabulate (lookupTreeOf v (lookupsOf nodes widths pairs)) (v .«num_lookups»))
+        ≡ nodesIn item (map (exprOf nodes) roots) + nodesIn item (tabulate (lookupTreeOf v (groupsFromWords nodes sizes widths pairs)) (v .«num_groups»))
         + permutationNodes v
         + listNodes item (numConstraints (length roots) v)
         + 2
-        + v .«num_lookups»
-        + listNodes item (suc (v .«num_lookups»))
+        + v .«num_groups»
+        + listNodes item (suc (v .«num_groups»))
     counted l p =
-        let es : List Expr = constraintsFromWords v names nodes roots widths pairs in
+        let es : List Expr = constraintsFromWords v names nodes roots sizes widths pairs in
         let a = ap (weight item) (composed-is p) in
         let b = compose-size item v es in
-        let d = constraints-nodes item v l names (map (exprOf nodes) roots) (lookupsOf nodes widths pairs) in
-        let e = ap (listNodes item) (constraints-length v names nodes roots widths pairs) in
+        let d = constraints-nodes item v l names (map (exprOf nodes) roots) (groupsFromWords nodes sizes widths pairs) in
+        let e = ap (listNodes item) (constraints-length v names nodes roots sizes widths pairs) in
         omega arith
 
-    pub composed-counted : (r own looks perm x y z u m k : ℕ) → Limits v → DecodedFrom c v names nodes roots widths pairs
+    pub composed-counted : (r own looks perm x y z u m k : ℕ) → Limits v → DecodedFrom c v names nodes roots sizes widths pairs
         → own ≡ min largestSize (nodesIn item (tabulate (λ i. exprOf nodes (getD roots (0 + i * 1) 0)) (length roots)))
-        → looks ≡ min largestSize (nodesIn item (tabulate (lookupTreeOf v (lookupsOf nodes widths pairs)) (v .«num_lookups»)))
+        → looks ≡ min largestSize (nodesIn item (tabulate (lookupTreeOf v (groupsFromWords nodes sizes widths pairs)) (v .«num_groups»)))
         → perm ≡ permutationNodes v
         → m ≡ min largestSize (listNodes item (numConstraints (length roots) v))
-        → k ≡ min largestSize (listNodes item (v .«num_lookups» + 1))
+        → k ≡ min largestSize (listNodes item (v .«num_groups» + 1))
         → x ≡ min largestSize (own + looks)
         → y ≡ min largestSize (x + perm)
         → z ≡ min largestSize (y + m)
-        → u ≡ min largestSize (z + (v .«num_lookups» + 2))
+        → u ≡ min largestSize (z + (v .«num_groups» + 2))
         → r ≡ min largestSize (u + k)
         → r ≡ min largestSize (weight item (compose c))
     composed-counted r own looks perm x y z u m k l p ho hl hp hm hk hx hy hz hu hr =
         let A : ℕ = nodesIn item (map (exprOf nodes) roots) in
-        let B : ℕ = nodesIn item (tabulate (lookupTreeOf v (lookupsOf nodes widths pairs)) (v .«num_lookups»)) in
+        let B : ℕ = nodesIn item (tabulate (lookupTreeOf v (groupsFromWords nodes sizes widths pairs)) (v .«num_groups»)) in
         let M : ℕ = listNodes item (numConstraints (length roots) v) in
-        let K : ℕ = listNodes item (v .«num_lookups» + 1) in
+        let K : ℕ = listNodes item (v .«num_groups» + 1) in
         let ex : x ≡ min largestSize (A + B) = capped x own looks A B hx (ho ∙ ap (min largestSize) (own-nodes nodes roots)) hl in
         let ey : y ≡ min largestSize (A + B + permutationNodes v) = plain y x perm (A + B) (permutationNodes v) hy ex hp in
         let ez : z ≡ min largestSize (A + B + permutationNodes v + M) = capped z y m (A + B + permutationNodes v) M hz ey hm in
-        let eu : u ≡ min largestSize (A + B + permutationNodes v + M + (v .«num_lookups» + 2)) =
-        plain u z (v .«num_lookups» + 2) (A + B + permutationNodes v + M) (v .«num_lookups» + 2) hu ez refl in
-        let er : r ≡ min largestSize (A + B + permutationNodes v + M + (v .«num_lookups» + 2) + K) =
-        capped r u k (A + B + permutationNodes v + M + (v .«num_lookups» + 2)) K hr eu hk in
+        let eu : u ≡ min largestSize (A + B + permutationNodes v + M + (v .«num_groups» + 2)) =
+        plain u z (v .«num_groups» + 2) (A + B + permutationNodes v + M) (v .«num_groups» + 2) hu ez refl in
+        let er : r ≡ min largestSize (A + B + permutationNodes v + M + (v .«num_groups» + 2) + K) =
+        capped r u k (A + B + permutationNodes v + M + (v .«num_groups» + 2)) K hr eu hk in
         er
         ∙ ap (min largestSize)
-        (sum A B (permutationNodes v) M (v .«num_lookups») K ∙ ap (λ (n : ℕ). A + B + permutationNodes v + M + 2 + v .«num_lookups» + listNodes item n) (add-one (v .«num_lookups»)) ∙ sym (counted l p))
+        (sum A B (permutationNodes v) M (v .«num_groups») K ∙ ap (λ (n : ℕ). A + B + permutationNodes v + M + 2 + v .«num_groups» + listNodes item n) (add-one (v .«num_groups»)) ∙ sym (counted l p))
       where
         plain : (r a b A B : ℕ) → r ≡ min largestSize (a + b) → a ≡ min largestSize A → b ≡ B → r ≡ min largestSize (A + B)
         plain r a b A B h p q = omega arith

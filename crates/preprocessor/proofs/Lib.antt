@@ -4,6 +4,7 @@ pub mod Walks
 pub mod Copied
 pub mod Lists
 pub mod Parts
+pub mod Groups
 pub mod ComposeWords
 pub mod Composed
 pub mod Nodes

@@ -7,7 +7,7 @@ use native.Mathlib.Nat.{suc-mul}
 use native.Mathlib.Omega.{arith}
 use lib.Dec.{eqb, ltb}
 use lib.IntN.{pos}
-use lib.ListN.{length, getD, take, drop, length-append}
+use lib.ListN.{length, getD, take, drop, length-append, length-map}
 use Rattle.lists.specs.Lists.{tabulate, total, cut, range, concat, ceilDiv}
 use Rattle.lists.proofs.Lists.{concat-length}
 use Rattle.lists.proofs.Columns.{tabulate-length, tabulate-cong, tabulate-of, map-tabulate, below-length}
@@ -15,13 +15,14 @@ use Rattle.lists.proofs.Totals.{total-append, concat-cut, cut-length}
 use Rattle.expression.specs.Expr.{Expr, at, exprsOf, distributePowers, productFrom, productOf}
 use Rattle.expression.specs.Flat.{body, size}
 use Rattle.expression.specs.Walks.{weight, weights}
-use Rattle.backend.specs.Circuit.{Circuit, Pair, numChallenges, numLookups, numCopied, copied}
-use Rattle.backend.specs.Constraints.{inputsOf, tablesOf, lookupTree}
-use Rattle.preprocessor.specs.Compose.{compose, composedConstraints, numberOfH, numberOfZ, chunk, identityTree, permutationTree, nextTree, startTree, partTree, lookupTreeOf, permutationTrees, constraintTrees, zeroTree, outerTrees, composeTree, paramsOf}
+use Rattle.backend.specs.Circuit.{Circuit, Pair, numChallenges, numGroups, groupsOf, numCopied, copied}
+use Rattle.backend.specs.Constraints.{inputsOf, tablesOf, sideOf, groupWith}
+use Rattle.preprocessor.specs.Compose.{compose, composedConstraints, numberOfM, numberOfH, numberOfZ, chunk, identityTree, permutationTree, nextTree, startTree, partTree, lookupTreeOf, permutationTrees, constraintTrees, zeroTree, outerTrees, composeTree, paramsOf}
 use Rattle.preprocessor.specs.ComposeWords.{Limits, numConstraints, permutationNodes}
-use Rattle.preprocessor.specs.Count.{nodesIn, listNodes}
+use Rattle.preprocessor.specs.Count.{nodesIn, listNodes, groupNodes}
 use Rattle.preprocessor.specs.declared.CircuitParams.{CircuitParams}
 use Rattle.preprocessor.proofs.Parts.{part-size, start-size}
+use Rattle.preprocessor.proofs.Groups.{group-weight}
 use Rattle.preprocessor.proofs.ComposeWords.{outer-length, zero-weight}
 
 module _ (item : ℕ) where
@@ -76,14 +77,14 @@ module _ (item : ℕ) where
       ∙ ap₂ _+_ (queries-nodes f n) (nodes-one (at (f n)) ∙ query-size (f n))
       ∙ omega arith
 
-  outer-nodes : (v : CircuitParams) (es : List Expr) → nodesIn item (outerTrees v es) ≡ v .«num_lookups» + weight item (zeroTree v es)
+  outer-nodes : (v : CircuitParams) (es : List Expr) → nodesIn item (outerTrees v es) ≡ v .«num_groups» + weight item (zeroTree v es)
   unfolding outerTrees
   outer-nodes v es =
-      nodes-append (tabulate (λ j. at (numberOfH v j)) (v .«num_lookups»)) (zeroTree v es ∷ [])
-      ∙ ap₂ _+_ (queries-nodes (numberOfH v) (v .«num_lookups»)) (nodes-one (zeroTree v es))
+      nodes-append (tabulate (λ j. at (numberOfH v j)) (v .«num_groups»)) (zeroTree v es ∷ [])
+      ∙ ap₂ _+_ (queries-nodes (numberOfH v) (v .«num_groups»)) (nodes-one (zeroTree v es))
 
   pub compose-size : (v : CircuitParams) (es : List Expr)
-      → weight item (composeTree v es) ≡ nodesIn item es + listNodes item (length es) + 2 + v .«num_lookups» + listNodes item (suc (v .«num_lookups»))
+      → weight item (composeTree v es) ≡ nodesIn item es + listNodes item (length es) + 2 + v .«num_groups» + listNodes item (suc (v .«num_groups»))
   unfolding composeTree
   compose-size v es =
       let b : Expr = Expr.challenge (v .«num_challenges» + 2) in
@@ -91,21 +92,39 @@ module _ (item : ℕ) where
       let q = outer-nodes v es in
       let r = zero-weight item v es in
       let s = list-size b (challenge-size (v .«num_challenges» + 2)) es in
-      let t : listNodes item (length (outerTrees v es)) ≡ listNodes item (suc (v .«num_lookups»)) = ap (listNodes item) (outer-length v es) in
+      let t : listNodes item (length (outerTrees v es)) ≡ listNodes item (suc (v .«num_groups»)) = ap (listNodes item) (outer-length v es) in
       omega arith
 
-  -- ---- a lookup
-  pub lookup-nodes : (v : CircuitParams) (lookups : List (List Pair)) (j : ℕ)
-      → weight item (lookupTreeOf v lookups j)
-      ≡ (nodesIn item (inputsOf (getD lookups j [])) + listNodes item (length (inputsOf (getD lookups j [])))) * 2
-      + (nodesIn item (tablesOf (getD lookups j [])) + listNodes item (length (tablesOf (getD lookups j [])))) * 2
-      + 16
-  unfolding lookupTreeOf weight
-  lookup-nodes v lookups j =
-      let b : Expr = Expr.challenge (v .«num_challenges») in
-      let p = list-size b (challenge-size (v .«num_challenges»)) (inputsOf (getD lookups j [])) in
-      let q = list-size b (challenge-size (v .«num_challenges»)) (tablesOf (getD lookups j [])) in
-      omega arith
+  -- ---- a group
+  -- the nodes of a lookup's inputs, and of its table, with gamma
+  abbrev pub inputNodes : List Pair → ℕ
+  inputNodes l = nodesIn item (inputsOf l) + listNodes item (length (inputsOf l)) + 2
+
+  abbrev pub tableNodes : List Pair → ℕ
+  tableNodes l = nodesIn item (tablesOf l) + listNodes item (length (tablesOf l)) + 2
+
+  pub side-nodes : (user : ℕ) (es : List Expr) → weight item (sideOf user es) ≡ nodesIn item es + listNodes item (length es) + 2
+  unfolding weight
+  side-nodes user es = let p = list-size (Expr.challenge user) (challenge-size user) es in omega arith
+
+  sides-nodes : (user : ℕ) (group : List (List Pair)) → nodesIn item (map (λ l. sideOf user (inputsOf l)) group) ≡ total (map inputNodes group)
+  unfolding nodesIn total
+  sides-nodes user [] = refl
+  sides-nodes user (l ∷ ls) = ap₂ _+_ (side-nodes user (inputsOf l)) (sides-nodes user ls)
+
+  -- the constraint of a group
+  abbrev pub nodesOf : List (List Pair) → ℕ
+  nodesOf group = groupNodes (length group) (total (map inputNodes group)) (tableNodes (getD group 0 []))
+
+  pub group-nodes : (v : CircuitParams) (groups : List (List (List Pair))) (j : ℕ) → weight item (lookupTreeOf v groups j) ≡ nodesOf (getD groups j [])
+  unfolding lookupTreeOf groupWith
+  group-nodes v groups j =
+      let user : ℕ = v .«num_challenges» in
+      let group : List (List Pair) = getD groups j [] in
+      group-weight item (numberOfM v j) (numberOfH v j) (map (λ l. sideOf user (inputsOf l)) group) (sideOf user (tablesOf (getD group 0 [])))
+      ∙ ap₂ (λ (n m : ℕ). groupNodes n m (weight item (sideOf user (tablesOf (getD group 0 []))))) (length-map group (λ l. sideOf user (inputsOf l)))
+      (sides-nodes user group)
+      ∙ ap (groupNodes (length group) (total (map inputNodes group))) (side-nodes user (tablesOf (getD group 0 [])))
 
   -- ---- the permutation
   -- where there are no lists, Items do not matter
@@ -198,29 +217,29 @@ module _ (item : ℕ) where
   some-nodes v l names true = refl
   some-nodes v l names false = permutation-nodes v l names
 
-  pub constraints-nodes : (v : CircuitParams) (l : Limits v) (names : List ℕ) (user : List Expr) (lookups : List (List Pair))
-      → nodesIn item (constraintTrees v names user lookups)
-      ≡ nodesIn item user + nodesIn item (tabulate (lookupTreeOf v lookups) (v .«num_lookups»))
+  pub constraints-nodes : (v : CircuitParams) (l : Limits v) (names : List ℕ) (user : List Expr) (groups : List (List (List Pair)))
+      → nodesIn item (constraintTrees v names user groups)
+      ≡ nodesIn item user + nodesIn item (tabulate (lookupTreeOf v groups) (v .«num_groups»))
       + permutationNodes v
   unfolding constraintTrees permutationTrees permutationNodes
-  constraints-nodes v l names user lookups =
+  constraints-nodes v l names user groups =
       let P : List Expr = cond (eqb (v .«num_permutation_polys») 0) [] (startTree v ∷ tabulate (partTree v names) (v .«num_chunks»)) in
-      let a = nodes-append user (tabulate (lookupTreeOf v lookups) (v .«num_lookups») ++ P) in
-      let b = nodes-append (tabulate (lookupTreeOf v lookups) (v .«num_lookups»)) P in
+      let a = nodes-append user (tabulate (lookupTreeOf v groups) (v .«num_groups») ++ P) in
+      let b = nodes-append (tabulate (lookupTreeOf v groups) (v .«num_groups»)) P in
       let c = some-nodes v l names (eqb (v .«num_permutation_polys») 0) in
       omega arith
 
   -- user nodes, lookups, permutation, what the lists add, the product with EqXY(0), the h queries
   pub composed-nodes : (c : Circuit) → Limits (paramsOf c)
       → weight item (compose c)
-      ≡ nodesIn item (c .constraints) + nodesIn item (tabulate (lookupTreeOf (paramsOf c) (c .lookups)) (numLookups c))
+      ≡ nodesIn item (c .constraints) + nodesIn item (tabulate (lookupTreeOf (paramsOf c) (groupsOf c)) (numGroups c))
       + permutationNodes (paramsOf c)
       + listNodes item (length (composedConstraints c))
       + 2
-      + numLookups c
-      + listNodes item (suc (numLookups c))
+      + numGroups c
+      + listNodes item (suc (numGroups c))
   unfolding paramsOf
   composed-nodes c l =
       let p = compose-size (paramsOf c) (composedConstraints c) in
-      let r = constraints-nodes (paramsOf c) l (copied c) (c .constraints) (c .lookups) in
+      let r = constraints-nodes (paramsOf c) l (copied c) (c .constraints) (groupsOf c) in
       omega arith

@@ -3,14 +3,14 @@ use mathlib.Core.Path.{_≡_}
 use mathlib.Core.Bool.{cond}
 use mathlib.Core.List.{List, map}
 use Prim.Native.Nat.{ℕ, suc, _+_, _*_, _≤_, _<_}
-use lib.ListN.{length, getD, drop}
+use lib.ListN.{length, getD, take, drop}
 use lib.Dec.{eqb}
 use Rattle.lists.specs.Lists.{tabulate, ceilDiv, split, total, writeWindow, All}
-use Rattle.expression.specs.Expr.{Expr, Exprs, exprsOf}
+use Rattle.expression.specs.Expr.{Expr, Exprs, at, exprsOf}
 use Rattle.expression.specs.Nodes.{exprOf}
-use Rattle.backend.specs.Circuit.{Circuit, Pair, pairsOf, maxPolys, copied, groupsOf}
-use Rattle.backend.specs.Constraints.{sideOf}
-use Rattle.preprocessor.specs.Compose.{paramsOf, constraintTrees, composedWords, composedNodes}
+use Rattle.backend.specs.Circuit.{Circuit, Pair, pairsOf, maxPolys, copied, groupSizes, numGroups, groupsOf}
+use Rattle.backend.specs.Constraints.{sideOf, groupTree}
+use Rattle.preprocessor.specs.Compose.{paramsOf, numberOfM, numberOfH, constraintTrees, composedWords, composedNodes}
 use Rattle.preprocessor.specs.declared.CircuitParams.{CircuitParams}
 
 -- "lookup pairs (input root, table root)", parted by the widths
@@ -28,6 +28,22 @@ sideExprs nodes pairs s w = tabulate (λ i. exprOf nodes (getD pairs (s + i * 2)
 -- those by powers of beta, and gamma
 unfoldable pub sideTree : List ℕ → List ℕ → ℕ → ℕ → ℕ → Expr
 sideTree nodes pairs user s w = sideOf user (sideExprs nodes pairs s w)
+
+-- the same of lookup i's inputs and tables, by the widths
+unfoldable pub inputSide : List ℕ → List ℕ → List ℕ → ℕ → ℕ → Expr
+inputSide nodes widths pairs user i = sideTree nodes pairs user (total (take i widths) * 2) (getD widths i 0)
+
+unfoldable pub tableSide : List ℕ → List ℕ → List ℕ → ℕ → ℕ → Expr
+tableSide nodes widths pairs user i = sideTree nodes pairs user (total (take i widths) * 2 + 1) (getD widths i 0)
+
+-- the inputs of n lookups from lookup `first` on, and the constraint of group j that they make
+abbrev pub inputSides : List ℕ → List ℕ → List ℕ → ℕ → ℕ → ℕ → List Expr
+inputSides nodes widths pairs user first n = tabulate (λ i. inputSide nodes widths pairs user (first + i)) n
+
+unfoldable pub groupFromWords : CircuitParams → List ℕ → List ℕ → List ℕ → ℕ → ℕ → ℕ → Expr
+groupFromWords params nodes widths pairs j first n =
+    groupTree (at (numberOfM params j)) (at (numberOfH params j)) (inputSides nodes widths pairs (params .«num_challenges») first n)
+    (tableSide nodes widths pairs (params .«num_challenges») first)
 
 -- the constraints of the words that the code is handed
 abbrev pub constraintsFromWords : CircuitParams → List ℕ → List ℕ → List ℕ → List ℕ → List ℕ → List ℕ → List Expr
@@ -76,6 +92,12 @@ numConstraints own params = own + params .«num_groups» + cond (eqb (params .«
 -- the nodes of the permutation's constraints
 unfoldable pub permutationNodes : CircuitParams → ℕ
 permutationNodes params = cond (eqb (params .«num_permutation_polys») 0) 0 (6 + params .«num_permutation_polys» * 18 + params .«num_chunks» * 4)
+
+-- what the group numbers must tell: "first 0, each next the same or one more", one for each lookup
+pub record GroupsValid (c : Circuit) : Type 0 where
+  pub some : All (λ n. 0 < n) (groupSizes (c .groups))
+  pub all : total (groupSizes (c .groups)) ≡ length (c .lookups)
+  pub few : numGroups c ≤ length (c .lookups)
 
 -- the numbers and the words are those of a circuit
 pub record DecodedFrom (c : Circuit) (params : CircuitParams) (names nodes roots sizes widths pairs : List ℕ) : Type 0 where

@@ -14,3 +14,7 @@ unfoldable pub listNodes : ℕ → ℕ → ℕ
 listNodes item zero = 1
 listNodes item (suc zero) = 0
 listNodes item (suc (suc n)) = suc (suc n) * item + 2
+
+-- the nodes of a group's constraint, of s lookups whose inputs take so many and whose table takes so many
+unfoldable pub groupNodes : ℕ → ℕ → ℕ → ℕ
+groupNodes s inputs table = suc s * (inputs + s) + table * 2 + 6
