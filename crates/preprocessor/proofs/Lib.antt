@@ -8,5 +8,6 @@ pub mod Groups
 pub mod ComposeWords
 pub mod Composed
 pub mod Nodes
+pub mod GroupWritten
 pub mod Counts
 pub mod Bound
