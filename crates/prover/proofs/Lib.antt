@@ -9,5 +9,7 @@ pub mod PowerSums
 pub mod Z
 pub mod Instance
 pub mod Denominators
+pub mod Multiplicity
+pub mod Groups
 pub mod NoneZero
 pub mod FactorZero
