@@ -135,14 +135,14 @@ pub record Claims : Type 1 where
   pub visits-same : VisitsSame
   pub visits-written : VisitsWritten
   -- the papers
-  pub counts-turn : (𝓕 : Field) (el : ℕ → 𝓕 .F) (rows : ℕ) (input table : ℕ → 𝓕 .F) → CountsTurn 𝓕 el rows input table
-  pub same-totals : (𝓕 : Field) (el : ℕ → 𝓕 .F) (rows : ℕ) (input table : ℕ → 𝓕 .F) → SameTotals 𝓕 el rows input table
-  pub is-habock-h : (𝓕 : Field) (γ : 𝓕 .F) (input table m : ℕ → 𝓕 .F) → IsHabockH 𝓕 γ input table m
-  pub only-habock-h : (𝓕 : Field) (γ : 𝓕 .F) (input table m : ℕ → 𝓕 .F) → OnlyHabockH 𝓕 γ input table m
-  pub habock-identity : (𝓕 : Field) (el : ℕ → 𝓕 .F) (rows : ℕ) (input table : ℕ → 𝓕 .F) (γ : 𝓕 .F) → HabockIdentity 𝓕 el rows input table γ
-  pub habock-sum : (𝓕 : Field) (el : ℕ → 𝓕 .F) (rows : ℕ) (input table : ℕ → 𝓕 .F) (γ : 𝓕 .F) → HabockSum 𝓕 el rows input table γ
-  pub totals-decide : (𝓕 : Field) (el : ℕ → 𝓕 .F) (rows : ℕ) (input table : ℕ → 𝓕 .F) → TotalsDecide 𝓕 el rows input table
-  pub shared-identity : (𝓕 : Field) (el : ℕ → 𝓕 .F) (rows : ℕ) (input table : ℕ → 𝓕 .F) (γ : 𝓕 .F) → SharedIdentity 𝓕 el rows input table γ
+  pub counts-turn : (𝓕 : Field) (el : ℕ → 𝓕 .F) (rows : ℕ) (inputs : List (ℕ → 𝓕 .F)) (table : ℕ → 𝓕 .F) → CountsTurn 𝓕 el rows inputs table
+  pub same-totals : (𝓕 : Field) (el : ℕ → 𝓕 .F) (rows : ℕ) (inputs : List (ℕ → 𝓕 .F)) (table : ℕ → 𝓕 .F) → SameTotals 𝓕 el rows inputs table
+  pub is-habock-h : (𝓕 : Field) (γ : 𝓕 .F) (inputs : List (ℕ → 𝓕 .F)) (table m : ℕ → 𝓕 .F) → IsHabockH 𝓕 γ inputs table m
+  pub only-habock-h : (𝓕 : Field) (γ : 𝓕 .F) (inputs : List (ℕ → 𝓕 .F)) (table m : ℕ → 𝓕 .F) → OnlyHabockH 𝓕 γ inputs table m
+  pub habock-identity : (𝓕 : Field) (el : ℕ → 𝓕 .F) (rows : ℕ) (inputs : List (ℕ → 𝓕 .F)) (table : ℕ → 𝓕 .F) (γ : 𝓕 .F) → HabockIdentity 𝓕 el rows inputs table γ
+  pub habock-sum : (𝓕 : Field) (el : ℕ → 𝓕 .F) (rows : ℕ) (inputs : List (ℕ → 𝓕 .F)) (table : ℕ → 𝓕 .F) (γ : 𝓕 .F) → HabockSum 𝓕 el rows inputs table γ
+  pub totals-decide : (𝓕 : Field) (el : ℕ → 𝓕 .F) (rows : ℕ) (inputs : List (ℕ → 𝓕 .F)) (table : ℕ → 𝓕 .F) → TotalsDecide 𝓕 el rows inputs table
+  pub shared-identity : (𝓕 : Field) (el : ℕ → 𝓕 .F) (rows : ℕ) (inputs : List (ℕ → 𝓕 .F)) (table : ℕ → 𝓕 .F) (γ : 𝓕 .F) → SharedIdentity 𝓕 el rows inputs table γ
   pub is-plonk-z : (𝓕 : Field) (g : Log 𝓕) → IsPlonkZ 𝓕 g
   -- the copies, and the insurer's third question: "Why must the running product close at one?"
   pub running-product : RunningProduct
