@@ -1,21 +1,26 @@
 -- Groups over any field: the counts of a group of s inputs add up to s × rows and turn the table into the inputs; its h sums to zero
 -- and is the one value that meets its constraint; a group of one is a lookup.
 use mathlib.Core.Path.{_≡_, refl, sym, ap, ap₂, _∙_}
-use mathlib.Core.Logic.{_≢_, _↔_, ite, if-pos, if-neg}
-use mathlib.Core.Bool.{Bool, true, false, cond, decide, _&&_}
+use mathlib.Core.Logic.{_≢_, _⊎_, _↔_, inl, inr, ⊎-elim, ite, if-pos, if-neg}
+use mathlib.Core.Bool.{Bool, true, false, cond, decide, _&&_, _||_}
 use mathlib.Core.List.{List, [], _∷_, _++_, map, map-map, append-nil}
 use mathlib.Core.Option.{Option, none, some}
 use Prim.Native.Nat.{ℕ, zero, _+_, _*_, _≤_, _<_}
 use native.Mathlib.Nat.{add-zero, zero-add, add-comm, suc-mul, zero-mul}
+use native.Mathlib.Numerals.{add-one}
 use native.Mathlib.Omega.{arith}
-use lib.ListN.{length}
+use lib.ListN.{length, getD, length-append}
 use Rattle.field.specs.Algebra.{Field, add-mul, product, product-append, mul-zero, one-mul}
 use Rattle.field.specs.Algebra as Algebra
 use Rattle.field.proofs.Solve.{var, _:+_, _:*_, minus, solve}
 use Rattle.bh.specs.Sums.{upTo}
-use Rattle.lists.specs.Lists.{tabulate, allOf, total, concat, All}
-use Rattle.lists.proofs.All.{all-weaken, map-same}
-use Rattle.lists.proofs.Tests.{false-true, by-test, cond-ite, all-true, true-all}
+use Rattle.lists.specs.Lists.{tabulate, range, allOf, anyOf, countOf, total, concat, isAt, All}
+use Rattle.lists.proofs.All.{all-from, all-weaken, map-same}
+use Rattle.lists.proofs.Tests.{false-true, by-test, cond-ite, all-true, true-all, all-each, all-not, any-at, any-append}
+use Rattle.lists.proofs.Columns.{tabulate-length, below-length}
+use Rattle.lists.proofs.Searches.{any-stop, count-le}
+use Rattle.lists.proofs.Some.{or-cases, some-at, some-tabulate}
+use Rattle.lists.proofs.Walks.{any-map, any-lists}
 use Rattle.backend.specs.Constraints.{omitOne}
 use Rattle.identities.specs.Counts.{lastRow, multiplicities, Stands, IsLast}
 use Rattle.identities.specs.Lookup.{num}
@@ -26,6 +31,7 @@ use Rattle.identities.proofs.Lookup.{sum-neg, count-field}
 use Rattle.prover.specs.Lookup.{
   sumCounts,
   same,
+  lastEqual,
   multiplicity,
   covered,
   hAt,
@@ -40,7 +46,7 @@ use Rattle.prover.specs.Lookup.{
 }
 use Rattle.prover.specs.Denominators.{someZero, lookupDenominators, groupDenominators}
 use Rattle.prover.proofs.Multiplicity.{counts-agree, covered-stand, stand-covered, counts-sum}
-use Rattle.prover.proofs.Denominators.{some-zero, product-tabulate}
+use Rattle.prover.proofs.Denominators.{is-zero, nil-when, some-zero, product-tabulate}
 
 -- ---- whole numbers as elements
 module _ (𝓕 : Field) where
@@ -78,6 +84,15 @@ module _ {A : Type 0} where
   total-same n f [] a = sym (zero-mul n)
   total-same n f (x ∷ xs) a =
       ap₂ _+_ (a .0) (total-same n f xs (a .1)) ∙ add-comm n (length xs * n) ∙ sym (suc-mul (length xs) n)
+
+  pub total-below : (n : ℕ) (f : A → ℕ) → ((x : A) → f x ≤ n) → (xs : List A) → total (map f xs) ≤ length xs * n
+  unfolding total
+  total-below n f h [] = omega arith
+  total-below n f h (x ∷ xs) =
+      let a = h x in
+      let b = total-below n f h xs in
+      let c = suc-mul (length xs) n in
+      omega arith
 
   module _ (𝓕 : Field) where
     open Field 𝓕 using (F, zero as nil, one, add, mul, neg, inv)
@@ -117,6 +132,17 @@ module _ (𝓕 : Field) where
         ∙ total-same rows (λ input. sumCounts rows (multiplicity 𝓕 rows input table)) inputs
         (all-weaken (λ input. covered 𝓕 rows input table ≡ true) (λ input. sumCounts rows (multiplicity 𝓕 rows input table) ≡ rows)
         (λ input c. counts-sum 𝓕 rows input table c) inputs (group-each e))
+
+    -- no count is above s × rows
+    pub group-count-le : (j : ℕ) → groupMultiplicity 𝓕 rows inputs table j ≤ length inputs * rows
+    unfolding groupMultiplicity multiplicity
+    group-count-le j =
+        total-below rows (λ input. countOf (λ b. isAt j (lastEqual 𝓕 rows table (input b))) (range rows))
+        (λ input.
+        let a = count-le (λ b. isAt j (lastEqual 𝓕 rows table (input b))) (range rows) in
+        let l = below-length rows in
+        omega arith)
+        inputs
 
     -- for one input: the counts at the rows where the table is v
     one-turns : (v : F) (input : ℕ → F) → covered 𝓕 rows input table ≡ true
@@ -369,3 +395,104 @@ module _ (𝓕 : Field) where
 
       outs : List F
       outs = tabulate (λ b. add γ (table b)) rows
+
+  columns-length : (rows : ℕ) (γ : F) (is : List (ℕ → F))
+      → length (concat (map (λ input. tabulate (λ b. add γ (input b)) rows) is)) ≡ length is * rows
+  unfolding concat
+  columns-length rows γ [] = sym (zero-mul rows)
+  columns-length rows γ (i ∷ is) =
+      length-append (tabulate (λ b. add γ (i b)) rows) (concat (map (λ input. tabulate (λ b. add γ (input b)) rows) is))
+      ∙ ap₂ _+_ (tabulate-length (λ b. add γ (i b)) rows) (columns-length rows γ is) ∙ add-comm rows (length is * rows)
+      ∙ sym (suc-mul (length is) rows)
+
+  -- a denominator is zero exactly if there is an input and a row, or a row of the table
+  module _ (rows : ℕ) (γ : F) (inputs : List (ℕ → F)) (table : ℕ → F) (d : ℕ → F) where
+    abbrev isNil : F → Bool
+    isNil x = same 𝓕 x nil
+
+    abbrev ofColumn : (ℕ → F) → List F
+    ofColumn f = tabulate (λ b. add γ (f b)) rows
+
+    abbrev AtRow : (ℕ → F) → Type 0
+    AtRow f = (b : ℕ) × (b < rows) × (add γ (f b) ≡ nil)
+
+    column-row : (f : ℕ → F) → anyOf isNil (ofColumn f) ≡ true → AtRow f
+    column-row f h = let r = some-tabulate isNil (λ b. add γ (f b)) rows h in (r .0, r .1, nil-when 𝓕 (add γ (f (r .0))) (r .2))
+
+    row-column : (f : ℕ → F) → AtRow f → anyOf isNil (ofColumn f) ≡ true
+    row-column f h = sym (any-stop isNil (λ b. add γ (f b)) rows (h .0) (is-zero 𝓕 (add γ (f (h .0))) (h .2)) (h .1))
+
+    -- the test, one column after another
+    group-tests : someZero 𝓕 (groupDenominators 𝓕 rows γ inputs table)
+        ≡ (anyOf (λ input. anyOf isNil (ofColumn input)) inputs || anyOf isNil (ofColumn table))
+    unfolding someZero groupDenominators
+    group-tests =
+        any-append isNil (concat (map ofColumn inputs)) (ofColumn table)
+        ∙ ap (λ (t : Bool). t || anyOf isNil (ofColumn table))
+        (sym (any-lists isNil (map ofColumn inputs)) ∙ any-map (anyOf isNil) ofColumn inputs)
+
+    pub group-some : (someZero 𝓕 (groupDenominators 𝓕 rows γ inputs table) ≡ true)
+        ↔ (((i : ℕ) × (i < length inputs) × ((b : ℕ) × (b < rows) × (add γ (getD inputs i d b) ≡ nil)))
+        ⊎ ((b : ℕ) × (b < rows) × (add γ (table b) ≡ nil)))
+    group-some = (
+      λ e.
+          ⊎-elim
+          (λ h. let r = some-at (λ input. anyOf isNil (ofColumn input)) d inputs h in inl (r .0, r .1, column-row (getD inputs (r .0) d) (r .2)))
+          (λ h. inr (column-row table h))
+          (or-cases (anyOf (λ input. anyOf isNil (ofColumn input)) inputs) (anyOf isNil (ofColumn table)) (sym group-tests ∙ e)),
+      λ s. group-tests ∙ ⊎-elim left right s,
+    )
+      where
+        left : (i : ℕ) × (i < length inputs) × AtRow (getD inputs i d)
+            → (anyOf (λ input. anyOf isNil (ofColumn input)) inputs || anyOf isNil (ofColumn table)) ≡ true
+        left h =
+            ap (λ (t : Bool). t || anyOf isNil (ofColumn table))
+            (any-at (λ input. anyOf isNil (ofColumn input)) d inputs (h .0) (h .1) (row-column (getD inputs (h .0) d) (h .2)))
+
+        right : AtRow table → (anyOf (λ input. anyOf isNil (ofColumn input)) inputs || anyOf isNil (ofColumn table)) ≡ true
+        right h =
+            ap (λ (t : Bool). anyOf (λ input. anyOf isNil (ofColumn input)) inputs || t) (row-column table h)
+            ∙ go (anyOf (λ input. anyOf isNil (ofColumn input)) inputs)
+          where
+            go : (t : Bool) → (t || true) ≡ true
+            go true = refl
+            go false = refl
+
+    -- how many there are
+    pub group-length : length (groupDenominators 𝓕 rows γ inputs table) ≡ (length inputs + 1) * rows
+    unfolding groupDenominators
+    group-length =
+        length-append (concat (map ofColumn inputs)) (ofColumn table)
+        ∙ ap₂ _+_ (columns-length rows γ inputs) (tabulate-length (λ b. add γ (table b)) rows) ∙ sym (suc-mul (length inputs) rows)
+        ∙ ap (λ (n : ℕ). n * rows) (sym (add-one (length inputs)))
+
+  -- ---- several groups, each with its inputs and its table
+  module _ {G : Type 0} (rows : ℕ) (ins : G → List (ℕ → F)) (tab : G → ℕ → F) (d : G) (gs : List G) where
+    -- not all are covered exactly if for one of them no column of whole counts turns its table into its inputs
+    pub groups-refused : (allOf (λ g. groupCovered 𝓕 rows (ins g) (tab g)) gs ≡ false)
+        ↔ ((j : ℕ) × (j < length gs) × ((m : ℕ → ℕ) → Turns 𝓕 rows (ins (getD gs j d)) (tab (getD gs j d)) m → ⊥))
+    groups-refused = (
+      λ e.
+          let r = all-not (λ g. groupCovered 𝓕 rows (ins g) (tab g)) d gs e in
+          (r .0, r .1, group-uncovered rows (ins (getD gs (r .0) d)) (tab (getD gs (r .0) d)) .0 (r .2)),
+      λ n.
+          by-test (allOf (λ g. groupCovered 𝓕 rows (ins g) (tab g)) gs)
+          (λ e.
+          false-true
+          (sym (group-uncovered rows (ins (getD gs (n .0) d)) (tab (getD gs (n .0) d)) .1 (n .2))
+          ∙ all-each (λ g. groupCovered 𝓕 rows (ins g) (tab g)) d gs e (n .0) (n .1)))
+          (λ e. e),
+    )
+
+    -- all are exactly if for each some column does
+    pub groups-counted : (allOf (λ g. groupCovered 𝓕 rows (ins g) (tab g)) gs ≡ true)
+        ↔ ((i : ℕ) → i < length gs → (m : ℕ → ℕ) × Turns 𝓕 rows (ins (getD gs i d)) (tab (getD gs i d)) m)
+    groups-counted = (
+      λ e i l.
+          group-covered-turns rows (ins (getD gs i d)) (tab (getD gs i d)) .0
+          (all-each (λ g. groupCovered 𝓕 rows (ins g) (tab g)) d gs e i l),
+      λ h.
+          true-all (λ g. groupCovered 𝓕 rows (ins g) (tab g)) gs
+          (all-from (λ g. groupCovered 𝓕 rows (ins g) (tab g) ≡ true) gs d
+          (λ i l. group-covered-turns rows (ins (getD gs i d)) (tab (getD gs i d)) .1 (h i l))),
+    )
