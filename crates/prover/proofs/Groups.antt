@@ -405,6 +405,16 @@ module _ (𝓕 : Field) where
       ∙ ap₂ _+_ (tabulate-length (λ b. add γ (i b)) rows) (columns-length rows γ is) ∙ add-comm rows (length is * rows)
       ∙ sym (suc-mul (length is) rows)
 
+  -- how many denominators there are
+  pub group-length : (rows : ℕ) (γ : F) (inputs : List (ℕ → F)) (table : ℕ → F)
+      → length (groupDenominators 𝓕 rows γ inputs table) ≡ (length inputs + 1) * rows
+  unfolding groupDenominators
+  group-length rows γ inputs table =
+      length-append (concat (map (λ input. tabulate (λ b. add γ (input b)) rows) inputs)) (tabulate (λ b. add γ (table b)) rows)
+      ∙ ap₂ _+_ (columns-length rows γ inputs) (tabulate-length (λ b. add γ (table b)) rows)
+      ∙ sym (suc-mul (length inputs) rows)
+      ∙ ap (λ (n : ℕ). n * rows) (sym (add-one (length inputs)))
+
   -- a denominator is zero exactly if there is an input and a row, or a row of the table
   module _ (rows : ℕ) (γ : F) (inputs : List (ℕ → F)) (table : ℕ → F) (d : ℕ → F) where
     abbrev isNil : F → Bool
@@ -457,14 +467,6 @@ module _ (𝓕 : Field) where
             go : (t : Bool) → (t || true) ≡ true
             go true = refl
             go false = refl
-
-    -- how many there are
-    pub group-length : length (groupDenominators 𝓕 rows γ inputs table) ≡ (length inputs + 1) * rows
-    unfolding groupDenominators
-    group-length =
-        length-append (concat (map ofColumn inputs)) (ofColumn table)
-        ∙ ap₂ _+_ (columns-length rows γ inputs) (tabulate-length (λ b. add γ (table b)) rows) ∙ sym (suc-mul (length inputs) rows)
-        ∙ ap (λ (n : ℕ). n * rows) (sym (add-one (length inputs)))
 
   -- ---- several groups, each with its inputs and its table
   module _ {G : Type 0} (rows : ℕ) (ins : G → List (ℕ → F)) (tab : G → ℕ → F) (d : G) (gs : List G) where
