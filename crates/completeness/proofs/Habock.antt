@@ -11,7 +11,7 @@ use native.Mathlib.Nat.{add-zero}
 use native.Mathlib.Decide.{ℕ-discrete}
 use native.Mathlib.Omega.{arith}
 use borrow.Author.Tests.{eq-eqb, ne-eqb}
-use Rattle.field.specs.Algebra.{Field, one-mul, zero-mul, mul-left-comm, mul-one}
+use Rattle.field.specs.Algebra.{Field, one-mul, zero-mul, mul-left-comm, mul-one, sum}
 use Rattle.bh.specs.Sums.{upTo}
 use Rattle.lists.specs.Lists.{isAt, range, countOf, total, All}
 use Rattle.lists.proofs.All.{all-mapped}
@@ -22,7 +22,7 @@ use Rattle.identities.specs.Lookup.{num}
 use Rattle.identities.specs.Counts.{lastRow, IsLast}
 use Rattle.identities.proofs.Counts.{last-is}
 use Rattle.identities.proofs.Lookup.{sum-neg}
-use Rattle.prover.specs.Lookup.{sumCounts, same, groupCovered, groupMultiplicity, sumList, groupHAt, sumRows, Turns}
+use Rattle.prover.specs.Lookup.{sumCounts, same, groupCovered, groupMultiplicity, groupHAt, sumRows, Turns}
 use Rattle.prover.proofs.Groups.{list-rows, group-turns, turns-covered, group-identity, group-h-sum, group-h-holds, group-h-only}
 use Rattle.hyperplonk_spec.specs.Meaning.{Embeds}
 use Rattle.hyperplonk_spec.specs.Papers.{
@@ -81,7 +81,7 @@ module _ (𝓕 : Field) where
     fractions : (b : ℕ) → groupHAt 𝓕 γ inputs table m b ≡ paperH 𝓕 γ inputs table m b
     unfolding groupHAt paperH
     fractions b =
-        ap (λ (xs : List F). add (sumList 𝓕 xs) (neg (mul (m b) (inv (add γ (table b))))))
+        ap (λ (xs : List F). add (sum 𝓕 xs) (neg (mul (m b) (inv (add γ (table b))))))
         (each-same (λ (input : ℕ → F). inv (add γ (input b))) (λ (input : ℕ → F). mul one (inv (add γ (input b))))
         (λ input. sym (one-mul 𝓕 (inv (add γ (input b))))) inputs)
 
@@ -103,7 +103,7 @@ module _ (𝓕 : Field) where
 
     pub habock-identity : (γ : F) → HabockIdentity 𝓕 el rows inputs table γ
     habock-identity γ h e =
-        ap (sumList 𝓕)
+        ap (sum 𝓕)
         (each-same (λ (input : ℕ → F). sumRows 𝓕 rows (λ b. mul one (inv (add γ (input b)))))
         (λ (input : ℕ → F). sumRows 𝓕 rows (λ b. inv (add γ (input b))))
         (λ input. upTo-cong add nil (λ b. mul one (inv (add γ (input b)))) (λ b. inv (add γ (input b))) rows
@@ -119,7 +119,7 @@ module _ (𝓕 : Field) where
         upTo-cong add nil (groupHAt 𝓕 γ inputs table (λ r. el (groupMultiplicity 𝓕 rows inputs table r)))
         (groupHAt 𝓕 γ inputs table (λ r. num 𝓕 (groupMultiplicity 𝓕 rows inputs table r))) rows
         (λ b l.
-        ap (λ (m : F). add (sumList 𝓕 (map (λ input. inv (add γ (input b))) inputs)) (neg (mul m (inv (add γ (table b))))))
+        ap (λ (m : F). add (sum 𝓕 (map (λ input. inv (add γ (input b))) inputs)) (neg (mul m (inv (add γ (table b))))))
         (embeds-num 𝓕 el h (groupMultiplicity 𝓕 rows inputs table b)))
         ∙ group-h-sum 𝓕 rows inputs table γ e
 
@@ -299,7 +299,7 @@ module _ (𝓕 : Field) where
         }
       where
         ones : ℕ → F
-        ones b = sumList 𝓕 (map (λ input. mul one (inv (add γ (input b)))) inputs)
+        ones b = sum 𝓕 (map (λ input. mul one (inv (add γ (input b)))) inputs)
 
         parts : ℕ → F
         parts r = mul (normalizedMultiplicity 𝓕 el rows inputs table r) (inv (add γ (table r)))

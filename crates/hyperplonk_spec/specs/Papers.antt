@@ -6,14 +6,14 @@ use mathlib.Core.Bool.{true, cond}
 use mathlib.Core.List.{List, [], _∷_, map}
 use Prim.Native.Nat.{ℕ, zero, suc, _<_}
 use lib.ListN.{length, take}
-use Rattle.field.specs.Algebra.{Field}
+use Rattle.field.specs.Algebra.{Field, sum}
 use Rattle.field.specs.Algebra as Algebra
 use Rattle.bh.specs.Sums.{upTo}
 use Rattle.bh.specs.Rows.{rowAt}
 use Rattle.lists.specs.Lists.{range, concat, countOf, total, All}
 use Rattle.backend.specs.Circuit.{Circuit, rowsOf, numCopied}
 use Rattle.preprocessor.specs.Compose.{numZ, zCut}
-use Rattle.prover.specs.Lookup.{same, groupCovered, groupMultiplicity, sumList, groupHAt, GroupHolds, Turns, sumRows}
+use Rattle.prover.specs.Lookup.{same, groupCovered, groupMultiplicity, groupHAt, GroupHolds, Turns, sumRows}
 use Rattle.prover.specs.Log.{Log}
 use Rattle.prover.specs.Columns.{ratioAt, zAtPlace}
 use Rattle.hyperplonk_spec.specs.Meaning.{Embeds}
@@ -37,7 +37,7 @@ module _ (𝓕 : Field) where
     -- minus m/(γ + table)
     unfoldable pub paperH : ℕ → F
     paperH b =
-        add (sumList 𝓕 (map (λ input. fraction one (add γ (input b))) inputs)) (neg (fraction (m b) (add γ (table b))))
+        add (sum 𝓕 (map (λ input. fraction one (add γ (input b))) inputs)) (neg (fraction (m b) (add γ (table b))))
 
     -- no denominator is zero at row b
     abbrev pub NoneZeroAt : ℕ → Type 0
@@ -83,7 +83,7 @@ module _ (𝓕 : Field) where
 
     -- Σ 1/(γ + input) over all rows of all inputs, a fraction with denominator 0 being 0
     abbrev pub inputFractions : F → F
-    inputFractions γ = sumList 𝓕 (map (λ input. sumRows 𝓕 rows (λ b. fraction one (add γ (input b)))) inputs)
+    inputFractions γ = sum 𝓕 (map (λ input. sumRows 𝓕 rows (λ b. fraction one (add γ (input b)))) inputs)
 
     -- the paper's identity for the counts of a group: Σ 1/(γ + input) = Σ m/(γ + table)
     abbrev pub HabockIdentity : F → Type 0

@@ -10,7 +10,7 @@ use native.Mathlib.Nat.{add-zero, zero-add, add-comm, suc-mul, zero-mul}
 use native.Mathlib.Numerals.{add-one}
 use native.Mathlib.Omega.{arith}
 use lib.ListN.{length, getD, length-append}
-use Rattle.field.specs.Algebra.{Field, add-mul, product, product-append, mul-zero, one-mul}
+use Rattle.field.specs.Algebra.{Field, add-mul, product, product-append, mul-zero, one-mul, sum}
 use Rattle.field.specs.Algebra as Algebra
 use Rattle.field.proofs.Solve.{var, _:+_, _:*_, minus, solve}
 use Rattle.bh.specs.Sums.{upTo}
@@ -37,7 +37,6 @@ use Rattle.prover.specs.Lookup.{
   hAt,
   groupMultiplicity,
   groupCovered,
-  sumList,
   groupHAt,
   omittedSum,
   GroupHolds,
@@ -98,17 +97,17 @@ module _ {A : Type 0} where
     open Field 𝓕 using (F, zero as nil, one, add, mul, neg, inv)
 
     pub list-rows : (rows : ℕ) (f : A → ℕ → F) (xs : List A)
-        → sumRows 𝓕 rows (λ r. sumList 𝓕 (map (λ x. f x r) xs)) ≡ sumList 𝓕 (map (λ x. sumRows 𝓕 rows (f x)) xs)
-    unfolding sumList
+        → sumRows 𝓕 rows (λ r. sum 𝓕 (map (λ x. f x r) xs)) ≡ sum 𝓕 (map (λ x. sumRows 𝓕 rows (f x)) xs)
+    unfolding sum
     list-rows rows f [] = upTo-unit add nil (adds 𝓕) rows
     list-rows rows f (x ∷ xs) =
-        upTo-op add nil (adds 𝓕) (f x) (λ r. sumList 𝓕 (map (λ x. f x r) xs)) rows
+        upTo-op add nil (adds 𝓕) (f x) (λ r. sum 𝓕 (map (λ x. f x r) xs)) rows
         ∙ ap (add (sumRows 𝓕 rows (f x))) (list-rows rows f xs)
 
     -- a total of counts, as an element
     pub num-total : (f : A → ℕ) (y : F) (xs : List A)
-        → sumList 𝓕 (map (λ x. mul (num 𝓕 (f x)) y) xs) ≡ mul (num 𝓕 (total (map f xs))) y
-    unfolding sumList total
+        → sum 𝓕 (map (λ x. mul (num 𝓕 (f x)) y) xs) ≡ mul (num 𝓕 (total (map f xs))) y
+    unfolding sum total
     num-total f y [] = sym (ap (λ (x : F). mul x y) (num-zero 𝓕) ∙ Algebra.zero-mul 𝓕 y)
     num-total f y (x ∷ xs) =
         ap (add (mul (num 𝓕 (f x)) y)) (num-total f y xs)
@@ -229,15 +228,15 @@ module _ (𝓕 : Field) where
     -- ---- Haböck's identity
     -- what is summed over all inputs, by the counts at the table's rows
     pub group-total : (g : F → F) → groupCovered 𝓕 rows inputs table ≡ true
-        → sumList 𝓕 (map (λ input. sumRows 𝓕 rows (λ b. g (input b))) inputs)
+        → sum 𝓕 (map (λ input. sumRows 𝓕 rows (λ b. g (input b))) inputs)
         ≡ sumRows 𝓕 rows (λ r. mul (num 𝓕 (groupMultiplicity 𝓕 rows inputs table r)) (g (table r)))
     unfolding groupMultiplicity
     group-total g e =
-        ap (sumList 𝓕)
+        ap (sum 𝓕)
         (map-same (λ input. covered 𝓕 rows input table ≡ true) (λ input. sumRows 𝓕 rows (λ b. g (input b)))
         (λ input. sumRows 𝓕 rows (λ r. mul (num 𝓕 (multiplicity 𝓕 rows input table r)) (g (table r)))) one-total inputs (group-each e))
         ∙ sym (list-rows 𝓕 rows (λ input r. mul (num 𝓕 (multiplicity 𝓕 rows input table r)) (g (table r))) inputs)
-        ∙ upTo-cong add nil (λ r. sumList 𝓕 (map (λ input. mul (num 𝓕 (multiplicity 𝓕 rows input table r)) (g (table r))) inputs))
+        ∙ upTo-cong add nil (λ r. sum 𝓕 (map (λ input. mul (num 𝓕 (multiplicity 𝓕 rows input table r)) (g (table r))) inputs))
         (λ r. mul (num 𝓕 (total (map (λ input. multiplicity 𝓕 rows input table r) inputs))) (g (table r))) rows
         (λ r l. num-total 𝓕 (λ input. multiplicity 𝓕 rows input table r) (g (table r)) inputs)
       where
@@ -251,7 +250,7 @@ module _ (𝓕 : Field) where
 
     module _ (γ : F) where
       pub group-identity : groupCovered 𝓕 rows inputs table ≡ true
-          → sumList 𝓕 (map (λ input. sumRows 𝓕 rows (λ b. inv (add γ (input b)))) inputs)
+          → sum 𝓕 (map (λ input. sumRows 𝓕 rows (λ b. inv (add γ (input b)))) inputs)
           ≡ sumRows 𝓕 rows (λ r. mul (num 𝓕 (groupMultiplicity 𝓕 rows inputs table r)) (inv (add γ (table r))))
       group-identity e = group-total (λ x. inv (add γ x)) e
 
@@ -265,7 +264,7 @@ module _ (𝓕 : Field) where
           ∙ 𝓕 .add-neg (sumRows 𝓕 rows g)
         where
           f : ℕ → F
-          f b = sumList 𝓕 (map (λ input. inv (add γ (input b))) inputs)
+          f b = sum 𝓕 (map (λ input. inv (add γ (input b))) inputs)
 
           g : ℕ → F
           g r = mul (num 𝓕 (groupMultiplicity 𝓕 rows inputs table r)) (inv (add γ (table r)))
@@ -273,20 +272,20 @@ module _ (𝓕 : Field) where
   -- ---- the constraint, cleared of all denominators
   -- the sum of the products without one entry, of one entry more
   pub omitted-more : (x : F) (xs : List F) → omittedSum 𝓕 (x ∷ xs) ≡ add (product 𝓕 xs) (mul x (omittedSum 𝓕 xs))
-  unfolding omittedSum omitOne sumList product
+  unfolding omittedSum omitOne sum product
   omitted-more x xs = ap (add (product 𝓕 xs)) (go (omitOne xs))
     where
-      go : (yss : List (List F)) → sumList 𝓕 (map (product 𝓕) (map (λ ys. x ∷ ys) yss)) ≡ mul x (sumList 𝓕 (map (product 𝓕) yss))
+      go : (yss : List (List F)) → sum 𝓕 (map (product 𝓕) (map (λ ys. x ∷ ys) yss)) ≡ mul x (sum 𝓕 (map (product 𝓕) yss))
       go [] = sym (mul-zero 𝓕 x)
-      go (ys ∷ yss) = ap (add (mul x (product 𝓕 ys))) (go yss) ∙ sym (𝓕 .mul-add x (product 𝓕 ys) (sumList 𝓕 (map (product 𝓕) yss)))
+      go (ys ∷ yss) = ap (add (mul x (product 𝓕 ys))) (go yss) ∙ sym (𝓕 .mul-add x (product 𝓕 ys) (sum 𝓕 (map (product 𝓕) yss)))
 
   pub omitted-none : omittedSum 𝓕 [] ≡ nil
-  unfolding omittedSum omitOne sumList
+  unfolding omittedSum omitOne sum
   omitted-none = refl
 
   -- the sum of the inverses, cleared of its denominators
-  inverses : (xs : List F) → All (λ x. x ≢ nil) xs → mul (sumList 𝓕 (map inv xs)) (product 𝓕 xs) ≡ omittedSum 𝓕 xs
-  unfolding sumList product
+  inverses : (xs : List F) → All (λ x. x ≢ nil) xs → mul (sum 𝓕 (map inv xs)) (product 𝓕 xs) ≡ omittedSum 𝓕 xs
+  unfolding sum product
   inverses [] a = Algebra.zero-mul 𝓕 one ∙ sym omitted-none
   inverses (x ∷ xs) a =
       solve 𝓕 (i ∷ S ∷ x ∷ p ∷ []) ((var 0 :+ var 1) :* (var 2 :* var 3)) ((var 0 :* var 2) :* var 3 :+ var 2 :* (var 1 :* var 3)) refl
@@ -298,7 +297,7 @@ module _ (𝓕 : Field) where
       i = inv x
 
       S : F
-      S = sumList 𝓕 (map inv xs)
+      S = sum 𝓕 (map inv xs)
 
       p : F
       p = product 𝓕 xs
@@ -325,11 +324,11 @@ module _ (𝓕 : Field) where
         ∙ ap (λ (x : F). add (mul (omittedSum 𝓕 I) T) (neg x)) (𝓕 .mul-one (mul (m b) (product 𝓕 I)))
       where
         S : F
-        S = sumList 𝓕 (map (λ input. inv (add γ (input b))) inputs)
+        S = sum 𝓕 (map (λ input. inv (add γ (input b))) inputs)
 
         cleared : mul S (product 𝓕 I) ≡ omittedSum 𝓕 I
         cleared =
-            ap (λ (xs : List F). mul (sumList 𝓕 xs) (product 𝓕 I)) (sym (map-map inv (λ (input : ℕ → F). add γ (input b)) inputs))
+            ap (λ (xs : List F). mul (sum 𝓕 xs) (product 𝓕 I)) (sym (map-map inv (λ (input : ℕ → F). add γ (input b)) inputs))
             ∙ inverses I h
 
     -- no other value does
@@ -353,7 +352,7 @@ module _ (𝓕 : Field) where
         go false = refl
 
     pub one-h : (γ : F) (m : ℕ → F) (b : ℕ) → groupHAt 𝓕 γ (input ∷ []) table m b ≡ hAt 𝓕 γ input table m b
-    unfolding groupHAt hAt sumList
+    unfolding groupHAt hAt sum
     one-h γ m b = ap (λ (x : F). add x (neg (mul (m b) (inv (add γ (table b)))))) (𝓕 .add-zero (inv (add γ (input b))))
 
     pub one-denominators : (rows : ℕ) (γ : F)
