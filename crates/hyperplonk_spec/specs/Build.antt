@@ -6,7 +6,7 @@ use lib.ListN.{length, getD, take, drop, replicate}
 use lib.Dec.{eqb, leb}
 use Rattle.field.specs.Field.{𝔾, el, val}
 use Rattle.lists.specs.Lists.{tabulate, concat, allOf, total, writePrefix, Question, question, questionOf, firstNo}
-use Rattle.backend.specs.Circuit.{Circuit, circuitOf, rowsOf, numInstance, numWitness, numChallenges, numCopied, numLookups}
+use Rattle.backend.specs.Circuit.{Circuit, circuitOf, rowsOf, numInstance, numWitness, numChallenges, numCopied, numLookups, numGroups}
 use Rattle.backend.specs.Questions.{circuitQuestions, small}
 use Rattle.preprocessor.specs.Compose.{numZ, composedWords, composedNodes}
 use Rattle.prover.specs.Log.{Log}
@@ -28,9 +28,9 @@ logOf ws instances witness challenges =
       γ = el (getD challenges (numChallenges (circuitOf ws) + 1) 0);
     }
 
--- the column words needed: instance, permutation, two compressed, m and h for each lookup, z
+-- the column words needed: instance, permutation, two compressed for each lookup, m and h for each group, z
 unfoldable pub columnWords : Circuit → ℕ
-columnWords c = (numInstance c + numCopied c + numLookups c * 4 + numZ c) * rowsOf c
+columnWords c = (numInstance c + numCopied c + numLookups c * 2 + numGroups c * 2 + numZ c) * rowsOf c
 
 -- "Have instance, witness and challenge words the exact length?"
 unfoldable pub q12 : Circuit → List ℕ → List ℕ → List ℕ → Bool

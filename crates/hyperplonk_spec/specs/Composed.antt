@@ -14,7 +14,7 @@ use Rattle.lists.specs.Lists.{tabulate}
 use Rattle.expression.specs.Expr.{Expr, degree, distributePowers}
 use Rattle.expression.specs.Nodes.{exprOf}
 use Rattle.expression.specs.Value.{Environment, polyOf, valueAt}
-use Rattle.backend.specs.Circuit.{Circuit, Pair, circuitOf, rowsOf, numChallenges, numCopied, numLookups, mNumber, hNumber, zNumber}
+use Rattle.backend.specs.Circuit.{Circuit, Pair, circuitOf, rowsOf, numChallenges, numCopied, numGroups, groupsOf, mNumber, hNumber, zNumber}
 use Rattle.backend.specs.Constraints.{betaOf, inputsOf, tablesOf, lookupConstraint, maxDegree}
 use Rattle.preprocessor.specs.Compose.{
   numZ,
@@ -28,11 +28,12 @@ use Rattle.preprocessor.specs.Compose.{
   composedWords,
   composedNodes,
 }
+use Rattle.prover.specs.Lookup.{GroupHolds}
 use Rattle.prover.specs.Log.{Log}
 use Rattle.prover.specs.Columns.{
   powerSum,
   inputAt,
-  tableAt,
+  groupTable,
   mAt,
   lookupHAt,
   zAt,
@@ -75,22 +76,27 @@ module _ (𝓕 : Field) where
     abbrev pub gammaIn : F
     gammaIn = getD (s .challenges) (numChallenges c + 1) zero
 
-    -- "input and table being the compressed expressions' values there"
-    unfoldable pub inputIn : ℕ → ℕ → F
-    inputIn j b = valueAt 𝓕 s (distributePowers (inputsOf (getD (c .lookups) j [])) (betaOf c)) b
+    -- "input and table being the compressed expressions' values there": the inputs of group j, a column for each of its lookups, and its
+    -- table
+    unfoldable pub inputIn : List Pair → ℕ → F
+    inputIn l b = valueAt 𝓕 s (distributePowers (inputsOf l) (betaOf c)) b
+
+    unfoldable pub inputsIn : ℕ → List (ℕ → F)
+    inputsIn j = map inputIn (getD (groupsOf c) j [])
 
     unfoldable pub tableIn : ℕ → ℕ → F
-    tableIn j b = valueAt 𝓕 s (distributePowers (tablesOf (getD (c .lookups) j [])) (betaOf c)) b
+    tableIn j b = valueAt 𝓕 s (distributePowers (tablesOf (getD (getD (groupsOf c) j []) 0 [])) (betaOf c)) b
 
+    -- h × Π (γ + input) × (γ + table) = Σ Π' (γ + input) × (γ + table) − m × Π (γ + input), where Π' leaves one input out; of one lookup:
     -- h × (γ + input) × (γ + table) = (γ + table) − m × (γ + input)
     abbrev pub LookupHolds : ℕ → ℕ → Type 0
     LookupHolds j b =
-        mul (mul (column-at (hNumber c j) b) (add gammaIn (inputIn j b))) (add gammaIn (tableIn j b))
-        ≡ add (add gammaIn (tableIn j b)) (neg (mul (column-at (mNumber c j) b) (add gammaIn (inputIn j b))))
+        GroupHolds 𝓕 gammaIn (inputsIn j) (tableIn j) (column-at (mNumber c j)) (column-at (hNumber c j) b) b
 
-    -- "A lookup's is zero at a row exactly when …"
+    -- "A lookup's is zero at a row exactly when …": a group's, which has a lookup
     abbrev pub LookupZero : Type 0
-    LookupZero = (j b : ℕ) → (valueAt 𝓕 s (lookupConstraint c j) b ≡ zero) ↔ LookupHolds j b
+    LookupZero =
+        (j b : ℕ) → 0 < length (getD (groupsOf c) j []) → (valueAt 𝓕 s (lookupConstraint c j) b ≡ zero) ↔ LookupHolds j b
 
     -- "one is for the start: at row 1 it is zero exactly when the first z is 1 there, at other rows always"
     pub record StartAt : Type 0 where
@@ -132,7 +138,7 @@ module _ (𝓕 : Field) where
     ComposeValue =
         Embeds 𝓕 (s .el) → (b : ℕ)
         → valueAt 𝓕 s (compose c) b
-        ≡ powerSum 𝓕 alphaIn (tabulate (λ j. column-at (hNumber c j) b) (numLookups c) ++ (zeroCheckIn b ∷ []))
+        ≡ powerSum 𝓕 alphaIn (tabulate (λ j. column-at (hNumber c j) b) (numGroups c) ++ (zeroCheckIn b ∷ []))
 
     -- a list by powers of its base
     abbrev pub PowersValue : Type 0
@@ -147,19 +153,20 @@ module _ (𝓕 : Field) where
     abbrev pub scene : Environment 𝓕
     scene = composedEnvironment 𝓕 g α y
 
-    -- lookup j, and a column's value at a row
-    abbrev pub lookupOf : ℕ → List Pair
-    lookupOf j = getD (g .circuit .lookups) j []
+    -- group j, and a column's value at a row
+    abbrev pub groupOf : ℕ → List (List Pair)
+    groupOf j = getD (groupsOf (g .circuit)) j []
 
     abbrev pub valueIn : ℕ → ℕ → F
     valueIn q b = column-at scene (g .circuit) q b
 
     -- compressed input and table, m, h, z, and the factors of z
     pub record ReadAs : Type 0 where
-      pub input : (j : ℕ) → j < length (g .circuit .lookups) → EachRow 𝓕 g (λ b. inputIn scene (g .circuit) j b ≡ inputAt 𝓕 g (lookupOf j) b)
-      pub table : (j : ℕ) → j < length (g .circuit .lookups) → EachRow 𝓕 g (λ b. tableIn scene (g .circuit) j b ≡ tableAt 𝓕 g (lookupOf j) b)
-      pub m : (j b : ℕ) → j < length (g .circuit .lookups) → valueIn (mNumber (g .circuit) j) b ≡ mAt 𝓕 g (lookupOf j) b
-      pub h : (j b : ℕ) → j < length (g .circuit .lookups) → valueIn (hNumber (g .circuit) j) b ≡ lookupHAt 𝓕 g (lookupOf j) b
+      pub input : (j : ℕ) → j < numGroups (g .circuit)
+          → Each [] (groupOf j) (λ l. EachRow 𝓕 g (λ b. inputIn scene (g .circuit) l b ≡ inputAt 𝓕 g l b))
+      pub table : (j : ℕ) → j < numGroups (g .circuit) → EachRow 𝓕 g (λ b. tableIn scene (g .circuit) j b ≡ groupTable 𝓕 g (groupOf j) b)
+      pub m : (j b : ℕ) → j < numGroups (g .circuit) → valueIn (mNumber (g .circuit) j) b ≡ mAt 𝓕 g (groupOf j) b
+      pub h : (j b : ℕ) → j < numGroups (g .circuit) → valueIn (hNumber (g .circuit) j) b ≡ lookupHAt 𝓕 g (groupOf j) b
       pub z : (i b : ℕ) → i < numZ (g .circuit) → valueIn (zNumber (g .circuit) i) b ≡ zAt 𝓕 g i b
       pub identity-factor : (i b : ℕ) → i < numCopied (g .circuit)
           → valueAt 𝓕 scene (identityFactor (g .circuit) i) b ≡ identityFactorAt 𝓕 g i b

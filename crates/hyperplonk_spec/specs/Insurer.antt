@@ -13,16 +13,16 @@ use Rattle.field.specs.Field.{𝔾, el}
 use Rattle.lists.specs.Lists.{All, anyOf, firstNo}
 use Rattle.expression.specs.Expr.{Expr}
 use Rattle.expression.specs.Value.{valueAt}
-use Rattle.backend.specs.Circuit.{Pair, Circuit, circuitOf, rowsOf, numInstance, numCopied, numLookups}
-use Rattle.backend.specs.Questions.{circuitQuestions, largestK}
+use Rattle.backend.specs.Circuit.{Pair, Circuit, circuitOf, rowsOf, numInstance, numCopied, numLookups, numGroups, groupsOf}
+use Rattle.backend.specs.Questions.{circuitQuestions, q18, largestK}
 use Rattle.preprocessor.specs.Compose.{CutsAlike, composedNodes}
 use Rattle.prover.specs.Lookup.{Turns, sumRows, sumCounts}
 use Rattle.prover.specs.Log.{Log}
-use Rattle.prover.specs.Columns.{userEnvironment, inputAt, tableAt, countAt, lookupHAt, allCovered}
+use Rattle.prover.specs.Columns.{userEnvironment, groupInputs, groupTable, countAt, lookupHAt, allCovered}
 use Rattle.hyperplonk_spec.specs.Build.{logOf, columnWords, checkBuild, buildOf, lentBuild}
 use Rattle.hyperplonk_spec.specs.RowSum.{rowSumOf, lentSum}
 use Rattle.hyperplonk_spec.specs.Meaning.{Each, EachRow, EachLookup, HasCounts, ZeroConstraints, EqualCells, NoneZero, SomeZero, Premises}
-use Rattle.hyperplonk_spec.specs.Papers.{fraction, paperH, normalizedMultiplicity, totalOf, SharedHolds}
+use Rattle.hyperplonk_spec.specs.Papers.{fraction, inputFractions, paperH, normalizedMultiplicity, totalOf, SharedHolds}
 
 -- what a lookup's list of pairs has past its end
 abbrev pub noPair : Pair
@@ -67,13 +67,15 @@ module _ (𝓕 : Field) where
       pub equal-cells : EqualCells 𝓕 g
       pub cuts-alike : CutsAlike (g .circuit)
 
--- if each reading stands in the table, question 15 is yes, whatever β and γ are
+-- if each reading stands in the table and the tables of a group are alike (18), question 15 is yes, whatever β and γ are
 abbrev pub ReadingsCovered : Type 1
-ReadingsCovered = (𝓕 : Field) (g : Log 𝓕) → ReadingsStand 𝓕 g → (β γ : 𝓕 .F) → allCovered 𝓕 (drawn 𝓕 g β γ) ≡ true
+ReadingsCovered =
+    (𝓕 : Field) (g : Log 𝓕) → q18 (g .circuit) ≡ true → ReadingsStand 𝓕 g → (β γ : 𝓕 .F)
+    → allCovered 𝓕 (drawn 𝓕 g β γ) ≡ true
 
--- no circuit has more denominators than 2^k × (2 × lookups + copied columns)
+-- no circuit has more denominators than 2^k × (lookups + groups + copied columns)
 abbrev pub denominators : Circuit → ℕ
-denominators c = rowsOf c * (2 * numLookups c + numCopied c)
+denominators c = rowsOf c * (numLookups c + numGroups c + numCopied c)
 
 -- all else fixed, no more γ than that make a denominator zero: they make a list of at most so many values, and no denominator is zero
 -- exactly when γ is none of these
@@ -84,19 +86,20 @@ OddsOf =
     × (length unlucky ≤ denominators (g .circuit))
     × ((γ : 𝓕 .F) → NoneZero 𝓕 (drawn 𝓕 g (g .β) γ) ↔ All (λ u. γ ≢ u) unlucky)
 
--- by the limits of questions 2 and 3 (k to 10, 8 lookups, 8 + 32 + 32 columns to copy) that is at most 90112, of the p values of γ
+-- by the limits of questions 2 and 3 (k to 10, 8 lookups, 8 + 32 + 32 columns to copy), and as there are no more groups than lookups,
+-- that is at most 90112, of the p values of γ
 abbrev pub OddsLimit : Type 0
-OddsLimit = (ws : List ℕ) → firstNo circuitQuestions ws ≡ 0 → denominators (circuitOf ws) ≤ 2 ^ largestK * (2 * 8 + (8 + 32 + 32))
+OddsLimit = (ws : List ℕ) → firstNo circuitQuestions ws ≡ 0 → denominators (circuitOf ws) ≤ 2 ^ largestK * (8 + 8 + (8 + 32 + 32))
 
 -- ---- of the building call
 
 -- "The column buffer holds instance, permutation, compressed input and table per lookup, m, h, z, each 2^k words": the words of the m
--- and of the h column of lookup j, at row b
+-- and of the h column of group j, at row b
 abbrev pub mWord : Circuit → List ℕ → ℕ → ℕ → ℕ
 mWord c columns j b = getD columns ((numInstance c + numCopied c + numLookups c * 2 + j) * rowsOf c + b) 0
 
 abbrev pub hWord : Circuit → List ℕ → ℕ → ℕ → ℕ
-hWord c columns j b = getD columns ((numInstance c + numCopied c + numLookups c * 3 + j) * rowsOf c + b) 0
+hWord c columns j b = getD columns ((numInstance c + numCopied c + numLookups c * 2 + numGroups c + j) * rowsOf c + b) 0
 
 -- a call that was lent these words and buffers
 module _ (ws instances witness challenges columns nodes : List ℕ) where
@@ -116,20 +119,20 @@ module _ (ws instances witness challenges columns nodes : List ℕ) where
     pub number : buildOf (lentBuild ws instances witness challenges columns nodes) .answer .number ≡ 0
     pub row-sum : SumsToZero
 
--- of a log, lookup j, and the columns buffer as a call left it: what does not go wrong where a table row is listed twice
+-- of a log, group j, and the columns buffer as a call left it: what does not go wrong where a table row is listed twice
 module _ (g : Log 𝔾) (left : List ℕ) (j : ℕ) where
-  abbrev lookup : List Pair
-  lookup = getD (g .circuit .lookups) j []
+  abbrev group : List (List Pair)
+  group = getD (groupsOf (g .circuit)) j []
 
   abbrev rows : ℕ
   rows = rowsOf (g .circuit)
 
-  -- the compressed input and table, and the words of m and h
-  abbrev input : ℕ → 𝔾 .F
-  input = inputAt 𝔾 g lookup
+  -- the compressed inputs and table, and the words of m and h
+  abbrev inputs : List (ℕ → 𝔾 .F)
+  inputs = groupInputs 𝔾 g group
 
   abbrev table : ℕ → 𝔾 .F
-  table = tableAt 𝔾 g lookup
+  table = groupTable 𝔾 g group
 
   abbrev m : ℕ → ℕ
   m = mWord (g .circuit) left j
@@ -139,24 +142,24 @@ module _ (g : Log 𝔾) (left : List ℕ) (j : ℕ) where
 
   pub record CountsUnspoilt : Type 0 where
     -- "for every value v, the counts at the rows where the table is v add up to the number of rows where the input is v": as whole numbers
-    pub turns : Turns 𝔾 rows input table m
-    -- "each m sums to 2^k", as whole numbers
-    pub m-sums : sumCounts rows m ≡ rows
+    pub turns : Turns 𝔾 rows inputs table m
+    -- "each m sums to 2^k", "a group of s lookups has s × 2^k", as whole numbers
+    pub m-sums : sumCounts rows m ≡ length group * rows
     -- "Σh = 0 is Haböck's identity": of the words, and of h as defined
     pub h-sums : sumRows 𝔾 rows (λ b. el (h b)) ≡ 𝔾 .zero
-    pub h-sums-defined : sumRows 𝔾 rows (lookupHAt 𝔾 g lookup) ≡ 𝔾 .zero
+    pub h-sums-defined : sumRows 𝔾 rows (lookupHAt 𝔾 g group) ≡ 𝔾 .zero
     -- "Haböck's paper shares a count out among equal table rows; here the last row takes it all, … with the same total for each table value"
-    pub same-totals : (v : 𝔾 .F) → totalOf 𝔾 el rows input table (λ r. el (m r)) v ≡ totalOf 𝔾 el rows input table (normalizedMultiplicity 𝔾 el rows input table) v
+    pub same-totals : (v : 𝔾 .F) → totalOf 𝔾 el rows inputs table (λ r. el (m r)) v ≡ totalOf 𝔾 el rows inputs table (normalizedMultiplicity 𝔾 el rows inputs table) v
     -- Haböck's identity for the words of m: Σ 1/(γ + input) = Σ m/(γ + table)
     pub identity :
-        sumRows 𝔾 rows (λ b. fraction 𝔾 (𝔾 .one) (𝔾 .add (g .γ) (input b)))
+        inputFractions 𝔾 el rows inputs table (g .γ)
         ≡ sumRows 𝔾 rows (λ b. fraction 𝔾 (el (m b)) (𝔾 .add (g .γ) (table b)))
     -- the words of h are the paper's sums of fractions with the words of m: 1/(γ + input) − m/(γ + table)
-    pub h-is : (b : ℕ) → b < rows → el (h b) ≡ paperH 𝔾 (g .γ) input table (λ r. el (m r)) b
+    pub h-is : (b : ℕ) → b < rows → el (h b) ≡ paperH 𝔾 (g .γ) inputs table (λ r. el (m r)) b
     -- and with the paper's shared multiplicities in place of m: Σ 1/(γ + input) = Σ m/(γ + table), and Σ h = 0
-    pub shared : SharedHolds 𝔾 el rows input table (g .γ)
+    pub shared : SharedHolds 𝔾 el rows inputs table (g .γ)
     -- the words are the counts of `lookup_m_poly` themselves: none reaches p
-    pub whole : (b : ℕ) → b < rows → m b ≡ countAt 𝔾 g lookup b
+    pub whole : (b : ℕ) → b < rows → m b ≡ countAt 𝔾 g group b
 
 -- "Can a good log be turned away?" Let questions 1 to 14 be yes. If each reading stands in the table, the number is 0 or 17, and 17 exactly
 -- if a denominator is zero; with the other premises of demand 3, and not 17, the number is 0 and the row sum of what was written
@@ -199,10 +202,10 @@ abbrev pub RowListedTwice : Type 0
 RowListedTwice =
     (ws instances witness challenges columns nodes : List ℕ)
     → buildOf (lentBuild ws instances witness challenges columns nodes) .answer .number ≡ 0
-    → (j : ℕ) → j < numLookups (circuitOf ws)
+    → (j : ℕ) → j < numGroups (circuitOf ws)
     → CountsUnspoilt (logOf ws instances witness challenges) (buildOf (lentBuild ws instances witness challenges columns nodes) .columns) j
 
--- which it is exactly when questions 1 to 14 are yes, for each lookup some column of whole counts turns the table into the inputs, and no
+-- which it is exactly when questions 1 to 14 are yes, for each group some column of whole counts turns the table into the inputs, and no
 -- denominator is zero
 abbrev pub ZeroWhen : Type 0
 ZeroWhen =

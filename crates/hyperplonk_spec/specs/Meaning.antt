@@ -3,13 +3,13 @@ use mathlib.Core.Path.{_≡_}
 use mathlib.Core.Logic.{_≢_, _⊎_, _↔_}
 use mathlib.Core.Bool.{Bool, true, false}
 use mathlib.Core.List.{List, [], _∷_}
-use Prim.Native.Nat.{ℕ, suc, _+_, _<_}
+use Prim.Native.Nat.{ℕ, suc, _+_, _*_, _<_}
 use lib.ListN.{length, getD}
 use Rattle.field.specs.Algebra.{Field}
 use Rattle.lists.specs.Lists.{firstNo}
 use Rattle.expression.specs.Expr.{Expr}
 use Rattle.expression.specs.Value.{polyOf, valueAt}
-use Rattle.backend.specs.Circuit.{Pair, Cell, circuitOf, rowsOf, numCopied, numChallenges}
+use Rattle.backend.specs.Circuit.{Pair, Cell, circuitOf, rowsOf, numCopied, numChallenges, groupsOf}
 use Rattle.backend.specs.Questions.{circuitQuestions}
 use Rattle.preprocessor.specs.Compose.{CutsAlike, compose, composedConstraints}
 use Rattle.prover.specs.Lookup.{Turns, sumRows, sumCounts}
@@ -18,7 +18,8 @@ use Rattle.prover.specs.Columns.{
   givenPolys,
   userEnvironment,
   inputAt,
-  tableAt,
+  groupInputs,
+  groupTable,
   countAt,
   allCovered,
   lookupHAt,
@@ -53,31 +54,35 @@ module _ (𝓕 : Field) where
       pub user-all : length (g .user) ≡ numChallenges (g .circuit)
       pub embeds : Embeds (g .el)
 
-    -- on every row, and for each lookup
+    -- on every row, for each lookup, and for each group: Item 3 of document 02 has one m and one h for a group of lookups
     abbrev pub EachRow : (ℕ → Type 0) → Type 0
     EachRow Q = (b : ℕ) → b < rowsOf (g .circuit) → Q b
 
     abbrev pub EachLookup : (List Pair → Type 0) → Type 0
     EachLookup Q = Each [] (g .circuit .lookups) Q
 
+    abbrev pub EachGroup : (List (List Pair) → Type 0) → Type 0
+    EachGroup Q = Each [] (groupsOf (g .circuit)) Q
+
     -- "A cell's value is its polynomial's at its row"
     unfoldable pub cellValue : Cell → F
     cellValue x = polyOf 𝓕 (givenPolys 𝓕 g) (x .polynomial) (x .row)
 
-    -- "for some lookup, no column of whole counts turns the compressed table into the compressed inputs"
+    -- "for some lookup, no column of whole counts turns the compressed table into the compressed inputs": for some group, into its inputs
     unfoldable pub NoCounts : Type 0
     NoCounts =
         (j : ℕ)
-        × (j < length (g .circuit .lookups))
+        × (j < length (groupsOf (g .circuit)))
         × ((m : ℕ → ℕ)
-        → Turns 𝓕 (rowsOf (g .circuit)) (inputAt 𝓕 g (getD (g .circuit .lookups) j []))
-        (tableAt 𝓕 g (getD (g .circuit .lookups) j []))
+        → Turns 𝓕 (rowsOf (g .circuit)) (groupInputs 𝓕 g (getD (groupsOf (g .circuit)) j []))
+        (groupTable 𝓕 g (getD (groupsOf (g .circuit)) j []))
         m
         → ⊥)
 
-    -- and the contrary: for each lookup some column of whole counts does
+    -- and the contrary: for each group some column of whole counts does
     abbrev pub HasCounts : Type 0
-    HasCounts = EachLookup (λ l. (m : ℕ → ℕ) × Turns 𝓕 (rowsOf (g .circuit)) (inputAt 𝓕 g l) (tableAt 𝓕 g l) m)
+    HasCounts =
+        EachGroup (λ group. (m : ℕ → ℕ) × Turns 𝓕 (rowsOf (g .circuit)) (groupInputs 𝓕 g group) (groupTable 𝓕 g group) m)
 
     -- "every user constraint be zero on every row"
     abbrev pub ZeroConstraints : Type 0
@@ -89,12 +94,13 @@ module _ (𝓕 : Field) where
     EqualCells =
         Each [] (g .circuit .cycles) (λ cycle. Each noCell cycle (λ x. Each noCell cycle (λ y. cellValue x ≡ cellValue y)))
 
-    -- no denominator is zero: they "are γ + input and γ + table on all rows, and the inverted factors on every row but 0"
+    -- no denominator is zero: they "are γ + input and γ + table on all rows, and the inverted factors on every row but 0": of a group,
+    -- γ + input for each of its lookups, and γ + table
     abbrev pub NoZeroInput : Type 0
-    NoZeroInput = EachLookup (λ l. EachRow (λ b. add (g .γ) (inputAt 𝓕 g l b) ≢ zero))
+    NoZeroInput = EachGroup (λ group. Each [] group (λ l. EachRow (λ b. add (g .γ) (inputAt 𝓕 g l b) ≢ zero)))
 
     abbrev pub NoZeroTable : Type 0
-    NoZeroTable = EachLookup (λ l. EachRow (λ b. add (g .γ) (tableAt 𝓕 g l b) ≢ zero))
+    NoZeroTable = EachGroup (λ group. EachRow (λ b. add (g .γ) (groupTable 𝓕 g group b) ≢ zero))
 
     abbrev pub NoZeroFactor : Type 0
     NoZeroFactor = (i : ℕ) → i < numCopied (g .circuit) → EachRow (λ b. 0 < b → permutationFactorAt 𝓕 g i b ≢ zero)
@@ -104,18 +110,21 @@ module _ (𝓕 : Field) where
       pub table-denominators : NoZeroTable
       pub factor-denominators : NoZeroFactor
 
-    -- "a denominator of document 01 is zero": there is a lookup and a row, or a copied column and a row but 0
+    -- "a denominator of document 01 is zero": there is a group, a lookup of it or its table, and a row, or a copied column and a row but 0
     abbrev pub SomeRow : (ℕ → Type 0) → Type 0
     SomeRow Q = (b : ℕ) × (b < rowsOf (g .circuit)) × Q b
 
-    abbrev pub SomeLookup : (List Pair → Type 0) → Type 0
-    SomeLookup Q = (j : ℕ) × (j < length (g .circuit .lookups)) × Q (getD (g .circuit .lookups) j [])
+    abbrev pub SomeGroup : (List (List Pair) → Type 0) → Type 0
+    SomeGroup Q = (j : ℕ) × (j < length (groupsOf (g .circuit))) × Q (getD (groupsOf (g .circuit)) j [])
+
+    abbrev pub SomeMember : List (List Pair) → (List Pair → Type 0) → Type 0
+    SomeMember group Q = (i : ℕ) × (i < length group) × Q (getD group i [])
 
     abbrev pub ZeroInput : Type 0
-    ZeroInput = SomeLookup (λ l. SomeRow (λ b. add (g .γ) (inputAt 𝓕 g l b) ≡ zero))
+    ZeroInput = SomeGroup (λ group. SomeMember group (λ l. SomeRow (λ b. add (g .γ) (inputAt 𝓕 g l b) ≡ zero)))
 
     abbrev pub ZeroTable : Type 0
-    ZeroTable = SomeLookup (λ l. SomeRow (λ b. add (g .γ) (tableAt 𝓕 g l b) ≡ zero))
+    ZeroTable = SomeGroup (λ group. SomeRow (λ b. add (g .γ) (groupTable 𝓕 g group b) ≡ zero))
 
     abbrev pub ZeroFactor : Type 0
     ZeroFactor = (i : ℕ) × (i < numCopied (g .circuit)) × SomeRow (λ b. (0 < b) × (permutationFactorAt 𝓕 g i b ≡ zero))
@@ -135,9 +144,10 @@ module _ (𝓕 : Field) where
       pub constraints-zero : (α : F) (y : ℕ → F)
           → Each (Expr.constant 0) (composedConstraints (g .circuit))
           (λ e. EachRow (λ b. valueAt 𝓕 (composedEnvironment 𝓕 g α y) e b ≡ zero))
-      -- "each h sums to 0, each m sums to 2^k": "Counts add as whole numbers, all else in the field."
-      pub h-sums : EachLookup (λ l. sumRows 𝓕 (rowsOf (g .circuit)) (lookupHAt 𝓕 g l) ≡ zero)
-      pub m-sums : EachLookup (λ l. sumCounts (rowsOf (g .circuit)) (countAt 𝓕 g l) ≡ rowsOf (g .circuit))
+      -- "each h sums to 0, each m sums to 2^k": "Counts add as whole numbers, all else in the field." Item 3 of document 02: "Where demand 3
+      -- has m sum to 2^k, a group of s lookups has s × 2^k"
+      pub h-sums : EachGroup (λ group. sumRows 𝓕 (rowsOf (g .circuit)) (lookupHAt 𝓕 g group) ≡ zero)
+      pub m-sums : EachGroup (λ group. sumCounts (rowsOf (g .circuit)) (countAt 𝓕 g group) ≡ length group * rowsOf (g .circuit))
       -- "and for every alpha and every y the composed expression sums to 0"
       pub composed-sum : (α : F) (y : ℕ → F)
           → sumRows 𝓕 (rowsOf (g .circuit)) (valueAt 𝓕 (composedEnvironment 𝓕 g α y) (compose (g .circuit))) ≡ zero

@@ -9,7 +9,7 @@ use Rattle.lists.specs.Lists.{tabulate, allOf, sameWords, Question, question, q
 use Rattle.expression.specs.Nodes.{exprOf}
 use Rattle.expression.specs.Value.{Environment, valueAt}
 use Rattle.multilinear.specs.EqXY.{eqAt}
-use Rattle.backend.specs.Circuit.{Circuit, circuitOf, rowsOf, numInstance, numWitness, numChallenges, numCopied, numLookups}
+use Rattle.backend.specs.Circuit.{Circuit, circuitOf, rowsOf, numInstance, numWitness, numChallenges, numCopied, numLookups, numGroups}
 use Rattle.backend.specs.Questions.{circuitQuestions, small}
 use Rattle.preprocessor.specs.Compose.{numZ, composedWords, composedNodes}
 use Rattle.prover.specs.Lookup.{sumRows}
@@ -42,7 +42,7 @@ lentPolys ws witness columns =
     ++ (preprocessPolys 𝔾 (logOf ws [] witness [])
     ++ (witnessPolys 𝔾 (logOf ws [] witness [])
     ++ (tabulate (λ i. lentColumn c columns (numInstance c + i)) (numCopied c)
-    ++ tabulate (λ i. lentColumn c columns (numInstance c + numCopied c + numLookups c * 2 + i)) (numLookups c * 2 + numZ c))))
+    ++ tabulate (λ i. lentColumn c columns (numInstance c + numCopied c + numLookups c * 2 + i)) (numGroups c * 2 + numZ c))))
 
 unfoldable pub rowSumEnvironment : List ℕ → List ℕ → List ℕ → List ℕ → List ℕ → Environment 𝔾
 rowSumEnvironment ws witness columns challenges y =

@@ -5,7 +5,7 @@ use Prim.Native.Nat.{ℕ, suc, _+_, _*_, _<_}
 use lib.ListN.{getD}
 use Rattle.field.specs.Field.{𝔾, el}
 use Rattle.bh.specs.Rows.{rowAt}
-use Rattle.backend.specs.Circuit.{Circuit, circuitOf, rowsOf, numInstance, numCopied, numLookups}
+use Rattle.backend.specs.Circuit.{Circuit, circuitOf, rowsOf, numInstance, numCopied, numLookups, numGroups}
 use Rattle.preprocessor.specs.Compose.{numZ, zCut}
 use Rattle.preprocessor.specs.Permutation.{firstLabel}
 use Rattle.prover.specs.Log.{Log}
@@ -20,7 +20,7 @@ abbrev pub labelWord : Circuit → List ℕ → ℕ → ℕ → ℕ
 labelWord c columns i b = getD columns ((numInstance c + i) * rowsOf c + b) 0
 
 abbrev pub zWord : Circuit → List ℕ → ℕ → ℕ → ℕ
-zWord c columns i b = getD columns ((numInstance c + numCopied c + numLookups c * 4 + i) * rowsOf c + b) 0
+zWord c columns i b = getD columns ((numInstance c + numCopied c + numLookups c * 2 + numGroups c * 2 + i) * rowsOf c + b) 0
 
 -- of a log, and the columns buffer as a call left it
 module _ (g : Log 𝔾) (left : List ℕ) where

@@ -45,10 +45,10 @@ abbrev pub mostColumnWords : ℕ
 mostColumnWords = 188416
 
 abbrev pub mostNodes : ℕ
-mostNodes = 4190
+mostNodes = 11295
 
 abbrev pub mostVisits : ℕ
-mostVisits = 3844
+mostVisits = 11047
 
 -- a buffer has fewer words than these numbers say
 abbrev pub TooShort : Sizes → List ℕ → List ℕ → Type 0
