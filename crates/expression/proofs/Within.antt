@@ -39,7 +39,7 @@ module _ (S : Scope) where
   powers-within (e ∷ []) base a b = a .0
   powers-within (e ∷ (f ∷ es)) base a b = (exprs-within e (f ∷ es) (a .0) (a .1), b)
 
-  from-within : (e : Expr) (es : List Expr) → Within S e → All (Within S) es → Within S (productFrom e es)
+  pub from-within : (e : Expr) (es : List Expr) → Within S e → All (Within S) es → Within S (productFrom e es)
   unfolding productFrom
   from-within e [] a b = a
   from-within e (f ∷ es) a b = from-within (Expr.product e f) es (a, b .0) (b .1)

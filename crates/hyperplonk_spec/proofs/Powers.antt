@@ -14,7 +14,7 @@ use Rattle.identities.proofs.Totals.{upTo-first, upTo-units, upTo-cong, upTo-op
 use Rattle.identities.proofs.Fields.{adds, mul-sum}
 use Rattle.expression.specs.Expr.{Expr, running, evaluate, values, exprsOf, distributePowers, at}
 use Rattle.expression.specs.Value.{Environment, valueOps, valueAt}
-use Rattle.backend.specs.Circuit.{Circuit, numLookups, hNumber}
+use Rattle.backend.specs.Circuit.{Circuit, numGroups, hNumber}
 use Rattle.backend.specs.Constraints.{alphaOf}
 use Rattle.preprocessor.specs.Compose.{composedConstraints, zeroCheck, composeTree, paramsOf, outerTrees, zeroTree}
 use Rattle.prover.specs.Columns.{powerSum}
@@ -115,8 +115,8 @@ module _ (𝓕 : Field) where
       unfolding composeTree outerTrees paramsOf evaluate valueAt valueOps rotated iter
       compose-value h b =
           let hs : ℕ → Expr = λ j. at (hNumber c j) in
-          powers-value h (tabulate hs (numLookups c) ++ (zeroCheck c ∷ [])) (alphaOf c) b
+          powers-value h (tabulate hs (numGroups c) ++ (zeroCheck c ∷ [])) (alphaOf c) b
           ∙ ap (powerSum 𝓕 (valueAt 𝓕 s (alphaOf c) b))
-          (map-append (λ e. valueAt 𝓕 s e b) (tabulate hs (numLookups c)) (zeroCheck c ∷ [])
-          ∙ ap (λ (l : List F). l ++ (valueAt 𝓕 s (zeroCheck c) b ∷ [])) (map-tabulate (λ e. valueAt 𝓕 s e b) hs (numLookups c))
-          ∙ ap (λ (v : F). tabulate (λ j. valueAt 𝓕 s (hs j) b) (numLookups c) ++ (v ∷ [])) (zero-check-value h b))
+          (map-append (λ e. valueAt 𝓕 s e b) (tabulate hs (numGroups c)) (zeroCheck c ∷ [])
+          ∙ ap (λ (l : List F). l ++ (valueAt 𝓕 s (zeroCheck c) b ∷ [])) (map-tabulate (λ e. valueAt 𝓕 s e b) hs (numGroups c))
+          ∙ ap (λ (v : F). tabulate (λ j. valueAt 𝓕 s (hs j) b) (numGroups c) ++ (v ∷ [])) (zero-check-value h b))
