@@ -2,13 +2,15 @@
 use mathlib.Core.Path.{_≡_, sym, ap, ap₂, _∙_}
 use mathlib.Core.List.{List, _++_}
 use Prim.Native.Nat.{ℕ, suc, _+_, _*_, _≤_, _<_}
-use native.Mathlib.Nat.{suc-mul, mul-le-mul-right}
+use native.Mathlib.Nat.{zero-mul, suc-mul, add-mul, mul-right-comm, mul-le-mul-right}
 use native.Mathlib.Numerals.{add-one}
 use native.Mathlib.Omega.{arith}
-use lib.ListN.{length}
-use Rattle.lists.specs.Lists.{tabulate, concat, writeAt}
+use lib.ListN.{length, getD, take}
+use Rattle.lists.specs.Lists.{tabulate, concat, total, writeAt}
 use Rattle.lists.proofs.Columns.{columns-suc, columns-length}
 use Rattle.lists.proofs.Over.{writeAt-writeAt}
+use Rattle.lists.proofs.Parts.{total-within, total-more}
+use Rattle.lists.proofs.Runs.{total-none}
 
 -- ---- numbers
 
@@ -33,6 +35,35 @@ pub pair-there : (n j rows : ℕ) → j < n → j * 2 * rows + rows + rows ≤ n
 pair-there n j rows l =
     let m : suc (suc (j * 2)) * rows ≤ n * 2 * rows = mul-le-mul-right rows (omega arith) in
     omega (arith, suc-mul (suc (j * 2)) rows, suc-mul (j * 2) rows)
+
+-- the first input and its table
+pub first-there : (n rows : ℕ) → 0 < n → rows + rows ≤ n * 2 * rows
+first-there n rows l = omega (arith, pair-there n 0 rows l, zero-mul rows)
+
+pub pair-turn : (n rows : ℕ) → n * 2 * rows ≡ n * rows * 2
+pair-turn n rows = mul-right-comm n 2 rows
+
+-- ---- groups, by their sizes. Those before the first have no lookups; a group's stand behind those of the groups before it
+
+module _ (at rows : ℕ) (sizes : List ℕ) where
+  pub group-first : at ≡ at + total (take 0 sizes) * 2 * rows
+  group-first =
+      omega (arith, ap (λ (t : ℕ). t * 2 * rows) (total-none sizes), zero-mul rows)
+
+  part : (a b : ℕ) → (a + b) * 2 * rows ≡ a * 2 * rows + b * 2 * rows
+  part a b = let e : (a + b) * 2 ≡ a * 2 + b * 2 = omega arith in ap (λ (x : ℕ). x * rows) e ∙ add-mul (a * 2) (b * 2) rows
+
+  pub group-there : (j : ℕ) → total (take j sizes) * 2 * rows + getD sizes j 0 * 2 * rows ≤ total sizes * 2 * rows
+  group-there j =
+      let w = total-within sizes j in
+      let m : (total (take j sizes) + getD sizes j 0) * 2 * rows ≤ total sizes * 2 * rows = mul-le-mul-right rows (omega arith) in
+      omega (arith, part (total (take j sizes)) (getD sizes j 0))
+
+  pub group-next : (j : ℕ) → j < length sizes
+      → at + total (take j sizes) * 2 * rows + getD sizes j 0 * rows * 2 ≡ at + total (take (j + 1) sizes) * 2 * rows
+  group-next j l =
+      let e : getD sizes j 0 * 2 * rows ≡ getD sizes j 0 * rows * 2 = pair-turn (getD sizes j 0) rows in
+      omega (arith, part (total (take j sizes)) (getD sizes j 0), ap (λ (t : ℕ). t * 2 * rows) (total-more sizes j l))
 
 -- ---- buffers
 

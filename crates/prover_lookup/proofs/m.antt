@@ -1,1 +1,4 @@
 pub mod Down
+pub mod Added
+pub mod Group
+pub mod Searches

@@ -1,251 +1,143 @@
--- `lookup_m_poly` meets its contract: as `m_column`, in the one buffer, where the input and the table stand before the counts and
--- so stay as they are.
+-- `lookup_m_poly` meets its contract: after i turns the first i members are counted, all of them covered.
 use borrow.Author.Needs.{needs}
-use mathlib.Core.Logic.{⊎-elim}
-use mathlib.Core.Path.{_≡_, refl, sym, _∙_}
+use borrow.Author.Tests.{not-true, not-false}
+use mathlib.Core.Path.{_≡_}
 use mathlib.Core.List.{List}
-use mathlib.Core.Option.{Option, some}
-use Prim.Native.Nat.{ℕ, _+_, _-_, _≤_, _<_}
+use Prim.Native.Nat.{ℕ, _+_, _-_, _*_, _≤_}
+use native.Mathlib.Nat.{zero-mul}
 use native.Mathlib.Omega.{arith}
-use lib.ListN.{length, getD, replicate, length-set}
+use lib.ListN.{length, replicate}
 use Rattle.lists.specs.Lists.{writeAt}
-use Rattle.field.specs.Field.{𝔾}
-use Rattle.prover.specs.declared.Found.{Found}
-use Rattle.prover.specs.Words.{elementsFrom}
-use Rattle.prover.proofs.Search.{lastRow, foundRow, row-below}
-use Rattle.prover.proofs.Answers.{found-at, found-nothing, by-search}
-use Rattle.prover.proofs.Counts.{
-  Counted,
-  counted-start,
-  counted-le,
-  counted-more,
-  counted-before,
-  counted-rows,
-  counted-cleared,
-  rowFor,
-  answer-true,
-  answer-false,
+use Rattle.prover_lookup.proofs.Places.{next-input}
+use Rattle.prover_lookup.proofs.m.Group.{
+  GroupCounted,
+  group-start,
+  group-done,
+  group-more,
+  group-stop,
+  group-stop-size,
+  member-there,
+  table-there,
+  member-small,
+  table-small,
+  member-room,
 }
-use Rattle.prover_lookup.proofs.m.Down.{none-seen, all-seen, next-hit, next-miss}
+use Rattle.prover_lookup.proofs.m.Searches.{by-searches}
 use Rattle.prover_lookup.proofs.m.lookup_m_poly.Statement.{statement}
 use Rattle.prover_lookup.proofs.m.lookup_m_poly.Tie as tie
-use Rattle.prover_lookup.proofs.m.lookup_m_poly.Reads as reads
-use Rattle.prover_lookup.proofs.m.lookup_m_poly.Lts as lts
-use Rattle.prover_instance.proofs.blank_column.clear.Reads as clear-reads
-
-abbrev Inv-search : tie.InvT-search
-Inv-search columns input table m rows i v seen₀ seen =
-    (seen ≤ rows) × (foundRow (λ r. getD columns (table + r) 0) v rows ≡ foundRow (λ r. getD columns (table + r) 0) v (rows - seen))
-
-abbrev μ-search : tie.MeasureT-search
-μ-search columns input table m rows i v seen₀ seen = rows - seen
 
 abbrev Inv-loop : tie.InvT-loop
-Inv-loop columns₀ input table m rows i₀ columns i =
-    (length columns ≡ length columns₀) × (i ≤ rows)
-    × ((d : List ℕ) → m + rows ≤ length d → columns₀ ≡ writeAt d m (replicate rows 0)
-    → Counted rows (rowFor rows (elementsFrom d input) (elementsFrom d table)) d m columns i)
+Inv-loop columns₀ input members m rows table from₀ i₀ columns from i =
+    (from ≡ input + i * 2 * rows)
+    × ((d : List ℕ) → m + rows ≤ length d → columns₀ ≡ writeAt d m (replicate rows 0) → GroupCounted d input members m rows columns i)
 
 abbrev μ-loop : tie.MeasureT-loop
-μ-loop columns₀ input table m rows i₀ columns i = rows - i
+μ-loop columns₀ input members m rows table from₀ i₀ columns from i = members - i
 
 -- the counts so far, over the buffer at entry
-counted : (c : tie.At-loop Inv-search μ-search Inv-loop μ-loop)
+counted : (c : tie.At-loop Inv-loop μ-loop)
     → let a = c .before .before .before .before .before .before .args in
-    Counted (a .rows) (rowFor (a .rows) (elementsFrom (a .columns .now) (a .input)) (elementsFrom (a .columns .now) (a .table)))
-    (a .columns .now) (a .m) (c .loop .columns) (c .loop .i)
-counted c =
-    let s = c .before .before .before .before .before .before in
-    c .loop .inv .2 (s .args .columns .now) (s .pre .2) (c .before .before .before .clear .ensures)
+    GroupCounted (a .columns .now) (a .input) (a .members) (a .m) (a .rows) (c .loop .columns) (c .loop .i)
+counted c = let s = c .before .before .before .before .before .before in c .loop .inv .1 (s .args .columns .now) (s .pre .1) (c .before .before .before .clear .ensures)
 
--- the row that the buffer has for an input
-abbrev row : (c : tie.At-loop Inv-search μ-search Inv-loop μ-loop) → Option ℕ
-row c =
-    let a = c .before .before .before .before .before .before .args in
-    lastRow (λ r. getD (c .loop .columns) (a .table + r) 0) (getD (c .loop .columns) (a .input + c .loop .i) 0) (a .rows)
-
--- it is the one that any buffer has in which the counts are written
-row-is : (c : tie.In-loop Inv-search μ-search Inv-loop μ-loop) (d : List ℕ)
+-- the places of the next member
+there : (c : tie.In-loop Inv-loop μ-loop)
     → let a = c .before .before .before .before .before .before .before .args in
-    a .m + a .rows ≤ length d
-    → Counted (a .rows) (rowFor (a .rows) (elementsFrom d (a .input)) (elementsFrom d (a .table))) d (a .m) (c .before .loop .columns)
-    (c .before .loop .i)
-    → rowFor (a .rows) (elementsFrom d (a .input)) (elementsFrom d (a .table)) (c .before .loop .i) ≡ row (c .before)
-row-is c d h k =
+    (c .before .loop .from + a .rows + a .rows ≤ a .m) × (a .input + a .rows + a .rows ≤ a .m)
+there c =
     let s = c .before .before .before .before .before .before .before in
-    counted-rows _ _ d _ h _ _ k (s .args .input) (s .args .table) (s .pre .0) (s .pre .1) _ (c .loop-test .taken)
+    let l = c .before .loop in (
+      member-there _ _ _ _ _ (s .pre .0) (s .pre .1) _ _ (counted (c .before)) (c .loop-test .taken) (l .from) (l .inv .0),
+      table-there _ _ _ _ _ (s .pre .0) (s .pre .1) _ _ (counted (c .before)) (c .loop-test .taken) (l .from) (l .inv .0),
+    )
 
--- the answer of the search for it
-abbrev sought : (c : tie.At-loop Inv-search μ-search Inv-loop μ-loop) → Found
-sought c =
-    let a = c .before .before .before .before .before .before .args in
-    foundRow (λ r. getD (c .loop .columns) (a .table + r) 0) (getD (c .loop .columns) (a .input + c .loop .i) 0) (a .rows)
-
--- what the search found, at the way out of its loop, is that answer
-found-is : (c : tie.Joined1 Inv-search μ-search Inv-loop μ-loop) → c .if1 .found ≡ sought (c .before .before .before .before)
-found-is c =
-    let l = c .before .search in
-    ⊎-elim
-    (λ w. w .2 ∙ sym (l .inv .1 ∙ all-seen _ _ _ (l .seen) (w .0 .taken)))
-    (λ w. w .4 ∙ sym (l .inv .1 ∙ next-hit _ _ _ (l .seen) (l .inv .0) (w .0 .left) (w .2 .taken)))
-    (c .if1 .came)
-
-at-is : (c : tie.After-found Inv-search μ-search Inv-loop μ-loop)
-    → row (c .before .before .before .before .before .before) ≡ some (c .found .given .0 .0)
-at-is c = found-at 𝔾 _ _ _ _ (sym (found-is (c .before .before)) ∙ c .found .given .1)
-
-at-below : (c : tie.After-found Inv-search μ-search Inv-loop μ-loop)
-    → c .found .given .0 .0 < c .before .before .before .before .before .before .before .before .before .before .before .before .args .rows
-at-below c = row-below _ _ _ _ (at-is c)
-
-clear-requires : tie.Need-clear-requires Inv-search μ-search Inv-loop μ-loop
+clear-requires : tie.Need-clear-requires Inv-loop μ-loop
 clear-requires c κs = search needs
 
-loop-holds : tie.Need-loop-holds Inv-search μ-search Inv-loop μ-loop
-loop-holds c = (refl, omega arith, λ d h e. counted-start _ _ d _ h _ e)
+add-table : tie.Need-add-table Inv-loop μ-loop
+add-table c = omega (arith, c .before .before .before .before .before .pre .0, c .before .before .before .before .before .pre .1, c .before .before .before .before .before .good)
 
-add-v : tie.Need-add-v Inv-search μ-search Inv-loop μ-loop
-add-v c = search needs
+loop-holds : tie.Need-loop-holds Inv-loop μ-loop
+loop-holds c =
+    let s = c .before .before .before .before .before in (
+      omega (arith, zero-mul (s .args .rows)),
+      λ d h e. group-start d _ _ _ _ (s .pre .0) h _ e,
+    )
 
-mul-v : tie.Need-mul-v Inv-search μ-search Inv-loop μ-loop
-mul-v c = search needs
+count-inputs-requires : tie.Need-count-inputs-requires Inv-loop μ-loop
+count-inputs-requires c κs =
+    let s = c .before .before .before .before .before .before .before .before in
+    let l = c .before .before .loop in
+    let k = counted (c .before .before) in
+    let lt = c .before .loop-test .taken in
+    let t = there (c .before) in (
+      omega (arith, t .0),
+      omega (arith, t .1),
+      omega (arith, s .pre .1, k .size),
+      member-small _ _ _ _ _ (s .pre .0) (s .pre .1) _ _ k lt (l .from) (l .inv .0) (s .pre .2),
+      table-small _ _ _ _ _ (s .pre .0) (s .pre .1) _ _ k lt (l .from) (l .inv .0) (s .pre .2),
+      member-room _ _ _ _ _ (s .pre .0) (s .pre .1) _ _ k lt (l .from) (l .inv .0) (omega (arith, s .fits .m)),
+    )
 
-slice-read-v : tie.Need-slice-read-v Inv-search μ-search Inv-loop μ-loop
-slice-read-v c = search needs
-
-search-holds : tie.Need-search-holds Inv-search μ-search Inv-loop μ-loop
-search-holds c = (omega arith, none-seen _ _ _)
-
-add-seen : tie.Need-add-seen Inv-search μ-search Inv-loop μ-loop
-add-seen c = search needs
-
-sub-row : tie.Need-sub-row Inv-search μ-search Inv-loop μ-loop
-sub-row c = search needs
-
-add-if2 : tie.Need-add-if2 Inv-search μ-search Inv-loop μ-loop
-add-if2 c = search needs
-
-mul-if2 : tie.Need-mul-if2 Inv-search μ-search Inv-loop μ-loop
-mul-if2 c = search needs
-
-slice-read-if2 : tie.Need-slice-read-if2 Inv-search μ-search Inv-loop μ-loop
-slice-read-if2 c = search needs
-
-search-less : tie.Need-search-less Inv-search μ-search Inv-loop μ-loop
-search-less c = search needs
-
-search-again : tie.Need-search-again Inv-search μ-search Inv-loop μ-loop
-search-again c =
+same-length : tie.Need-same-length Inv-loop μ-loop
+same-length c =
     let s = c .before .before .before .before .before .before .before .before .before .before .before .before in
-    let l = c .before .before .before .before .before .before in
-    let t = c .before .before .before .search in
-    let at = s .args .rows - (t .seen + 1) in
-    let lt : at < s .args .rows = omega (arith, c .before .before .if1 .left, t .inv .0) in (
-      omega arith,
-      t .inv .1
-          ∙ next-miss _ _ _ (t .seen) (t .inv .0) (c .before .before .if1 .left)
-          (rw (counted-before _ _ _ _ (s .pre .2) _ _ (counted l) (s .args .table + at) (omega (arith, s .pre .1, lt))) (s .pre .4 at lt))
-          (rw (counted-before _ _ _ _ (s .pre .2) _ _ (counted l) (s .args .input + l .loop .i) (omega (arith, s .pre .0, c .before .before .before .before .before .loop-test .taken)))
-          (s .pre .3 (l .loop .i) (c .before .before .before .before .before .loop-test .taken)))
-          (c .if2 .left),
-    )
+    let l = c .before .before .before .before .before .before .loop in
+    group-stop-size _ _ _ _ _ (s .pre .0) (s .pre .1) _ _ (counted (c .before .before .before .before .before .before)) (c .before .before .before .before .before .loop-test .taken) (l .from) (l .inv .0) _ _ (c .before .before .before .count-inputs .ensures)
+    (not-true (c .before .before .before .count-inputs .result) (c .if1 .taken))
 
-enum-known-found : tie.Need-enum-known-found Inv-search μ-search Inv-loop μ-loop
-enum-known-found c = search needs
-
-add-columns : tie.Need-add-columns Inv-search μ-search Inv-loop μ-loop
-add-columns c = omega (arith, at-below (c .before), c .before .before .before .before .before .before .before .before .before .before .before .before .before .pre .2, c .before .before .before .before .before .before .before .before .before .before .before .before .before .good)
-
-mul-columns : tie.Need-mul-columns Inv-search μ-search Inv-loop μ-loop
-mul-columns c = omega (arith, at-below (c .before), c .before .before .before .before .before .before .before .before .before .before .before .before .before .pre .2, c .before .before .before .before .before .before .before .before .before .before .before .before .before .good)
-
-slice-read-columns : tie.Need-slice-read-columns Inv-search μ-search Inv-loop μ-loop
-slice-read-columns c = omega (arith, at-below (c .before .before), c .before .before .before .before .before .before .before .before .before .before .before .before .before .before .pre .2, c .before .before .before .before .before .before .before .before .loop .inv .0, c .before .before .before .before .before .before .before .before .before .before .before .clear .kept .0)
-
-add-columns-2 : tie.Need-add-columns-2 Inv-search μ-search Inv-loop μ-loop
-add-columns-2 c =
-    omega (
-      arith,
-      counted-le _ _ _ _ (c .before .before .before .before .before .before .before .before .before .before .before .before .before .before .pre .2) _ _ (counted (c .before .before .before .before .before .before .before .before)) _ _ refl (at-below (c .before .before)),
-      c .before .before .before .before .before .before .before .loop-test .taken,
-      c .before .before .before .before .before .before .before .before .before .before .before .before .before .before .fits .rows,
-    )
-
-slice-write-columns : tie.Need-slice-write-columns Inv-search μ-search Inv-loop μ-loop
-slice-write-columns c = omega (arith, at-below (c .before .before), c .before .before .before .before .before .before .before .before .before .before .before .before .before .before .pre .2, c .before .before .before .before .before .before .before .before .loop .inv .0, c .before .before .before .before .before .before .before .before .before .before .before .clear .kept .0)
-
-enum-told : tie.Need-enum-told Inv-search μ-search Inv-loop μ-loop
-enum-told c = search needs
-
-clear-requires-2 : tie.Need-clear-requires-2 Inv-search μ-search Inv-loop μ-loop
-clear-requires-2 c κs = search needs
-
-same-length : tie.Need-same-length Inv-search μ-search Inv-loop μ-loop
-same-length c = search needs
-
-returns : tie.Need-returns Inv-search μ-search Inv-loop μ-loop
+returns : tie.Need-returns Inv-loop μ-loop
 returns c =
-    let s = c .before .before .before .before .before .before .before .before .before .before .before .before .before .before .before .before in
-    let l = c .before .before .before .before .before .before .before .before .before .before in
-    by-search _ _ _ _ _ _ _
-    (answer-false _ _ _ (s .args .columns .now) (s .args .m) _ (l .loop .i) (c .before .before .before .before .before .before .before .before .before .loop-test .taken)
-    (row-is (c .before .before .before .before .before .before .before .before .before) _ (s .pre .2) (counted l) ∙ found-nothing 𝔾 _ _ _ (sym (found-is (c .before .before .before .before .before .before)) ∙ c .before .before .before .before .enum-told .given .1))
-    (counted-cleared _ _ _ _ (s .pre .2) _ _ (counted l) _ (c .before .before .clear2 .ensures)))
+    let s = c .before .before .before .before .before .before .before .before .before .before .before .before in
+    let l = c .before .before .before .before .before .before .loop in
+    by-searches _ _ _ _ _ _ _
+    (group-stop _ _ _ _ _ (s .pre .0) (s .pre .1) _ _ (counted (c .before .before .before .before .before .before)) (c .before .before .before .before .before .loop-test .taken) (l .from) (l .inv .0) _ _ (c .before .before .before .count-inputs .ensures)
+    (not-true (c .before .before .before .count-inputs .result) (c .if1 .taken)))
 
-add-i : tie.Need-add-i Inv-search μ-search Inv-loop μ-loop
+mul-from : tie.Need-mul-from Inv-loop μ-loop
+mul-from c = omega (arith, there (c .before .before .before .before .before) .0, c .before .before .before .before .before .before .before .before .before .before .before .before .fits .m)
+
+add-from : tie.Need-add-from Inv-loop μ-loop
+add-from c = omega (arith, there (c .before .before .before .before .before) .0, c .before .before .before .before .before .before .before .before .before .before .before .before .fits .m)
+
+add-i : tie.Need-add-i Inv-loop μ-loop
 add-i c = search needs
 
-loop-less : tie.Need-loop-less Inv-search μ-search Inv-loop μ-loop
+loop-less : tie.Need-loop-less Inv-loop μ-loop
 loop-less c = search needs
 
-loop-again : tie.Need-loop-again Inv-search μ-search Inv-loop μ-loop
+loop-again : tie.Need-loop-again Inv-loop μ-loop
 loop-again c =
-    let l = c .before .before .before .before .before .before .before .before in (
-      simp length-set (l .loop .inv .0),
-      omega arith,
+    let s = c .before .before .before .before .before .before .before .before .before .before .before .before in
+    let l = c .before .before .before .before .before .before .loop in (
+      omega (arith, l .inv .0, next-input (s .args .input) (l .i) (s .args .rows)),
       λ d h e.
-          counted-more _ _ d _ h _ _ (l .loop .inv .2 d h e) _ _ refl (at-below (c .before .before))
-          (c .before .before .before .before .before .before .before .loop-test .taken)
-          (row-is (c .before .before .before .before .before .before .before) d h (l .loop .inv .2 d h e) ∙ at-is (c .before .before)),
+          group-more d _ _ _ _ (s .pre .0) h _ _ (l .inv .1 d h e) (c .before .before .before .before .before .loop-test .taken) (l .from) (l .inv .0) _ _ (c .before .before .before .count-inputs .ensures)
+          (not-false (c .before .before .before .count-inputs .result) (c .if1 .left)),
     )
 
-same-length-2 : tie.Need-same-length-2 Inv-search μ-search Inv-loop μ-loop
-same-length-2 c = search needs
+same-length-2 : tie.Need-same-length-2 Inv-loop μ-loop
+same-length-2 c = counted (c .before) .size
 
-returns-2 : tie.Need-returns-2 Inv-search μ-search Inv-loop μ-loop
-returns-2 c = by-search _ _ _ _ _ _ _ (answer-true _ _ _ _ _ _ _ (counted (c .before)) (c .loop-test .left))
+returns-2 : tie.Need-returns-2 Inv-loop μ-loop
+returns-2 c =
+    let s = c .before .before .before .before .before .before .before in
+    by-searches _ _ _ _ _ _ _ (group-done _ _ _ _ _ (s .pre .0) (s .pre .1) _ _ (counted (c .before)) (c .loop-test .left))
 
 pub lookup-m-poly-spec : {M : Type 1} → statement M
 lookup-m-poly-spec =
     tie.close
     (tie.spec
-    Inv-search
-    μ-search
     Inv-loop
     μ-loop
     clear-requires
+    add-table
     loop-holds
-    add-v
-    mul-v
-    slice-read-v
-    search-holds
-    add-seen
-    sub-row
-    add-if2
-    mul-if2
-    slice-read-if2
-    search-less
-    search-again
-    enum-known-found
-    add-columns
-    mul-columns
-    slice-read-columns
-    add-columns-2
-    slice-write-columns
-    enum-told
-    clear-requires-2
+    count-inputs-requires
     same-length
     returns
+    mul-from
+    add-from
     add-i
     loop-less
     loop-again
