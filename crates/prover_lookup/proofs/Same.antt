@@ -6,13 +6,13 @@ use mathlib.Core.Option.{Option}
 use Prim.Native.Nat.{ℕ, _+_, _*_, _≤_, _<_}
 use native.Mathlib.Omega.{arith}
 use lib.ListN.{getD}
-use Rattle.field.specs.Algebra.{product}
+use Rattle.field.specs.Algebra.{product, sum}
 use Rattle.field.specs.Field.{𝔾, el}
 use Rattle.lists.specs.Lists.{tabulate, range, concat, total, countOf, allOf, anyOf, isSome, isAt}
 use Rattle.lists.proofs.Columns.{tabulate-cong, map-tabulate, map-below, below-length}
 use Rattle.lists.proofs.Searches.{count-le, count-map}
 use Rattle.lists.proofs.Walks.{all-map, any-map}
-use Rattle.prover.specs.Lookup.{same, lastEqual, multiplicity, covered, groupMultiplicity, groupCovered, sumList, groupHAt}
+use Rattle.prover.specs.Lookup.{same, lastEqual, multiplicity, covered, groupMultiplicity, groupCovered, groupHAt}
 use Rattle.prover.specs.Denominators.{groupDenominators}
 use Rattle.prover.specs.Words.{elementsFrom}
 use Rattle.prover.proofs.Search.{last-same}
@@ -121,7 +121,7 @@ module _ (input input' : ℕ → ℕ → 𝔾 .F) (s : ℕ) where
     unfolding groupHAt
     group-h-agree m m' e =
         ap₂ (λ (x y : 𝔾 .F). 𝔾 .add x (𝔾 .neg y))
-        (ap (sumList 𝔾)
+        (ap (sum 𝔾)
         (inputs-agree (λ x. 𝔾 .inv (𝔾 .add γ (x b))) (λ x. 𝔾 .inv (𝔾 .add γ (x b))) (λ i l. ap (λ (x : 𝔾 .F). 𝔾 .inv (𝔾 .add γ x)) (inputs i l))))
         (ap₂ (λ (u v : 𝔾 .F). 𝔾 .mul u (𝔾 .inv (𝔾 .add γ v))) e tables)
 
