@@ -6,3 +6,4 @@ pub mod Cells
 pub mod Degree
 pub mod Forest
 pub mod Groups
+pub mod Alike

@@ -86,8 +86,8 @@ fn group_degree(
     if degree < 1025 { degree } else { 1025 }
 }
 
-// The pairs of `n` lookups, from lookup `first` on.
-fn pairs_in(widths: &[u64], first: usize, n: usize, start: usize) -> usize
+// The pairs of the lookups up to lookup `first` + n, those before `first` being `start`.
+pub fn pairs_in(widths: &[u64], first: usize, n: usize, start: usize) -> usize
     requires { ⌜ (first + n ≤ length (now widths)) × ((total (now widths) < 2 ^ 62) × (start ≡ total (take first (now widths)))) ⌝ }
     ensures { λ r. ⌜ r ≡ total (take (first + n) (now (widths .entry))) ⌝ }
 {

@@ -4,6 +4,7 @@ use backend_sections::contents::CELLS;
 use backend_sections::contents::CONSTRAINT_COUNT;
 use backend_sections::contents::FIRST_COUNT;
 use backend_sections::contents::FIRST_START;
+use backend_sections::contents::GROUP_COUNT;
 use backend_sections::contents::INSTANCE_COUNT;
 use backend_sections::contents::K_WORD;
 use backend_sections::contents::LENGTH_COUNT;
@@ -24,11 +25,11 @@ ghost use Rattle.backend.specs.Questions.{q1, q2, q3, q4};
 
 const LARGEST_K: u64 = 10;
 
-// "Are there 20 words or more?"
+// "Are there 20 words or more?"; of document 02: "question 1 wants 22 words".
 pub fn question_1(circuit: &[u64]) -> bool
     ensures { λ r. ⌜ r ≡ q1 (now (circuit .entry)) ⌝ }
 {
-    20 <= circuit.len()
+    22 <= circuit.len()
 }
 
 // "Is k from 1 to 10?"
@@ -39,7 +40,7 @@ pub fn question_2(circuit: &[u64]) -> bool
     (1 <= k) & (k <= LARGEST_K)
 }
 
-// 3, put to the contents. Word 1 is the maximum degree + 1, and the pairs have no limit of their own.
+// 3, put to the contents. Word 1 is the maximum degree + 1, and the pairs and the groups have no limit of their own.
 pub fn question_3(circuit: &[u64]) -> bool
     ensures { λ r. ⌜ r ≡ q3 (now (circuit .entry)) ⌝ }
 {
@@ -101,18 +102,18 @@ fn words_in(k: u64, s: usize, count: u64, room: u64) -> u64
     count * size
 }
 
-// 4, put to the contents: the sections follow without gaps, and nothing follows the last.
+// 4, put to the contents: the sections follow without gaps, nothing follows the last, and there are as many group numbers as lookups.
 pub fn question_4(circuit: &[u64]) -> bool
     ensures { λ r. ⌜ r ≡ q4 (now (circuit .entry)) ⌝ }
 {
     let k = word_at(circuit, K_WORD);
     let len = circuit.len() as u64;
-    let mut at: u64 = 20;
+    let mut at: u64 = 22;
     if len < at {
         return false;
     }
     let mut s: usize = 0;
-    while s < 9 {
+    while s < 10 {
         let start = word_at(circuit, FIRST_START + s * 2);
         let count = word_at(circuit, FIRST_COUNT + s * 2);
         let words = words_in(k, s, count, len - at);
@@ -125,5 +126,7 @@ pub fn question_4(circuit: &[u64]) -> bool
         at += words;
         s += 1;
     }
-    at == len
+    let groups = word_at(circuit, GROUP_COUNT);
+    let widths = word_at(circuit, WIDTH_COUNT);
+    (at == len) & (groups == widths)
 }

@@ -1,14 +1,16 @@
-// Questions 1 to 11 put to circuit words, in their order:
+// Questions 1 to 11, with 18 after 9, put to circuit words, in their order:
 // contents: 1 to 4, put to the contents
 // bodies: 3 and then 4, put to the bodies
 // sections: 5, 6 and 9
 // nodes: 7 and 8
+// groups: 18
 // degrees: 10
 // cycles: 11
 mod bodies;
 mod contents;
 mod cycles;
 mod degrees;
+mod groups;
 mod nodes;
 mod sections;
 
@@ -20,6 +22,7 @@ use crate::contents::question_3;
 use crate::contents::question_4;
 use crate::cycles::question_11;
 use crate::degrees::question_10;
+use crate::groups::question_18;
 use crate::nodes::question_7;
 use crate::nodes::question_8;
 use crate::sections::question_5;
@@ -74,6 +77,9 @@ fn body_no(circuit: &[u64]) -> u64
     }
     if !question_9(circuit) {
         return 9;
+    }
+    if !question_18(circuit) {
+        return 18;
     }
     if !question_10(circuit) {
         return 10;

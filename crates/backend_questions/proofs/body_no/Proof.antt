@@ -1,4 +1,4 @@
-use Rattle.backend.proofs.Answers.{says-no, says-yes, no-5, no-6, no-7, no-8, no-9, no-10, no-11, no-more}
+use Rattle.backend.proofs.Answers.{says-no, says-yes, no-5, no-6, no-7, no-8, no-9, no-18, no-10, no-11, no-more}
 use borrow.Author.Needs.{needs}
 use Rattle.backend_questions.proofs.body_no.Statement.{statement}
 use Rattle.backend_questions.proofs.body_no.Tie as tie
@@ -33,20 +33,26 @@ question-9-requires c κs = c .before .before .before .before .before .before .b
 returns-5 : tie.Need-returns-5
 returns-5 c = no-9 _ (says-yes _ _ (c .before .before .before .before .before .before .before .before .before .question-5 .ensures) (c .before .before .before .before .before .before .before .before .if1 .left)) (says-yes _ _ (c .before .before .before .before .before .before .before .question-6 .ensures) (c .before .before .before .before .before .before .if2 .left)) (says-yes _ _ (c .before .before .before .before .before .question-7 .ensures) (c .before .before .before .before .if3 .left)) (says-yes _ _ (c .before .before .before .question-8 .ensures) (c .before .before .if4 .left)) (says-no _ _ (c .before .question-9 .ensures) (c .if5 .taken))
 
-question-10-requires : tie.Need-question-10-requires
-question-10-requires c κs = (c .before .before .before .before .before .before .before .before .before .before .before .pre .0, (c .before .before .before .before .before .before .before .before .before .before .before .pre .1, (says-yes _ _ (c .before .before .before .before .before .question-7 .ensures) (c .before .before .before .before .if3 .left))))
+question-18-requires : tie.Need-question-18-requires
+question-18-requires c κs = (c .before .before .before .before .before .before .before .before .before .before .before .pre .0, (c .before .before .before .before .before .before .before .before .before .before .before .pre .1, (says-yes _ _ (c .before .before .before .before .before .question-7 .ensures) (c .before .before .before .before .if3 .left))))
 
 returns-6 : tie.Need-returns-6
-returns-6 c = no-10 _ (says-yes _ _ (c .before .before .before .before .before .before .before .before .before .before .before .question-5 .ensures) (c .before .before .before .before .before .before .before .before .before .before .if1 .left)) (says-yes _ _ (c .before .before .before .before .before .before .before .before .before .question-6 .ensures) (c .before .before .before .before .before .before .before .before .if2 .left)) (says-yes _ _ (c .before .before .before .before .before .before .before .question-7 .ensures) (c .before .before .before .before .before .before .if3 .left)) (says-yes _ _ (c .before .before .before .before .before .question-8 .ensures) (c .before .before .before .before .if4 .left)) (says-yes _ _ (c .before .before .before .question-9 .ensures) (c .before .before .if5 .left)) (says-no _ _ (c .before .question-10 .ensures) (c .if6 .taken))
+returns-6 c = no-18 _ (says-yes _ _ (c .before .before .before .before .before .before .before .before .before .before .before .question-5 .ensures) (c .before .before .before .before .before .before .before .before .before .before .if1 .left)) (says-yes _ _ (c .before .before .before .before .before .before .before .before .before .question-6 .ensures) (c .before .before .before .before .before .before .before .before .if2 .left)) (says-yes _ _ (c .before .before .before .before .before .before .before .question-7 .ensures) (c .before .before .before .before .before .before .if3 .left)) (says-yes _ _ (c .before .before .before .before .before .question-8 .ensures) (c .before .before .before .before .if4 .left)) (says-yes _ _ (c .before .before .before .question-9 .ensures) (c .before .before .if5 .left)) (says-no _ _ (c .before .question-18 .ensures) (c .if6 .taken))
 
-question-11-requires : tie.Need-question-11-requires
-question-11-requires c κs = c .before .before .before .before .before .before .before .before .before .before .before .before .before .pre
+question-10-requires : tie.Need-question-10-requires
+question-10-requires c κs = (c .before .before .before .before .before .before .before .before .before .before .before .before .before .pre .0, (c .before .before .before .before .before .before .before .before .before .before .before .before .before .pre .1, ((says-yes _ _ (c .before .before .before .before .before .before .before .question-7 .ensures) (c .before .before .before .before .before .before .if3 .left)), (says-yes _ _ (c .before .question-18 .ensures) (c .if6 .left)))))
 
 returns-7 : tie.Need-returns-7
-returns-7 c = no-11 _ (says-yes _ _ (c .before .before .before .before .before .before .before .before .before .before .before .before .before .question-5 .ensures) (c .before .before .before .before .before .before .before .before .before .before .before .before .if1 .left)) (says-yes _ _ (c .before .before .before .before .before .before .before .before .before .before .before .question-6 .ensures) (c .before .before .before .before .before .before .before .before .before .before .if2 .left)) (says-yes _ _ (c .before .before .before .before .before .before .before .before .before .question-7 .ensures) (c .before .before .before .before .before .before .before .before .if3 .left)) (says-yes _ _ (c .before .before .before .before .before .before .before .question-8 .ensures) (c .before .before .before .before .before .before .if4 .left)) (says-yes _ _ (c .before .before .before .before .before .question-9 .ensures) (c .before .before .before .before .if5 .left)) (says-yes _ _ (c .before .before .before .question-10 .ensures) (c .before .before .if6 .left)) (says-no _ _ (c .before .question-11 .ensures) (c .if7 .taken))
+returns-7 c = no-10 _ (says-yes _ _ (c .before .before .before .before .before .before .before .before .before .before .before .before .before .question-5 .ensures) (c .before .before .before .before .before .before .before .before .before .before .before .before .if1 .left)) (says-yes _ _ (c .before .before .before .before .before .before .before .before .before .before .before .question-6 .ensures) (c .before .before .before .before .before .before .before .before .before .before .if2 .left)) (says-yes _ _ (c .before .before .before .before .before .before .before .before .before .question-7 .ensures) (c .before .before .before .before .before .before .before .before .if3 .left)) (says-yes _ _ (c .before .before .before .before .before .before .before .question-8 .ensures) (c .before .before .before .before .before .before .if4 .left)) (says-yes _ _ (c .before .before .before .before .before .question-9 .ensures) (c .before .before .before .before .if5 .left)) (says-yes _ _ (c .before .before .before .question-18 .ensures) (c .before .before .if6 .left)) (says-no _ _ (c .before .question-10 .ensures) (c .if7 .taken))
+
+question-11-requires : tie.Need-question-11-requires
+question-11-requires c κs = c .before .before .before .before .before .before .before .before .before .before .before .before .before .before .before .pre
 
 returns-8 : tie.Need-returns-8
-returns-8 c = no-more _ (says-yes _ _ (c .before .before .before .before .before .before .before .before .before .before .before .before .before .question-5 .ensures) (c .before .before .before .before .before .before .before .before .before .before .before .before .if1 .left)) (says-yes _ _ (c .before .before .before .before .before .before .before .before .before .before .before .question-6 .ensures) (c .before .before .before .before .before .before .before .before .before .before .if2 .left)) (says-yes _ _ (c .before .before .before .before .before .before .before .before .before .question-7 .ensures) (c .before .before .before .before .before .before .before .before .if3 .left)) (says-yes _ _ (c .before .before .before .before .before .before .before .question-8 .ensures) (c .before .before .before .before .before .before .if4 .left)) (says-yes _ _ (c .before .before .before .before .before .question-9 .ensures) (c .before .before .before .before .if5 .left)) (says-yes _ _ (c .before .before .before .question-10 .ensures) (c .before .before .if6 .left)) (says-yes _ _ (c .before .question-11 .ensures) (c .if7 .left))
+returns-8 c = no-11 _ (says-yes _ _ (c .before .before .before .before .before .before .before .before .before .before .before .before .before .before .before .question-5 .ensures) (c .before .before .before .before .before .before .before .before .before .before .before .before .before .before .if1 .left)) (says-yes _ _ (c .before .before .before .before .before .before .before .before .before .before .before .before .before .question-6 .ensures) (c .before .before .before .before .before .before .before .before .before .before .before .before .if2 .left)) (says-yes _ _ (c .before .before .before .before .before .before .before .before .before .before .before .question-7 .ensures) (c .before .before .before .before .before .before .before .before .before .before .if3 .left)) (says-yes _ _ (c .before .before .before .before .before .before .before .before .before .question-8 .ensures) (c .before .before .before .before .before .before .before .before .if4 .left)) (says-yes _ _ (c .before .before .before .before .before .before .before .question-9 .ensures) (c .before .before .before .before .before .before .if5 .left)) (says-yes _ _ (c .before .before .before .before .before .question-18 .ensures) (c .before .before .before .before .if6 .left)) (says-yes _ _ (c .before .before .before .question-10 .ensures) (c .before .before .if7 .left)) (says-no _ _ (c .before .question-11 .ensures) (c .if8 .taken))
+
+returns-9 : tie.Need-returns-9
+returns-9 c = no-more _ (says-yes _ _ (c .before .before .before .before .before .before .before .before .before .before .before .before .before .before .before .question-5 .ensures) (c .before .before .before .before .before .before .before .before .before .before .before .before .before .before .if1 .left)) (says-yes _ _ (c .before .before .before .before .before .before .before .before .before .before .before .before .before .question-6 .ensures) (c .before .before .before .before .before .before .before .before .before .before .before .before .if2 .left)) (says-yes _ _ (c .before .before .before .before .before .before .before .before .before .before .before .question-7 .ensures) (c .before .before .before .before .before .before .before .before .before .before .if3 .left)) (says-yes _ _ (c .before .before .before .before .before .before .before .before .before .question-8 .ensures) (c .before .before .before .before .before .before .before .before .if4 .left)) (says-yes _ _ (c .before .before .before .before .before .before .before .question-9 .ensures) (c .before .before .before .before .before .before .if5 .left)) (says-yes _ _ (c .before .before .before .before .before .question-18 .ensures) (c .before .before .before .before .if6 .left)) (says-yes _ _ (c .before .before .before .question-10 .ensures) (c .before .before .if7 .left)) (says-yes _ _ (c .before .question-11 .ensures) (c .if8 .left))
 
 pub body-no-spec : {M : Type 1} → statement M
 body-no-spec =
@@ -62,8 +68,10 @@ body-no-spec =
     returns-4
     question-9-requires
     returns-5
-    question-10-requires
+    question-18-requires
     returns-6
-    question-11-requires
+    question-10-requires
     returns-7
-    returns-8)
+    question-11-requires
+    returns-8
+    returns-9)
