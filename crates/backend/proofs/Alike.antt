@@ -13,9 +13,9 @@ use borrow.Author.Tests.{eq-eqb, ne-eqb}
 use Rattle.lists.specs.Lists.{tabulate, range, allOf, split, total}
 use Rattle.lists.proofs.Lists.{split-length}
 use Rattle.lists.proofs.Columns.{map-tabulate, map-below, tabulate-suc, tabulate-length, tabulate-of, get-tabulate, tabulate-cong}
-use Rattle.lists.proofs.Parts.{total-within}
+use Rattle.lists.proofs.Parts.{total-within, total-next}
 use Rattle.lists.proofs.Tests.{all-append}
-use Rattle.lists.proofs.Walks.{all-map}
+use Rattle.lists.proofs.Walks.{all-map, Walked, walk-none, walk-more, walk-done, walk-fails}
 use Rattle.expression.specs.Expr.{Expr}
 use Rattle.expression.specs.Nodes.{exprOf}
 use Rattle.expression.specs.Same.{sameExpr, sameList}
@@ -189,3 +189,38 @@ module _ (nodes widths body : List ℕ) where
       e
       ∙ ap₂ (λ (a b : ℕ). sameExpr (exprOf nodes (getD body ((a + t) * 2 + 1) 0)) (exprOf nodes (getD body ((b + t) * 2 + 1) 0)))
       (p ∙ ap (λ (n : ℕ). total (take n widths)) (zero-add i)) (q ∙ ap (λ (n : ℕ). total (take n widths)) (zero-add f))
+
+  -- the groups before group j are alike, and its lookups are those from `first` on
+  pub record Likened (sizes : List ℕ) (first j : ℕ) : Type 0 where
+    pub walked : Walked (alikeNumbered sizes) (λ j. j) (length sizes) j
+    pub first-is : first ≡ total (take j sizes)
+
+  module _ (sizes : List ℕ) where
+    pub likened-none : Likened sizes 0 0
+    unfolding total
+    likened-none = record { walked = walk-none (alikeNumbered sizes) (λ j. j) (length sizes); first-is = refl }
+
+    module _ (first j : ℕ) (v : Likened sizes first j) (l : j < length sizes) (r : Bool)
+        (e : r ≡ tablesAlike (groupFrom nodes widths body first (getD sizes j 0))) where
+      told : alikeNumbered sizes j ≡ r
+      told = sym (e ∙ ap (λ (f : ℕ). tablesAlike (groupFrom nodes widths body f (getD sizes j 0))) (v .first-is))
+
+      pub likened-more : r ≡ true → Likened sizes (first + getD sizes j 0) (j + 1)
+      likened-more t =
+          record {
+            walked = walk-more (alikeNumbered sizes) (λ j. j) (length sizes) j (v .walked) l (told ∙ t);
+            first-is =
+                ap (λ (f : ℕ). f + getD sizes j 0) (v .first-is) ∙ sym (total-next sizes j l) ∙ ap (λ (i : ℕ). total (take i sizes)) (sym (add-one j));
+          }
+
+      pub likened-fails : r ≡ false → total widths ≡ length body / 2 → total sizes ≡ length widths
+          → false ≡ allOf tablesAlike (split sizes (split widths (pairsOf nodes body)))
+      likened-fails t p q = walk-fails (alikeNumbered sizes) (λ j. j) (length sizes) j l (told ∙ t) ∙ groups-alike sizes p q
+
+    pub likened-all : (first j : ℕ) → Likened sizes first j → length sizes ≤ j → total widths ≡ length body / 2 → total sizes ≡ length widths
+        → true ≡ allOf tablesAlike (split sizes (split widths (pairsOf nodes body)))
+    likened-all first j v l p q = walk-done (alikeNumbered sizes) (λ j. j) (length sizes) j (v .walked) l ∙ groups-alike sizes p q
+
+    -- its lookups are there
+    pub likened-fits : (first j : ℕ) → Likened sizes first j → total sizes ≡ length widths → first + getD sizes j 0 ≤ length widths
+    likened-fits first j v q = let w = total-within sizes j in let f = v .first-is in omega arith
