@@ -114,6 +114,16 @@ module _ (nodes sizes widths pairs : List ℕ) (enough : total widths * 2 ≤ le
       ap₂ (λ (is : List Expr) (t : Expr). groupTree (at (numberOfM v j)) (at (numberOfH v j)) is t) (group-inputs (v .«num_challenges»))
       (group-table (v .«num_challenges»))
 
+-- the sides of lookup i, whose first pair is s
+module _ (nodes widths pairs : List ℕ) (user i s w : ℕ) (es : s ≡ total (take i widths)) (ew : w ≡ getD widths i 0) where
+  pub input-side-is : inputSide nodes widths pairs user i ≡ sideTree nodes pairs user (s * 2) w
+  unfolding inputSide
+  input-side-is = ap₂ (λ (s w : ℕ). sideTree nodes pairs user (s * 2) w) (sym es) (sym ew)
+
+  pub table-side-is : tableSide nodes widths pairs user i ≡ sideTree nodes pairs user (s * 2 + 1) w
+  unfolding tableSide
+  table-side-is = ap₂ (λ (s w : ℕ). sideTree nodes pairs user (s * 2 + 1) w) (sym es) (sym ew)
+
 -- a root that stands in a list of roots
 pub root-node : (nodes roots : List ℕ) (i n : ℕ) → All (IsNode nodes) roots → i < length roots → n ≡ getD roots i 0 → n * 4 + 4 ≤ length nodes
 root-node nodes roots i n a h e = let q = all-get (IsNode nodes) roots a i 0 h in omega arith

@@ -36,7 +36,7 @@ use Rattle.preprocessor.specs.ComposeWords.{
 use Rattle.preprocessor.specs.Count.{nodesIn, listNodes, groupNodes}
 use Rattle.preprocessor.specs.declared.CircuitParams.{CircuitParams}
 use Rattle.preprocessor.proofs.Groups.{group-weight}
-use Rattle.preprocessor.proofs.ComposeWords.{constraints-length, group-tree, side-length, side-weight}
+use Rattle.preprocessor.proofs.ComposeWords.{constraints-length, group-tree, input-side-is, table-side-is, side-length, side-weight}
 use Rattle.preprocessor.proofs.Composed.{composed-is}
 use Rattle.preprocessor.proofs.Nodes.{nodes-append, nodes-one, list-size, challenge-size, compose-size, constraints-nodes}
 
@@ -137,13 +137,11 @@ module _ (item : ℕ) where
   module _ (nodes widths pairs : List ℕ) (beta i s w r : ℕ) (es : s ≡ total (take i widths)) (ew : w ≡ getD widths i 0) where
     pub input-counted : r ≡ min largestSize (weight item (sideTree nodes pairs beta (s * 2) w))
         → r ≡ min largestSize (weight item (inputSide nodes widths pairs beta i))
-    unfolding inputSide
-    input-counted e = e ∙ ap₂ (λ (s w : ℕ). min largestSize (weight item (sideTree nodes pairs beta (s * 2) w))) es ew
+    input-counted e = e ∙ ap (λ (t : Expr). min largestSize (weight item t)) (sym (input-side-is nodes widths pairs beta i s w es ew))
 
     pub table-counted : r ≡ min largestSize (weight item (sideTree nodes pairs beta (s * 2 + 1) w))
         → r ≡ min largestSize (weight item (tableSide nodes widths pairs beta i))
-    unfolding tableSide
-    table-counted e = e ∙ ap₂ (λ (s w : ℕ). min largestSize (weight item (sideTree nodes pairs beta (s * 2 + 1) w))) es ew
+    table-counted e = e ∙ ap (λ (t : Expr). min largestSize (weight item t)) (sym (table-side-is nodes widths pairs beta i s w es ew))
 
   -- a group: (n + 1) times, then the table twice
   pub group-counted : (n inputs table x y z u r I T : ℕ) → inputs ≡ min largestSize I → table ≡ min largestSize T → x ≡ min largestSize (inputs + n)

@@ -9,13 +9,16 @@ use lib.ListN.{length, getD}
 use Rattle.lists.specs.Lists.{tabulate}
 use Rattle.lists.proofs.Columns.{tabulate-length, tabulate-suc, tabulate-first, tabulate-cong, tabulate-of, get-tabulate, map-tabulate}
 use Rattle.expression.specs.Expr.{Expr, at, productFrom, productOf}
-use Rattle.expression.specs.Flat.{size}
+use Rattle.expression.specs.Flat.{body, size}
 use Rattle.expression.specs.Walks.{weight}
 use Rattle.expression.specs.Written.{Pushed, ExprWritten}
 use Rattle.expression.proofs.Visits.{size-is}
-use Rattle.expression.proofs.Written.{written-as, written-factor, written-sum}
-use Rattle.backend.specs.Constraints.{omitOne, sumFrom, sumOf, numeratorTree}
+use Rattle.expression.proofs.Written.{written-as, written-factor, written-sum, written-product, written-minus}
+use Rattle.backend.specs.Constraints.{omitOne, sumFrom, sumOf, numeratorTree, groupTree}
+use Rattle.preprocessor.specs.Compose.{numberOfM, numberOfH}
+use Rattle.preprocessor.specs.ComposeWords.{inputSides, tableSide, groupFromWords}
 use Rattle.preprocessor.specs.Count.{nodesIn}
+use Rattle.preprocessor.specs.declared.CircuitParams.{CircuitParams}
 use Rattle.preprocessor.proofs.Groups.{joined, product-weight, product-joined, sum-joined}
 use Rattle.preprocessor.proofs.Nodes.{nodes-append, nodes-one}
 
@@ -105,6 +108,17 @@ module _ (t : Expr) (f : ℕ → Expr) where
       let e = tabulate-first f (suc n) ∙ ap (λ (xs : List Expr). f 0 ∷ xs) (tabulate-first (λ i. f (suc i)) n) in
       ap (numeratorTree t) e ∙ numerator-two t (f 0) (f 1) (tabulate (λ i. f (suc (suc i))) n)
       ∙ sym (ap (λ (xs : List Expr). Expr.product t (sumOf (map productOf (omitOne xs)))) e)
+
+  pub sums-room : (n : ℕ) → 2 ≤ n → size (numeratorTree t (tabulate f n)) ≡ size t + size (sumOf (map productOf (omitOne (tabulate f n)))) + 1
+  unfolding body
+  sums-room n h = ap size (numerator-many n h) ∙ omega arith
+
+  pub table-room : (n : ℕ) → size t ≤ size (numeratorTree t (tabulate f n))
+  table-room n = go (decLt n 2)
+    where
+      go : Dec (n < 2) → size t ≤ size (numeratorTree t (tabulate f n))
+      go (yes h) = let e = ap size (numerator-few n h) in omega arith
+      go (no h) = let e = sums-room n (omega arith) in omega arith
 
 -- ---- room
 module _ (f : ℕ → Expr) where
@@ -220,3 +234,28 @@ module _ (f : ℕ → Expr) {from at x y next : ℕ} {d d1 d2 d3 : List ℕ} whe
       (ap (λ (n : ℕ). sumOf (tabulate f n)) (add-one (suc m)) ∙ ap sumOf (tabulate-suc f (suc m) ∙ ap (λ (l : List Expr). l ++ (f (suc m) ∷ [])) (tabulate-first f m))
       ∙ sum-end (f 0) (f (suc m)) fs)
       (written-sum (written-as (sym (ap sumOf (tabulate-first f m))) v) w p)
+
+-- ---- the whole constraint
+module _ (v : CircuitParams) (nodes widths pairs : List ℕ) (j first n : ℕ) where
+  abbrev inputs : List Expr
+  inputs = inputSides nodes widths pairs (v .«num_challenges») first n
+
+  abbrev table : Expr
+  table = tableSide nodes widths pairs (v .«num_challenges») first
+
+  pub group-size : size (groupFromWords v nodes widths pairs j first n)
+      ≡ size (productFrom (at (numberOfH v j)) inputs) + size table + size (numeratorTree table inputs) + size (productFrom (at (numberOfM v j)) inputs) + 4
+  unfolding groupFromWords groupTree body
+  group-size = omega arith
+
+  module _ {from node a b p t s d e next : ℕ} {d0 d1 d2 d3 d4 d5 d6 d7 d8 : List ℕ} where
+    pub group-written : ExprWritten from (productFrom (at (numberOfH v j)) inputs) node d0 d1 a → ExprWritten from table a d1 d2 b
+        → Pushed from b 9 (a - 1) (b - 1) 0 d2 d3 p
+        → ExprWritten from (numeratorTree table inputs) p d3 d4 t
+        → Pushed from t 7 (t - 1) 0 0 d4 d5 s
+        → Pushed from s 8 (p - 1) (s - 1) 0 d5 d6 d
+        → ExprWritten from (productFrom (at (numberOfM v j)) inputs) d d6 d7 e
+        → Pushed from e 8 (d - 1) (e - 1) 0 d7 d8 next
+        → ExprWritten from (groupFromWords v nodes widths pairs j first n) node d0 d8 next
+    unfolding groupFromWords groupTree
+    group-written wa wb wp wt ws wd we wn = written-sum (written-minus (written-product wa wb wp) wt ws wd) we wn

@@ -109,7 +109,7 @@ many-size b (e ∷ (f ∷ es)) h = omega arith
 
 -- ---- products
 module _ (f : ℕ → Expr) {from at next : ℕ} {d d1 : List ℕ} where
-  product-one : ExprWritten from (f 0) at d d1 next → ExprWritten from (productOf (tabulate f 1)) at d d1 next
+  pub product-one : ExprWritten from (f 0) at d d1 next → ExprWritten from (productOf (tabulate f 1)) at d d1 next
   unfolding productOf productFrom tabulate
   product-one w = w
 

@@ -58,6 +58,14 @@ exprsFrom es i = exprsOf (getD es i (Expr.constant 0)) (drop (suc i) es)
 abbrev pub IsNode : List ℕ → ℕ → Type 0
 IsNode nodes r = r * 4 + 4 ≤ length nodes
 
+-- n lookups from lookup `first` on, one or more, and their pairs, whose roots are nodes
+pub record GroupIn (nodes widths pairs : List ℕ) (user first n : ℕ) : Type 0 where
+  pub few-user : user ≤ 16
+  pub some : 0 < n
+  pub all-members : first + n ≤ length widths
+  pub all-pairs : total widths * 2 ≤ length pairs
+  pub pairs-named : All (IsNode nodes) pairs
+
 -- numbers in the limits of documents 01 and 02; D is 2 or more
 pub record Limits (params : CircuitParams) : Type 0 where
   pub few-polys : params .«num_poly» ≤ maxPolys

@@ -1,4 +1,4 @@
-// Rust `lookup_constraints`: a lookup's constraint, written as node words into a lent buffer.
+// A lookup's inputs and tables by powers of beta, with gamma, written as node words into a lent buffer.
 use expression::kind;
 use expression_nodes::index;
 use expression_write::copy_expr;
@@ -7,27 +7,21 @@ use expression_write::operations::challenge;
 use expression_write::operations::item;
 use expression_write::operations::list_end;
 use expression_write::operations::list_head;
-use expression_write::operations::negated;
-use expression_write::operations::product;
-use expression_write::operations::query;
 use expression_write::operations::sum;
 use expression_write::push;
-use preprocessor::CircuitParams;
-ghost use Prim.Native.Nat.{_+_, _*_, _≤_, _<_};
-ghost use lib.IntN.{pos};
-ghost use lib.ListN.{length};
-ghost use Rattle.lists.specs.Lists.{All};
+ghost use mathlib.Core.Path.{_≡_};
+ghost use Prim.Native.Nat.{_+_, _*_, _≤_, _<_, _^_};
+ghost use lib.ListN.{length, take};
+ghost use Rattle.lists.specs.Lists.{total, All};
 ghost use Rattle.expression.specs.Expr.{Expr, distributePowers};
 ghost use Rattle.expression.specs.Flat.{size, sizes, extra};
 ghost use Rattle.expression.specs.Written.{mostWords, ExprWritten, WrittenList};
-ghost use Rattle.backend.specs.Constraints.{lookupTree};
-ghost use Rattle.preprocessor.specs.Compose.{numberOfM, numberOfH};
-ghost use Rattle.preprocessor.specs.ComposeWords.{sideExprs, sideTree, exprsFrom, IsNode, Limits};
+ghost use Rattle.preprocessor.specs.ComposeWords.{sideExprs, sideTree, inputSide, tableSide, exprsFrom, IsNode};
 
 // The roots of a lookup's side: every second word, `count` of them from word `start` on.
-pub struct Run {
-    pub start: usize,
-    pub count: usize,
+struct Run {
+    start: usize,
+    count: usize,
 }
 
 // The expressions of a lookup's side from number i on, the base, the Items.
@@ -98,53 +92,56 @@ fn side(
     sum(out, from, x, gamma)
 }
 
-// h * (input + gamma), or m * (input + gamma)
-fn query_side(
+// The pairs of the lookups before lookup j.
+pub fn pairs_before(widths: &[u64], j: usize) -> usize
+    requires { ⌜ (j ≤ length (now widths)) × (total (now widths) < 2 ^ 63) ⌝ }
+    ensures { λ r. ⌜ r ≡ total (take j (now (widths .entry))) ⌝ }
+{
+    let mut sum: usize = 0;
+    let mut i = 0;
+    while i < j {
+        sum += index(widths[i]);
+        i += 1;
+    }
+    sum
+}
+
+// input + gamma of lookup i
+pub fn input_side(
     user: &[u64],
     pairs: &[u64],
+    widths: &[u64],
     out: &mut [u64],
     from: usize,
     beta: usize,
-    run: Run,
-    q: usize,
+    i: usize,
     at: usize,
 ) -> usize
-    requires { ⌜ All (IsNode (now user)) (now pairs) × ((run .start + run .count * 2 ≤ length (now pairs) + 1) × ((beta ≤ 16) × ((at + size (sideTree (now user) (now pairs) beta (run .start) (run .count)) + 2) * 4 ≤ mostWords))) ⌝ }
-    ensures { λ r. ⌜ ExprWritten from (Expr.product (Expr.poly q (pos 0)) (sideTree (now (user .entry)) (now (pairs .entry)) beta (run .start) (run .count))) at (now (out .entry)) (now (out .exit)) r ⌝ }
+    requires { ⌜ All (IsNode (now user)) (now pairs) × ((total (now widths) * 2 ≤ length (now pairs)) × ((i < length (now widths)) × ((beta ≤ 16) × ((at + size (inputSide (now user) (now widths) (now pairs) beta i)) * 4 ≤ mostWords)))) ⌝ }
+    ensures { λ r. ⌜ ExprWritten from (inputSide (now (user .entry)) (now (widths .entry)) (now (pairs .entry)) beta i) at (now (out .entry)) (now (out .exit)) r ⌝ }
 {
-    let x = query(out, from, at, q as u64);
-    let y = side(user, pairs, out, from, beta, run, x);
-    product(out, from, x, y)
+    let start = pairs_before(widths, i) * 2;
+    let count = index(widths[i]);
+    let run = Run { start, count };
+    side(user, pairs, out, from, beta, run, at)
 }
 
-// h * (input + gamma) * (table + gamma) - (table + gamma) + m * (input + gamma), of the lookup whose inputs are these
-pub fn lookup_constraint(
+// table + gamma of lookup i
+pub fn table_side(
     user: &[u64],
     pairs: &[u64],
+    widths: &[u64],
     out: &mut [u64],
     from: usize,
-    params: CircuitParams,
-    j: usize,
-    inputs: Run,
+    beta: usize,
+    i: usize,
     at: usize,
 ) -> usize
-    requires { ⌜ All (IsNode (now user)) (now pairs) × (Limits params × ((j < params .«num_lookups») × ((inputs .start + inputs .count * 2 ≤ length (now pairs)) × ((at + size (sideTree (now user) (now pairs) (params .«num_challenges») (inputs .start) (inputs .count)) * 2 + size (sideTree (now user) (now pairs) (params .«num_challenges») (inputs .start + 1) (inputs .count)) * 2 + 8) * 4 ≤ mostWords)))) ⌝ }
-    ensures { λ r. ⌜ ExprWritten from (lookupTree (Expr.poly (numberOfM params j) (pos 0)) (Expr.poly (numberOfH params j) (pos 0)) (sideTree (now (user .entry)) (now (pairs .entry)) (params .«num_challenges») (inputs .start) (inputs .count)) (sideTree (now (user .entry)) (now (pairs .entry)) (params .«num_challenges») (inputs .start + 1) (inputs .count))) at (now (out .entry)) (now (out .exit)) r ⌝ }
+    requires { ⌜ All (IsNode (now user)) (now pairs) × ((total (now widths) * 2 ≤ length (now pairs)) × ((i < length (now widths)) × ((beta ≤ 16) × ((at + size (tableSide (now user) (now widths) (now pairs) beta i)) * 4 ≤ mostWords)))) ⌝ }
+    ensures { λ r. ⌜ ExprWritten from (tableSide (now (user .entry)) (now (widths .entry)) (now (pairs .entry)) beta i) at (now (out .entry)) (now (out .exit)) r ⌝ }
 {
-    let m = params.num_poly + params.num_permutation_polys + j;
-    let h = params.num_poly + params.num_permutation_polys + params.num_lookups + j;
-    let start = inputs.start + 1;
-    let tables = Run {
-        start,
-        count: inputs.count,
-    };
-    let beta = params.num_challenges;
-    let a = query_side(user, pairs, out, from, beta, inputs, h, at);
-    let b = side(user, pairs, out, from, beta, tables, a);
-    let p = product(out, from, a, b);
-    let t = side(user, pairs, out, from, beta, tables, p);
-    let n = negated(out, from, t);
-    let d = sum(out, from, p, n);
-    let e = query_side(user, pairs, out, from, beta, inputs, m, d);
-    sum(out, from, d, e)
+    let start = pairs_before(widths, i) * 2 + 1;
+    let count = index(widths[i]);
+    let run = Run { start, count };
+    side(user, pairs, out, from, beta, run, at)
 }

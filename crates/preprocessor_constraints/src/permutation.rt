@@ -25,7 +25,7 @@ fn next_z(out: &mut [u64], from: usize, params: CircuitParams, i: usize, at: usi
     requires { ⌜ Limits params × ((i < maxPolys) × ((at + 1) * 4 ≤ mostWords)) ⌝ }
     ensures { λ r. ⌜ ExprWritten from (nextTree params i) at (now (out .entry)) (now (out .exit)) r ⌝ }
 {
-    let z = params.num_poly + params.num_permutation_polys + params.num_lookups * 2;
+    let z = params.num_poly + params.num_permutation_polys + params.num_groups * 2;
     if i + 1 < params.num_chunks {
         return query(out, from, at, (z + (i + 1)) as u64);
     }
@@ -62,7 +62,7 @@ fn z_identities(
         out,
         from,
         at,
-        (params.num_poly + params.num_permutation_polys + params.num_lookups * 2 + i) as u64,
+        (params.num_poly + params.num_permutation_polys + params.num_groups * 2 + i) as u64,
     );
     let p = identity_product(copied, out, from, params, first, count, z);
     product(out, from, z, p)
@@ -117,7 +117,7 @@ pub fn start_constraint(out: &mut [u64], from: usize, params: CircuitParams, at:
         out,
         from,
         l,
-        (params.num_poly + params.num_permutation_polys + params.num_lookups * 2) as u64,
+        (params.num_poly + params.num_permutation_polys + params.num_groups * 2) as u64,
     );
     let one = push(out, from, z, kind::CONSTANT, 0, 0, 1);
     let n = negated(out, from, one);

@@ -6,8 +6,8 @@ use borrow.Author.Needs.{needs}
 use lib.ListN.{take}
 use mathlib.Core.Path.{_≡_, sym, ap, _∙_}
 use native.Mathlib.Omega.{arith}
-use Rattle.preprocessor_compose.proofs.constraints.pairs_before.Statement.{statement}
-use Rattle.preprocessor_compose.proofs.constraints.pairs_before.Tie as tie
+use Rattle.preprocessor_constraints.proofs.lookup.pairs_before.Statement.{statement}
+use Rattle.preprocessor_constraints.proofs.lookup.pairs_before.Tie as tie
 
 abbrev Inv-loop : tie.InvT-loop
 Inv-loop widths j sum₀ i₀ sum i = (i ≤ j) × (sum ≡ total (take i widths))
