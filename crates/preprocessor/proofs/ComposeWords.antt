@@ -24,7 +24,7 @@ use Rattle.expression.proofs.Visits.{size-is}
 use Rattle.backend.specs.Circuit.{Pair, pairAt, pairsOf}
 use Rattle.backend.specs.Constraints.{inputsOf, tablesOf, sideOf, groupTree, groupWith}
 use Rattle.preprocessor.specs.Compose.{numberOfM, numberOfH, startTree, partTree, lookupTreeOf, permutationTrees, constraintTrees, zeroTree, outerTrees, composeTree}
-use Rattle.preprocessor.specs.ComposeWords.{Limits, ComposeInput, IsNode, lookupsOf, groupsFromWords, sideExprs, sideTree, inputSide, tableSide, inputSides, groupFromWords, constraintsFromWords, numConstraints}
+use Rattle.preprocessor.specs.ComposeWords.{Limits, Words, GroupIn, ComposeInput, IsNode, lookupsOf, groupsFromWords, sideExprs, sideTree, inputSide, tableSide, inputSides, groupFromWords, constraintsFromWords, numConstraints}
 use Rattle.preprocessor.specs.declared.CircuitParams.{CircuitParams}
 use Rattle.preprocessor.proofs.Lists.{nth}
 
@@ -113,6 +113,29 @@ module _ (nodes sizes widths pairs : List ℕ) (enough : total widths * 2 ≤ le
   group-tree v =
       ap₂ (λ (is : List Expr) (t : Expr). groupTree (at (numberOfM v j)) (at (numberOfH v j)) is t) (group-inputs (v .«num_challenges»))
       (group-table (v .«num_challenges»))
+
+-- group j of the words, whose first lookup is s
+pub group-in : (v : CircuitParams) (nodes roots sizes widths pairs : List ℕ) → Words v nodes roots sizes widths pairs → (j s n : ℕ)
+    → j < v .«num_groups»
+    → s ≡ total (take j sizes)
+    → n ≡ getD sizes j 0
+    → GroupIn nodes widths pairs (v .«num_challenges») s n × (n ≤ 8)
+group-in v nodes roots sizes widths pairs w j s n h es en =
+    let q = total-within sizes j in
+    let m = w .all-members in
+    let g = w .all-groups in
+    let l = w .all-lookups in
+    let f = w .limits .few-lookups in
+    let p = all-get (λ n. 0 < n) sizes (w .some-members) j 0 (omega arith) in (
+      record {
+        few-user = w .limits .few-user;
+        some = omega arith;
+        all-members = omega arith;
+        all-pairs = w .all-pairs;
+        pairs-named = w .pairs-named;
+      },
+      omega arith,
+    )
 
 -- the sides of lookup i, whose first pair is s
 module _ (nodes widths pairs : List ℕ) (user i s w : ℕ) (es : s ≡ total (take i widths)) (ew : w ≡ getD widths i 0) where

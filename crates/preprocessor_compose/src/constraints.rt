@@ -8,32 +8,18 @@ use expression_write::operations::list_end;
 use expression_write::operations::list_head;
 use expression_write::push;
 use preprocessor::CircuitParams;
-use preprocessor_constraints::lookup::Run;
-use preprocessor_constraints::lookup::lookup_constraint;
+use preprocessor_constraints::group::Members;
+use preprocessor_constraints::group::lookup_constraint;
+use preprocessor_constraints::lookup::sum_before;
 use preprocessor_constraints::permutation::part_constraint;
 use preprocessor_constraints::permutation::start_constraint;
 ghost use mathlib.Core.Path.{_≡_};
 ghost use Prim.Native.Nat.{_+_, _*_, _≤_, _<_, _^_};
-ghost use lib.ListN.{length, take, getD};
-ghost use Rattle.lists.specs.Lists.{total};
+ghost use lib.ListN.{length, getD};
 ghost use Rattle.expression.specs.Expr.{Expr, distributePowers};
 ghost use Rattle.expression.specs.Flat.{size, sizes, extra};
 ghost use Rattle.expression.specs.Written.{mostWords, ExprWritten, WrittenList};
 ghost use Rattle.preprocessor.specs.ComposeWords.{constraintsFromWords, exprsFrom, Limits, ComposeInput, numConstraints};
-
-// The pairs of the lookups before lookup j.
-fn pairs_before(widths: &[u64], j: usize) -> usize
-    requires { ⌜ (j ≤ length (now widths)) × (total (now widths) < 2 ^ 63) ⌝ }
-    ensures { λ r. ⌜ r ≡ total (take j (now (widths .entry))) ⌝ }
-{
-    let mut sum: usize = 0;
-    let mut i = 0;
-    while i < j {
-        sum += index(widths[i]);
-        i += 1;
-    }
-    sum
-}
 
 // How many constraints there are.
 pub fn num_constraints(own: usize, params: CircuitParams) -> usize
@@ -41,9 +27,9 @@ pub fn num_constraints(own: usize, params: CircuitParams) -> usize
     ensures { λ r. ⌜ r ≡ numConstraints own params ⌝ }
 {
     if params.num_permutation_polys == 0 {
-        return own + params.num_lookups;
+        return own + params.num_groups;
     }
-    own + params.num_lookups + (1 + params.num_chunks)
+    own + params.num_groups + (1 + params.num_chunks)
 }
 
 // Where nodes are written: node `at` is next, in a buffer that stands for the words from word `from` on.
@@ -64,14 +50,15 @@ fn constraint(
     copied: &[u64],
     user: &[u64],
     roots: &[u64],
+    sizes: &[u64],
     widths: &[u64],
     pairs: &[u64],
     out: &mut [u64],
     params: CircuitParams,
     place: ItemPlace,
 ) -> usize
-    requires { ⌜ ComposeInput params (now copied) (now user) (now roots) (now widths) (now pairs) × ((place .i < numConstraints (length (now roots)) params) × ((place .at + size (getD (constraintsFromWords params (now copied) (now user) (now roots) (now widths) (now pairs)) (place .i) (Expr.constant 0))) * 4 ≤ mostWords)) ⌝ }
-    ensures { λ r. ⌜ ExprWritten (place .from) (getD (constraintsFromWords params (now (copied .entry)) (now (user .entry)) (now (roots .entry)) (now (widths .entry)) (now (pairs .entry))) (place .i) (Expr.constant 0)) (place .at) (now (out .entry)) (now (out .exit)) r ⌝ }
+    requires { ⌜ ComposeInput params (now copied) (now user) (now roots) (now sizes) (now widths) (now pairs) × ((place .i < numConstraints (length (now roots)) params) × ((place .at + size (getD (constraintsFromWords params (now copied) (now user) (now roots) (now sizes) (now widths) (now pairs)) (place .i) (Expr.constant 0))) * 4 ≤ mostWords)) ⌝ }
+    ensures { λ r. ⌜ ExprWritten (place .from) (getD (constraintsFromWords params (now (copied .entry)) (now (user .entry)) (now (roots .entry)) (now (sizes .entry)) (now (widths .entry)) (now (pairs .entry))) (place .i) (Expr.constant 0)) (place .at) (now (out .entry)) (now (out .exit)) r ⌝ }
 {
     let own = roots.len();
     let i = place.i;
@@ -80,14 +67,23 @@ fn constraint(
         return copy_expr(user, out, place.from, n, place.at);
     }
     let j = i - own;
-    if j < params.num_lookups {
-        let w = index(widths[j]);
-        let s = pairs_before(widths, j);
-        let start = s * 2;
-        let inputs = Run { start, count: w };
-        return lookup_constraint(user, pairs, out, place.from, params, j, inputs, place.at);
+    if j < params.num_groups {
+        let count = index(sizes[j]);
+        let first = sum_before(sizes, j);
+        let members = Members { first, count };
+        return lookup_constraint(
+            user,
+            pairs,
+            widths,
+            out,
+            place.from,
+            params,
+            j,
+            members,
+            place.at,
+        );
     }
-    let p = j - params.num_lookups;
+    let p = j - params.num_groups;
     if p == 0 {
         return start_constraint(out, place.from, params, place.at);
     }
@@ -99,17 +95,28 @@ fn constraint_items(
     copied: &[u64],
     user: &[u64],
     roots: &[u64],
+    sizes: &[u64],
     widths: &[u64],
     pairs: &[u64],
     out: &mut [u64],
     params: CircuitParams,
     place: ItemPlace,
 ) -> Listed
-    requires { ⌜ ComposeInput params (now copied) (now user) (now roots) (now widths) (now pairs) × ((place .i < numConstraints (length (now roots)) params) × ((place .at + sizes (exprsFrom (constraintsFromWords params (now copied) (now user) (now roots) (now widths) (now pairs)) (place .i)) + extra (exprsFrom (constraintsFromWords params (now copied) (now user) (now roots) (now widths) (now pairs)) (place .i)) + 2) * 4 ≤ mostWords)) ⌝ }
-    ensures { λ r. ⌜ WrittenList (place .from) (exprsFrom (constraintsFromWords params (now (copied .entry)) (now (user .entry)) (now (roots .entry)) (now (widths .entry)) (now (pairs .entry))) (place .i)) (Expr.challenge (params .«num_challenges» + 2)) (place .at) (now (out .entry)) (now (out .exit)) (r .next) (r .base) ⌝ }
+    requires { ⌜ ComposeInput params (now copied) (now user) (now roots) (now sizes) (now widths) (now pairs) × ((place .i < numConstraints (length (now roots)) params) × ((place .at + sizes (exprsFrom (constraintsFromWords params (now copied) (now user) (now roots) (now sizes) (now widths) (now pairs)) (place .i)) + extra (exprsFrom (constraintsFromWords params (now copied) (now user) (now roots) (now sizes) (now widths) (now pairs)) (place .i)) + 2) * 4 ≤ mostWords)) ⌝ }
+    ensures { λ r. ⌜ WrittenList (place .from) (exprsFrom (constraintsFromWords params (now (copied .entry)) (now (user .entry)) (now (roots .entry)) (now (sizes .entry)) (now (widths .entry)) (now (pairs .entry))) (place .i)) (Expr.challenge (params .«num_challenges» + 2)) (place .at) (now (out .entry)) (now (out .exit)) (r .next) (r .base) ⌝ }
 {
     let n = num_constraints(roots.len(), params);
-    let x = constraint(copied, user, roots, widths, pairs, out, params, place);
+    let x = constraint(
+        copied,
+        user,
+        roots,
+        sizes,
+        widths,
+        pairs,
+        out,
+        params,
+        place,
+    );
     if place.i + 1 < n {
         let i = place.i + 1;
         let after = ItemPlace {
@@ -117,7 +124,17 @@ fn constraint_items(
             from: place.from,
             at: x,
         };
-        let l = constraint_items(copied, user, roots, widths, pairs, out, params, after);
+        let l = constraint_items(
+            copied,
+            user,
+            roots,
+            sizes,
+            widths,
+            pairs,
+            out,
+            params,
+            after,
+        );
         let next = item(out, place.from, x, l.next);
         return Listed { next, base: l.base };
     }
@@ -129,14 +146,15 @@ pub fn constraint_powers(
     copied: &[u64],
     user: &[u64],
     roots: &[u64],
+    sizes: &[u64],
     widths: &[u64],
     pairs: &[u64],
     out: &mut [u64],
     params: CircuitParams,
     place: Place,
 ) -> usize
-    requires { ⌜ ComposeInput params (now copied) (now user) (now roots) (now widths) (now pairs) × ((place .at + size (distributePowers (constraintsFromWords params (now copied) (now user) (now roots) (now widths) (now pairs)) (Expr.challenge (params .«num_challenges» + 2)))) * 4 ≤ mostWords) ⌝ }
-    ensures { λ r. ⌜ ExprWritten (place .from) (distributePowers (constraintsFromWords params (now (copied .entry)) (now (user .entry)) (now (roots .entry)) (now (widths .entry)) (now (pairs .entry))) (Expr.challenge (params .«num_challenges» + 2))) (place .at) (now (out .entry)) (now (out .exit)) r ⌝ }
+    requires { ⌜ ComposeInput params (now copied) (now user) (now roots) (now sizes) (now widths) (now pairs) × ((place .at + size (distributePowers (constraintsFromWords params (now copied) (now user) (now roots) (now sizes) (now widths) (now pairs)) (Expr.challenge (params .«num_challenges» + 2)))) * 4 ≤ mostWords) ⌝ }
+    ensures { λ r. ⌜ ExprWritten (place .from) (distributePowers (constraintsFromWords params (now (copied .entry)) (now (user .entry)) (now (roots .entry)) (now (sizes .entry)) (now (widths .entry)) (now (pairs .entry))) (Expr.challenge (params .«num_challenges» + 2))) (place .at) (now (out .entry)) (now (out .exit)) r ⌝ }
 {
     let n = num_constraints(roots.len(), params);
     if n == 0 {
@@ -148,8 +166,28 @@ pub fn constraint_powers(
         at: place.at,
     };
     if n == 1 {
-        return constraint(copied, user, roots, widths, pairs, out, params, first);
+        return constraint(
+            copied,
+            user,
+            roots,
+            sizes,
+            widths,
+            pairs,
+            out,
+            params,
+            first,
+        );
     }
-    let l = constraint_items(copied, user, roots, widths, pairs, out, params, first);
+    let l = constraint_items(
+        copied,
+        user,
+        roots,
+        sizes,
+        widths,
+        pairs,
+        out,
+        params,
+        first,
+    );
     list_head(out, place.from, l)
 }

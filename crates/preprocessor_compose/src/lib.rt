@@ -28,16 +28,27 @@ fn zero_check(
     copied: &[u64],
     user: &[u64],
     roots: &[u64],
+    sizes: &[u64],
     widths: &[u64],
     pairs: &[u64],
     out: &mut [u64],
     params: CircuitParams,
     place: Place,
 ) -> usize
-    requires { ⌜ ComposeInput params (now copied) (now user) (now roots) (now widths) (now pairs) × ((place .at + size (zeroTree params (constraintsFromWords params (now copied) (now user) (now roots) (now widths) (now pairs)))) * 4 ≤ mostWords) ⌝ }
-    ensures { λ r. ⌜ ExprWritten (place .from) (zeroTree params (constraintsFromWords params (now (copied .entry)) (now (user .entry)) (now (roots .entry)) (now (widths .entry)) (now (pairs .entry)))) (place .at) (now (out .entry)) (now (out .exit)) r ⌝ }
+    requires { ⌜ ComposeInput params (now copied) (now user) (now roots) (now sizes) (now widths) (now pairs) × ((place .at + size (zeroTree params (constraintsFromWords params (now copied) (now user) (now roots) (now sizes) (now widths) (now pairs)))) * 4 ≤ mostWords) ⌝ }
+    ensures { λ r. ⌜ ExprWritten (place .from) (zeroTree params (constraintsFromWords params (now (copied .entry)) (now (user .entry)) (now (roots .entry)) (now (sizes .entry)) (now (widths .entry)) (now (pairs .entry)))) (place .at) (now (out .entry)) (now (out .exit)) r ⌝ }
 {
-    let x = constraint_powers(copied, user, roots, widths, pairs, out, params, place);
+    let x = constraint_powers(
+        copied,
+        user,
+        roots,
+        sizes,
+        widths,
+        pairs,
+        out,
+        params,
+        place,
+    );
     let y = push(out, place.from, x, kind::EQ_XY, 0, 0, 0);
     product(out, place.from, x, y)
 }
@@ -47,31 +58,42 @@ fn outer_items(
     copied: &[u64],
     user: &[u64],
     roots: &[u64],
+    sizes: &[u64],
     widths: &[u64],
     pairs: &[u64],
     out: &mut [u64],
     params: CircuitParams,
     place: ItemPlace,
 ) -> Listed
-    requires { ⌜ ComposeInput params (now copied) (now user) (now roots) (now widths) (now pairs) × ((place .i ≤ params .«num_lookups») × ((place .at + sizes (exprsFrom (outerTrees params (constraintsFromWords params (now copied) (now user) (now roots) (now widths) (now pairs))) (place .i)) + extra (exprsFrom (outerTrees params (constraintsFromWords params (now copied) (now user) (now roots) (now widths) (now pairs))) (place .i)) + 2) * 4 ≤ mostWords)) ⌝ }
-    ensures { λ r. ⌜ WrittenList (place .from) (exprsFrom (outerTrees params (constraintsFromWords params (now (copied .entry)) (now (user .entry)) (now (roots .entry)) (now (widths .entry)) (now (pairs .entry)))) (place .i)) (Expr.challenge (params .«num_challenges» + 2)) (place .at) (now (out .entry)) (now (out .exit)) (r .next) (r .base) ⌝ }
+    requires { ⌜ ComposeInput params (now copied) (now user) (now roots) (now sizes) (now widths) (now pairs) × ((place .i ≤ params .«num_groups») × ((place .at + sizes (exprsFrom (outerTrees params (constraintsFromWords params (now copied) (now user) (now roots) (now sizes) (now widths) (now pairs))) (place .i)) + extra (exprsFrom (outerTrees params (constraintsFromWords params (now copied) (now user) (now roots) (now sizes) (now widths) (now pairs))) (place .i)) + 2) * 4 ≤ mostWords)) ⌝ }
+    ensures { λ r. ⌜ WrittenList (place .from) (exprsFrom (outerTrees params (constraintsFromWords params (now (copied .entry)) (now (user .entry)) (now (roots .entry)) (now (sizes .entry)) (now (widths .entry)) (now (pairs .entry)))) (place .i)) (Expr.challenge (params .«num_challenges» + 2)) (place .at) (now (out .entry)) (now (out .exit)) (r .next) (r .base) ⌝ }
 {
     let from = place.from;
-    if place.i < params.num_lookups {
+    if place.i < params.num_groups {
         let x = query(
             out,
             from,
             place.at,
-            (params.num_poly + params.num_permutation_polys + params.num_lookups + place.i) as u64,
+            (params.num_poly + params.num_permutation_polys + params.num_groups + place.i) as u64,
         );
         let i = place.i + 1;
         let after = ItemPlace { i, from, at: x };
-        let l = outer_items(copied, user, roots, widths, pairs, out, params, after);
+        let l = outer_items(
+            copied,
+            user,
+            roots,
+            sizes,
+            widths,
+            pairs,
+            out,
+            params,
+            after,
+        );
         let next = item(out, from, x, l.next);
         return Listed { next, base: l.base };
     }
     let last = Place { from, at: place.at };
-    let x = zero_check(copied, user, roots, widths, pairs, out, params, last);
+    let x = zero_check(copied, user, roots, sizes, widths, pairs, out, params, last);
     list_end(out, from, x, params.num_challenges + 2)
 }
 
@@ -80,21 +102,42 @@ fn outer(
     copied: &[u64],
     user: &[u64],
     roots: &[u64],
+    sizes: &[u64],
     widths: &[u64],
     pairs: &[u64],
     out: &mut [u64],
     from: usize,
     params: CircuitParams,
 ) -> usize
-    requires { ⌜ ComposeInput params (now copied) (now user) (now roots) (now widths) (now pairs) × (size (composeTree params (constraintsFromWords params (now copied) (now user) (now roots) (now widths) (now pairs))) * 4 ≤ mostWords) ⌝ }
-    ensures { λ r. ⌜ ExprWritten from (composeTree params (constraintsFromWords params (now (copied .entry)) (now (user .entry)) (now (roots .entry)) (now (widths .entry)) (now (pairs .entry)))) 0 (now (out .entry)) (now (out .exit)) r ⌝ }
+    requires { ⌜ ComposeInput params (now copied) (now user) (now roots) (now sizes) (now widths) (now pairs) × (size (composeTree params (constraintsFromWords params (now copied) (now user) (now roots) (now sizes) (now widths) (now pairs))) * 4 ≤ mostWords) ⌝ }
+    ensures { λ r. ⌜ ExprWritten from (composeTree params (constraintsFromWords params (now (copied .entry)) (now (user .entry)) (now (roots .entry)) (now (sizes .entry)) (now (widths .entry)) (now (pairs .entry)))) 0 (now (out .entry)) (now (out .exit)) r ⌝ }
 {
-    if params.num_lookups == 0 {
+    if params.num_groups == 0 {
         let place = Place { from, at: 0 };
-        return zero_check(copied, user, roots, widths, pairs, out, params, place);
+        return zero_check(
+            copied,
+            user,
+            roots,
+            sizes,
+            widths,
+            pairs,
+            out,
+            params,
+            place,
+        );
     }
     let first = ItemPlace { i: 0, from, at: 0 };
-    let l = outer_items(copied, user, roots, widths, pairs, out, params, first);
+    let l = outer_items(
+        copied,
+        user,
+        roots,
+        sizes,
+        widths,
+        pairs,
+        out,
+        params,
+        first,
+    );
     list_head(out, from, l)
 }
 
@@ -103,14 +146,15 @@ pub fn compose(
     copied: &[u64],
     user: &[u64],
     roots: &[u64],
+    sizes: &[u64],
     widths: &[u64],
     pairs: &[u64],
     out: &mut [u64],
     from: usize,
     params: CircuitParams,
 ) -> usize
-    requires { ⌜ ComposeInput params (now copied) (now user) (now roots) (now widths) (now pairs) × (size (composeTree params (constraintsFromWords params (now copied) (now user) (now roots) (now widths) (now pairs))) * 4 ≤ mostWords) ⌝ }
-    ensures { λ r. ⌜ ((c : Circuit) → DecodedFrom c params (now (copied .entry)) (now (user .entry)) (now (roots .entry)) (now (widths .entry)) (now (pairs .entry)) → Composed from c (now (out .entry)) (now (out .exit)) r) ⌝ }
+    requires { ⌜ ComposeInput params (now copied) (now user) (now roots) (now sizes) (now widths) (now pairs) × (size (composeTree params (constraintsFromWords params (now copied) (now user) (now roots) (now sizes) (now widths) (now pairs))) * 4 ≤ mostWords) ⌝ }
+    ensures { λ r. ⌜ ((c : Circuit) → DecodedFrom c params (now (copied .entry)) (now (user .entry)) (now (roots .entry)) (now (sizes .entry)) (now (widths .entry)) (now (pairs .entry)) → Composed from c (now (out .entry)) (now (out .exit)) r) ⌝ }
 {
-    outer(copied, user, roots, widths, pairs, out, from, params)
+    outer(copied, user, roots, sizes, widths, pairs, out, from, params)
 }

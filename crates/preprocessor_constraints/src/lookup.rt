@@ -92,15 +92,15 @@ fn side(
     sum(out, from, x, gamma)
 }
 
-// The pairs of the lookups before lookup j.
-pub fn pairs_before(widths: &[u64], j: usize) -> usize
-    requires { ⌜ (j ≤ length (now widths)) × (total (now widths) < 2 ^ 63) ⌝ }
-    ensures { λ r. ⌜ r ≡ total (take j (now (widths .entry))) ⌝ }
+// The sum of the first j numbers: of widths, the pairs before lookup j; of sizes, the lookups before group j.
+pub fn sum_before(ns: &[u64], j: usize) -> usize
+    requires { ⌜ (j ≤ length (now ns)) × (total (now ns) < 2 ^ 63) ⌝ }
+    ensures { λ r. ⌜ r ≡ total (take j (now (ns .entry))) ⌝ }
 {
     let mut sum: usize = 0;
     let mut i = 0;
     while i < j {
-        sum += index(widths[i]);
+        sum += index(ns[i]);
         i += 1;
     }
     sum
@@ -120,7 +120,7 @@ pub fn input_side(
     requires { ⌜ All (IsNode (now user)) (now pairs) × ((total (now widths) * 2 ≤ length (now pairs)) × ((i < length (now widths)) × ((beta ≤ 16) × ((at + size (inputSide (now user) (now widths) (now pairs) beta i)) * 4 ≤ mostWords)))) ⌝ }
     ensures { λ r. ⌜ ExprWritten from (inputSide (now (user .entry)) (now (widths .entry)) (now (pairs .entry)) beta i) at (now (out .entry)) (now (out .exit)) r ⌝ }
 {
-    let start = pairs_before(widths, i) * 2;
+    let start = sum_before(widths, i) * 2;
     let count = index(widths[i]);
     let run = Run { start, count };
     side(user, pairs, out, from, beta, run, at)
@@ -140,7 +140,7 @@ pub fn table_side(
     requires { ⌜ All (IsNode (now user)) (now pairs) × ((total (now widths) * 2 ≤ length (now pairs)) × ((i < length (now widths)) × ((beta ≤ 16) × ((at + size (tableSide (now user) (now widths) (now pairs) beta i)) * 4 ≤ mostWords)))) ⌝ }
     ensures { λ r. ⌜ ExprWritten from (tableSide (now (user .entry)) (now (widths .entry)) (now (pairs .entry)) beta i) at (now (out .entry)) (now (out .exit)) r ⌝ }
 {
-    let start = pairs_before(widths, i) * 2 + 1;
+    let start = sum_before(widths, i) * 2 + 1;
     let count = index(widths[i]);
     let run = Run { start, count };
     side(user, pairs, out, from, beta, run, at)

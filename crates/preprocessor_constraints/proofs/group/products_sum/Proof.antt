@@ -30,54 +30,54 @@ abbrev μ-loop : tie.MeasureT-loop
 
 product-besides-requires : tie.Need-product-besides-requires Inv-loop μ-loop
 product-besides-requires c κs =
-    let a = (c .before .before .before .before .before .args) in
+    let a = c .before .before .before .before .before .args in
     let n = a .members .count in
-    let r = groups.first-sum-room (but (a .user .now) (a .widths .now) (a .pairs .now) (a .beta) (a .members .first) n) n (omega (arith, (c .before .before .before .before .before .pre) .1 .0)) in
+    let r = groups.first-sum-room (but (a .user .now) (a .widths .now) (a .pairs .now) (a .beta) (a .members .first) n) n (omega (arith, c .before .before .before .before .before .pre .1 .0)) in
     let s = ap (λ (xs : List Expr). size (sumOf xs)) (groups.products-are (λ i. inputSide (a .user .now) (a .widths .now) (a .pairs .now) (a .beta) (a .members .first + i)) n) in
-    ((c .before .before .before .before .before .pre) .0, ((c .before .before .before .before .before .pre) .1 .0, (omega (arith, (c .before .before .before .before .before .pre) .1 .0), omega (arith, (c .before .before .before .before .before .pre) .1 .1))))
+    (c .before .before .before .before .before .pre .0, (c .before .before .before .before .before .pre .1 .0, (omega (arith, c .before .before .before .before .before .pre .1 .0), omega (arith, c .before .before .before .before .before .pre .1 .1))))
 
 loop-holds : tie.Need-loop-holds Inv-loop μ-loop
 loop-holds c =
-    let a = (c .before .before .before .before .before .before .before .before .args) in
-    (omega arith, (omega (arith, (c .before .before .before .before .before .before .before .before .pre) .1 .0), (groups.sum-first (but (a .user .now) (a .widths .now) (a .pairs .now) (a .beta) (a .members .first) (a .members .count)) ((c .before .before .product-besides) .ensures) .number, (refl, λ d w. w))))
+    let a = c .before .before .before .before .before .before .before .before .args in
+    (omega arith, (omega (arith, c .before .before .before .before .before .before .before .before .pre .1 .0), (groups.sum-first (but (a .user .now) (a .widths .now) (a .pairs .now) (a .beta) (a .members .first) (a .members .count)) (c .before .before .product-besides .ensures) .number, (refl, λ d w. w))))
 
 product-besides-requires-2 : tie.Need-product-besides-requires-2 Inv-loop μ-loop
 product-besides-requires-2 c κs =
-    let a = (c .before .before .before .before .before .before .before .before .before .before .before .before .args) in
+    let a = c .before .before .before .before .before .before .before .before .before .before .before .before .args in
     let n = a .members .count in
-    let r = groups.sum-room (but (a .user .now) (a .widths .now) (a .pairs .now) (a .beta) (a .members .first) n) ((c .before .before .before .loop) .k) n ((c .before .before .before .loop) .inv .0) ((c .before .if1) .taken) in
+    let r = groups.sum-room (but (a .user .now) (a .widths .now) (a .pairs .now) (a .beta) (a .members .first) n) (c .before .before .before .loop .k) n (c .before .before .before .loop .inv .0) (c .before .if1 .taken) in
     let s = ap (λ (xs : List Expr). size (sumOf xs)) (groups.products-are (λ i. inputSide (a .user .now) (a .widths .now) (a .pairs .now) (a .beta) (a .members .first + i)) n) in
-    ((c .before .before .before .before .before .before .before .before .before .before .before .before .pre) .0, ((c .before .before .before .before .before .before .before .before .before .before .before .before .pre) .1 .0, ((c .before .if1) .taken, omega (arith, (c .before .before .before .before .before .before .before .before .before .before .before .before .pre) .1 .1, (c .before .before .before .loop) .inv .1 .1 .0))))
+    (c .before .before .before .before .before .before .before .before .before .before .before .before .pre .0, (c .before .before .before .before .before .before .before .before .before .before .before .before .pre .1 .0, (c .before .if1 .taken, omega (arith, c .before .before .before .before .before .before .before .before .before .before .before .before .pre .1 .1, c .before .before .before .loop .inv .1 .1 .0))))
 
 sum-requires : tie.Need-sum-requires Inv-loop μ-loop
 sum-requires c κs =
-    let a = (c .before .before .before .before .before .before .before .before .before .before .before .before .before .before .before .before .args) in
+    let a = c .before .before .before .before .before .before .before .before .before .before .before .before .before .before .before .before .args in
     let n = a .members .count in
-    let r = groups.sum-room (but (a .user .now) (a .widths .now) (a .pairs .now) (a .beta) (a .members .first) n) ((c .before .before .before .before .before .before .before .loop) .k) n ((c .before .before .before .before .before .before .before .loop) .inv .0) ((c .before .before .before .before .before .if1) .taken) in
+    let r = groups.sum-room (but (a .user .now) (a .widths .now) (a .pairs .now) (a .beta) (a .members .first) n) (c .before .before .before .before .before .before .before .loop .k) n (c .before .before .before .before .before .before .before .loop .inv .0) (c .before .before .before .before .before .if1 .taken) in
     let s = ap (λ (xs : List Expr). size (sumOf xs)) (groups.products-are (λ i. inputSide (a .user .now) (a .widths .now) (a .pairs .now) (a .beta) (a .members .first + i)) n) in
-    omega (arith, (c .before .before .before .before .before .before .before .before .before .before .before .before .before .before .before .before .pre) .1 .1, (c .before .before .before .before .before .before .before .loop) .inv .1 .1 .0, (c .before .before .before .product-besides2) .ensures .number)
+    omega (arith, c .before .before .before .before .before .before .before .before .before .before .before .before .before .before .before .before .pre .1 .1, c .before .before .before .before .before .before .before .loop .inv .1 .1 .0, c .before .before .before .product-besides2 .ensures .number)
 
 add-k : tie.Need-add-k Inv-loop μ-loop
-add-k c = omega (arith, (c .before .before .before .before .before .before .before .before .before .before .before .before .before .before .before .before .before .before .before .pre) .0 .all-members)
+add-k c = omega (arith, c .before .before .before .before .before .before .before .before .before .before .before .before .before .before .before .before .before .before .before .pre .0 .all-members)
 
 loop-less : tie.Need-loop-less Inv-loop μ-loop
 loop-less c = omega arith
 
 loop-again : tie.Need-loop-again Inv-loop μ-loop
 loop-again c =
-    let a = (c .before .before .before .before .before .before .before .before .before .before .before .before .before .before .before .before .before .before .before .args) in
+    let a = c .before .before .before .before .before .before .before .before .before .before .before .before .before .before .before .before .before .before .before .args in
     let F : ℕ → Expr = but (a .user .now) (a .widths .now) (a .pairs .now) (a .beta) (a .members .first) (a .members .count) in
-    (omega arith, (omega (arith, (c .before .before .before .before .before .before .before .before .if1) .taken), (groups.sum-more F ((c .before .before .before .before .before .before .before .before .before .before .loop) .k) ((c .before .before .before .before .before .before .before .before .before .before .loop) .inv .0) (((c .before .before .before .before .before .before .before .before .before .before .loop) .inv .1 .1 .1 .1) (a .out .now) (groups.sum-first F ((c .before .before .before .before .before .before .before .before .before .before .before .before .before .product-besides) .ensures))) ((c .before .before .before .before .before .before .product-besides2) .ensures) ((c .before .before .sum) .ensures) .number, (omega arith, λ d u. groups.sum-more F ((c .before .before .before .before .before .before .before .before .before .before .loop) .k) ((c .before .before .before .before .before .before .before .before .before .before .loop) .inv .0) (((c .before .before .before .before .before .before .before .before .before .before .loop) .inv .1 .1 .1 .1) d u) ((c .before .before .before .before .before .before .product-besides2) .ensures) ((c .before .before .sum) .ensures)))))
+    (omega arith, (omega (arith, c .before .before .before .before .before .before .before .before .if1 .taken), (groups.sum-more F (c .before .before .before .before .before .before .before .before .before .before .loop .k) (c .before .before .before .before .before .before .before .before .before .before .loop .inv .0) ((c .before .before .before .before .before .before .before .before .before .before .loop .inv .1 .1 .1 .1) (a .out .now) (groups.sum-first F (c .before .before .before .before .before .before .before .before .before .before .before .before .before .product-besides .ensures))) (c .before .before .before .before .before .before .product-besides2 .ensures) (c .before .before .sum .ensures) .number, (omega arith, λ d u. groups.sum-more F (c .before .before .before .before .before .before .before .before .before .before .loop .k) (c .before .before .before .before .before .before .before .before .before .before .loop .inv .0) ((c .before .before .before .before .before .before .before .before .before .before .loop .inv .1 .1 .1 .1) d u) (c .before .before .before .before .before .before .product-besides2 .ensures) (c .before .before .sum .ensures)))))
 
 same-length : tie.Need-same-length Inv-loop μ-loop
 same-length c = search needs
 
 returns : tie.Need-returns Inv-loop μ-loop
 returns c =
-    let a = (c .before .before .before .before .before .before .before .before .before .before .before .args) in
+    let a = c .before .before .before .before .before .before .before .before .before .before .before .args in
     let F : ℕ → Expr = but (a .user .now) (a .widths .now) (a .pairs .now) (a .beta) (a .members .first) (a .members .count) in
     written.written-as (ap sumOf (groups.products-are (λ i. inputSide (a .user .now) (a .widths .now) (a .pairs .now) (a .beta) (a .members .first + i)) (a .members .count)))
-    (groups.sum-all F ((c .before .before .loop) .k) (a .members .count) (omega (arith, (c .if1) .left)) (((c .before .before .loop) .inv .1 .1 .1 .1) (a .out .now) (groups.sum-first F ((c .before .before .before .before .before .product-besides) .ensures))))
+    (groups.sum-all F (c .before .before .loop .k) (a .members .count) (omega (arith, c .if1 .left)) ((c .before .before .loop .inv .1 .1 .1 .1) (a .out .now) (groups.sum-first F (c .before .before .before .before .before .product-besides .ensures))))
 
 pub products-sum-spec : {M : Type 1} → statement M
 products-sum-spec =

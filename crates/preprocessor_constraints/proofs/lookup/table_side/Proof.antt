@@ -7,22 +7,22 @@ use borrow.Author.Needs.{needs}
 use Rattle.preprocessor_constraints.proofs.lookup.table_side.Statement.{statement}
 use Rattle.preprocessor_constraints.proofs.lookup.table_side.Tie as tie
 
-pairs-before-requires : tie.Need-pairs-before-requires
-pairs-before-requires c κs = search needs
+sum-before-requires : tie.Need-sum-before-requires
+sum-before-requires c κs = search needs
 
 mul-start : tie.Need-mul-start
 mul-start c =
-    let entry = (c .before .before .before .before .before) in
+    let entry = c .before .before .before .before .before in
     let a = entry .args in
     let q = trees.words-end (a .user .now) (a .widths .now) (a .pairs .now) (entry .pre .1 .0) (a .i) (entry .pre .1 .1 .0) in
-    omega (arith, (c .pairs-before) .ensures)
+    omega (arith, c .sum-before .ensures)
 
 add-start : tie.Need-add-start
 add-start c =
-    let entry = (c .before .before .before .before .before) in
+    let entry = c .before .before .before .before .before in
     let a = entry .args in
     let q = trees.words-end (a .user .now) (a .widths .now) (a .pairs .now) (entry .pre .1 .0) (a .i) (entry .pre .1 .1 .0) in
-    omega (arith, (c .pairs-before) .ensures)
+    omega (arith, c .sum-before .ensures)
 
 mul-index : tie.Need-mul-index
 mul-index c = search needs
@@ -35,27 +35,27 @@ index-requires c κs = search needs
 
 side-requires : tie.Need-side-requires
 side-requires c κs =
-    let entry = (c .before .before .before .before .before .before .before .before) in
+    let entry = c .before .before .before .before .before .before .before .before in
     let a = entry .args in
     let q = trees.words-end (a .user .now) (a .widths .now) (a .pairs .now) (entry .pre .1 .0) (a .i) (entry .pre .1 .1 .0) in
-    let s = (c .before .before .before .pairs-before) .result in
-    let w = (c .before .index) .result in
-    let t = ap size (trees.table-side-is (a .user .now) (a .widths .now) (a .pairs .now) (a .beta) (a .i) s w ((c .before .before .before .pairs-before) .ensures) ((c .before .index) .ensures)) in
-    (entry .pre .0, (omega (arith, (c .before .before .before .pairs-before) .ensures, (c .before .index) .ensures), (entry .pre .1 .1 .1 .0, omega (arith, entry .pre .1 .1 .1 .1))))
+    let s = c .before .before .before .sum-before .result in
+    let w = c .before .index .result in
+    let t = ap size (trees.table-side-is (a .user .now) (a .widths .now) (a .pairs .now) (a .beta) (a .i) s w (c .before .before .before .sum-before .ensures) (c .before .index .ensures)) in
+    (entry .pre .0, (omega (arith, c .before .before .before .sum-before .ensures, c .before .index .ensures), (entry .pre .1 .1 .1 .0, omega (arith, entry .pre .1 .1 .1 .1))))
 
 same-length : tie.Need-same-length
 same-length c = search needs
 
 returns : tie.Need-returns
 returns c =
-    let a = (c .before .before .before .before .before .before .before .before .before .before .before .args) in
-    written.written-as (trees.table-side-is (a .user .now) (a .widths .now) (a .pairs .now) (a .beta) (a .i) ((c .before .before .before .before .before .before .pairs-before) .result) ((c .before .before .before .before .index) .result) ((c .before .before .before .before .before .before .pairs-before) .ensures) ((c .before .before .before .before .index) .ensures)) ((c .before .before .side) .ensures)
+    let a = c .before .before .before .before .before .before .before .before .before .before .before .args in
+    written.written-as (trees.table-side-is (a .user .now) (a .widths .now) (a .pairs .now) (a .beta) (a .i) (c .before .before .before .before .before .before .sum-before .result) (c .before .before .before .before .index .result) (c .before .before .before .before .before .before .sum-before .ensures) (c .before .before .before .before .index .ensures)) (c .before .before .side .ensures)
 
 pub table-side-spec : {M : Type 1} → statement M
 table-side-spec =
     tie.close
     (tie.spec
-    pairs-before-requires
+    sum-before-requires
     mul-start
     add-start
     mul-index
