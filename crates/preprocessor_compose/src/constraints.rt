@@ -17,7 +17,7 @@ ghost use mathlib.Core.Path.{_≡_};
 ghost use Prim.Native.Nat.{_+_, _*_, _≤_, _<_, _^_};
 ghost use lib.ListN.{length, getD};
 ghost use Rattle.expression.specs.Expr.{Expr, distributePowers};
-ghost use Rattle.expression.specs.Flat.{size, sizes, extra};
+ghost use Rattle.expression.specs.Flat.{size, sizes as sizesOf, extra};
 ghost use Rattle.expression.specs.Written.{mostWords, ExprWritten, WrittenList};
 ghost use Rattle.preprocessor.specs.ComposeWords.{constraintsFromWords, exprsFrom, Limits, ComposeInput, numConstraints};
 
@@ -102,7 +102,7 @@ fn constraint_items(
     params: CircuitParams,
     place: ItemPlace,
 ) -> Listed
-    requires { ⌜ ComposeInput params (now copied) (now user) (now roots) (now sizes) (now widths) (now pairs) × ((place .i < numConstraints (length (now roots)) params) × ((place .at + sizes (exprsFrom (constraintsFromWords params (now copied) (now user) (now roots) (now sizes) (now widths) (now pairs)) (place .i)) + extra (exprsFrom (constraintsFromWords params (now copied) (now user) (now roots) (now sizes) (now widths) (now pairs)) (place .i)) + 2) * 4 ≤ mostWords)) ⌝ }
+    requires { ⌜ ComposeInput params (now copied) (now user) (now roots) (now sizes) (now widths) (now pairs) × ((place .i < numConstraints (length (now roots)) params) × ((place .at + sizesOf (exprsFrom (constraintsFromWords params (now copied) (now user) (now roots) (now sizes) (now widths) (now pairs)) (place .i)) + extra (exprsFrom (constraintsFromWords params (now copied) (now user) (now roots) (now sizes) (now widths) (now pairs)) (place .i)) + 2) * 4 ≤ mostWords)) ⌝ }
     ensures { λ r. ⌜ WrittenList (place .from) (exprsFrom (constraintsFromWords params (now (copied .entry)) (now (user .entry)) (now (roots .entry)) (now (sizes .entry)) (now (widths .entry)) (now (pairs .entry))) (place .i)) (Expr.challenge (params .«num_challenges» + 2)) (place .at) (now (out .entry)) (now (out .exit)) (r .next) (r .base) ⌝ }
 {
     let n = num_constraints(roots.len(), params);

@@ -11,7 +11,7 @@ ghost use mathlib.Core.Path.{_≡_};
 ghost use mathlib.Core.List.{List};
 ghost use Prim.Native.Nat.{ℕ, suc, _+_, _*_, _≤_, _<_, _^_, min};
 ghost use lib.ListN.{length, getD};
-ghost use Rattle.lists.specs.Lists.{tabulate, All};
+ghost use Rattle.lists.specs.Lists.{tabulate, total, All};
 ghost use Rattle.expression.specs.Nodes.{exprOf};
 ghost use Rattle.expression.specs.Flat.{largestSize};
 ghost use Rattle.expression.specs.Walks.{weight};
@@ -86,20 +86,13 @@ fn inputs_nodes(
     sum
 }
 
-// The nodes of the table of a group, its first lookup's.
-fn table_nodes(
-    user: &[u64],
-    widths: &[u64],
-    pairs: &[u64],
-    beta: usize,
-    members: Members,
-    item: u64,
-) -> u64
-    requires { ⌜ GroupIn (now user) (now widths) (now pairs) beta (members .first) (members .count) × (item ≤ 1) ⌝ }
-    ensures { λ r. ⌜ r ≡ min largestSize (weight item (tableSide (now (user .entry)) (now (widths .entry)) (now (pairs .entry)) beta (members .first))) ⌝ }
+// The nodes of the table of lookup i.
+fn table_nodes(user: &[u64], widths: &[u64], pairs: &[u64], beta: usize, i: usize, item: u64) -> u64
+    requires { ⌜ All (IsNode (now user)) (now pairs) × ((total (now widths) * 2 ≤ length (now pairs)) × ((i < length (now widths)) × (item ≤ 1))) ⌝ }
+    ensures { λ r. ⌜ r ≡ min largestSize (weight item (tableSide (now (user .entry)) (now (widths .entry)) (now (pairs .entry)) beta i)) ⌝ }
 {
-    let s = sum_before(widths, members.first);
-    let w = index(widths[members.first]);
+    let s = sum_before(widths, i);
+    let w = index(widths[i]);
     side_nodes(user, pairs, beta, s * 2 + 1, w, item)
 }
 
@@ -116,7 +109,7 @@ fn group_nodes(
     ensures { λ r. ⌜ r ≡ min largestSize (groupNodes (members .count) (nodesIn item (inputSides (now (user .entry)) (now (widths .entry)) (now (pairs .entry)) beta (members .first) (members .count))) (weight item (tableSide (now (user .entry)) (now (widths .entry)) (now (pairs .entry)) beta (members .first)))) ⌝ }
 {
     let inputs = inputs_nodes(user, widths, pairs, beta, members, item);
-    let table = table_nodes(user, widths, pairs, beta, members, item);
+    let table = table_nodes(user, widths, pairs, beta, members.first, item);
     let x = add_sizes(inputs, members.count as u64);
     let y = (members.count as u64 + 1) * x;
     let z = add_sizes(y, table);

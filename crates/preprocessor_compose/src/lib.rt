@@ -17,7 +17,7 @@ use preprocessor::CircuitParams;
 ghost use mathlib.Core.Path.{_≡_};
 ghost use Prim.Native.Nat.{_+_, _-_, _*_, _≤_, _<_, _^_};
 ghost use Rattle.expression.specs.Expr.{Expr};
-ghost use Rattle.expression.specs.Flat.{size, sizes, extra};
+ghost use Rattle.expression.specs.Flat.{size, sizes as sizesOf, extra};
 ghost use Rattle.expression.specs.Written.{mostWords, ExprWritten, WrittenList};
 ghost use Rattle.backend.specs.Circuit.{Circuit};
 ghost use Rattle.preprocessor.specs.Compose.{zeroTree, outerTrees, composeTree};
@@ -65,7 +65,7 @@ fn outer_items(
     params: CircuitParams,
     place: ItemPlace,
 ) -> Listed
-    requires { ⌜ ComposeInput params (now copied) (now user) (now roots) (now sizes) (now widths) (now pairs) × ((place .i ≤ params .«num_groups») × ((place .at + sizes (exprsFrom (outerTrees params (constraintsFromWords params (now copied) (now user) (now roots) (now sizes) (now widths) (now pairs))) (place .i)) + extra (exprsFrom (outerTrees params (constraintsFromWords params (now copied) (now user) (now roots) (now sizes) (now widths) (now pairs))) (place .i)) + 2) * 4 ≤ mostWords)) ⌝ }
+    requires { ⌜ ComposeInput params (now copied) (now user) (now roots) (now sizes) (now widths) (now pairs) × ((place .i ≤ params .«num_groups») × ((place .at + sizesOf (exprsFrom (outerTrees params (constraintsFromWords params (now copied) (now user) (now roots) (now sizes) (now widths) (now pairs))) (place .i)) + extra (exprsFrom (outerTrees params (constraintsFromWords params (now copied) (now user) (now roots) (now sizes) (now widths) (now pairs))) (place .i)) + 2) * 4 ≤ mostWords)) ⌝ }
     ensures { λ r. ⌜ WrittenList (place .from) (exprsFrom (outerTrees params (constraintsFromWords params (now (copied .entry)) (now (user .entry)) (now (roots .entry)) (now (sizes .entry)) (now (widths .entry)) (now (pairs .entry)))) (place .i)) (Expr.challenge (params .«num_challenges» + 2)) (place .at) (now (out .entry)) (now (out .exit)) (r .next) (r .base) ⌝ }
 {
     let from = place.from;

@@ -4,7 +4,7 @@ use Rattle.preprocessor_compose.proofs.compose.Statement.{statement}
 use Rattle.preprocessor_compose.proofs.compose.Tie as tie
 
 outer-requires : tie.Need-outer-requires
-outer-requires c κs = c .before .before .before .before .before .before .before .pre
+outer-requires c κs = c .before .before .before .before .before .before .before .before .pre
 
 same-length : tie.Need-same-length
 same-length c = search needs

@@ -14,10 +14,10 @@ use Rattle.preprocessor_compose.proofs.outer.Tie as tie
 
 zero-check-requires : tie.Need-zero-check-requires
 zero-check-requires c κs =
-    let entry = c .before .before .before .before .before .before .before .before .before in
+    let entry = c .before .before .before .before .before .before .before .before .before .before in
     let a = (entry .args) in
     let v = a .params in
-    let hs = constraintsFromWords v (a .copied .now) (a .user .now) (a .roots .now) (a .widths .now) (a .pairs .now) in
+    let hs = constraintsFromWords v (a .copied .now) (a .user .now) (a .roots .now) (a .sizes .now) (a .widths .now) (a .pairs .now) in
     let es = outerTrees v hs in
     let b = Expr.challenge (v .«num_challenges» + 2) in
     let long = trees.outer-length v hs in
@@ -29,9 +29,9 @@ same-length c = search needs
 
 returns : tie.Need-returns
 returns c =
-    let a = (c .before .before .before .before .before .before .before .before .before .before .before .before .args) in
+    let a = (c .before .before .before .before .before .before .before .before .before .before .before .before .before .args) in
     let v = a .params in
-    let hs = constraintsFromWords v (a .copied .now) (a .user .now) (a .roots .now) (a .widths .now) (a .pairs .now) in
+    let hs = constraintsFromWords v (a .copied .now) (a .user .now) (a .roots .now) (a .sizes .now) (a .widths .now) (a .pairs .now) in
     let es = outerTrees v hs in
     let b = Expr.challenge (v .«num_challenges» + 2) in
     let long = trees.outer-length v hs in
@@ -40,10 +40,10 @@ returns c =
 outer-items-requires : tie.Need-outer-items-requires
 unfolding composeTree body
 outer-items-requires c κs =
-    let entry = c .before .before .before .before .before .before .before .before .before in
+    let entry = c .before .before .before .before .before .before .before .before .before .before in
     let a = (entry .args) in
     let v = a .params in
-    let hs = constraintsFromWords v (a .copied .now) (a .user .now) (a .roots .now) (a .widths .now) (a .pairs .now) in
+    let hs = constraintsFromWords v (a .copied .now) (a .user .now) (a .roots .now) (a .sizes .now) (a .widths .now) (a .pairs .now) in
     let es = outerTrees v hs in
     let b = Expr.challenge (v .«num_challenges» + 2) in
     let long = trees.outer-length v hs in
@@ -53,10 +53,10 @@ outer-items-requires c κs =
 list-head-requires : tie.Need-list-head-requires
 unfolding composeTree body
 list-head-requires c κs =
-    let entry = c .before .before .before .before .before .before .before .before .before .before .before .before .before in
+    let entry = c .before .before .before .before .before .before .before .before .before .before .before .before .before .before in
     let a = (entry .args) in
     let v = a .params in
-    let hs = constraintsFromWords v (a .copied .now) (a .user .now) (a .roots .now) (a .widths .now) (a .pairs .now) in
+    let hs = constraintsFromWords v (a .copied .now) (a .user .now) (a .roots .now) (a .sizes .now) (a .widths .now) (a .pairs .now) in
     let es = outerTrees v hs in
     let b = Expr.challenge (v .«num_challenges» + 2) in
     let long = trees.outer-length v hs in
@@ -70,9 +70,9 @@ same-length-2 c = search needs
 returns-2 : tie.Need-returns-2
 unfolding composeTree
 returns-2 c =
-    let a = (c .before .before .before .before .before .before .before .before .before .before .before .before .before .before .before .before .args) in
+    let a = (c .before .before .before .before .before .before .before .before .before .before .before .before .before .before .before .before .before .args) in
     let v = a .params in
-    let hs = constraintsFromWords v (a .copied .now) (a .user .now) (a .roots .now) (a .widths .now) (a .pairs .now) in
+    let hs = constraintsFromWords v (a .copied .now) (a .user .now) (a .roots .now) (a .sizes .now) (a .widths .now) (a .pairs .now) in
     let es = outerTrees v hs in
     let b = Expr.challenge (v .«num_challenges» + 2) in
     let long = trees.outer-length v hs in

@@ -9,23 +9,23 @@ use Rattle.preprocessor_compose.proofs.zero_check.Tie as tie
 
 constraint-powers-requires : tie.Need-constraint-powers-requires
 constraint-powers-requires c κs =
-    let entry = c .before .before .before .before .before .before .before in
+    let entry = c .before .before .before .before .before .before .before .before in
     let a = (entry .args) in
-    let q = trees.zero-size (a .params) (constraintsFromWords (a .params) (a .copied .now) (a .user .now) (a .roots .now) (a .widths .now) (a .pairs .now)) in
+    let q = trees.zero-size (a .params) (constraintsFromWords (a .params) (a .copied .now) (a .user .now) (a .roots .now) (a .sizes .now) (a .widths .now) (a .pairs .now)) in
     ((entry .pre .0), omega (arith, (entry .pre .1)))
 
 push-requires : tie.Need-push-requires
 push-requires c κs =
-    let entry = c .before .before .before .before .before .before .before .before .before .before .before in
+    let entry = c .before .before .before .before .before .before .before .before .before .before .before .before in
     let a = (entry .args) in
-    let q = trees.zero-size (a .params) (constraintsFromWords (a .params) (a .copied .now) (a .user .now) (a .roots .now) (a .widths .now) (a .pairs .now)) in
+    let q = trees.zero-size (a .params) (constraintsFromWords (a .params) (a .copied .now) (a .user .now) (a .roots .now) (a .sizes .now) (a .widths .now) (a .pairs .now)) in
     omega (arith, (entry .pre .1), (c .before .before .before .constraint-powers .ensures .number))
 
 product-requires : tie.Need-product-requires
 product-requires c κs =
-    let entry = c .before .before .before .before .before .before .before .before .before .before .before .before .before .before .before in
+    let entry = c .before .before .before .before .before .before .before .before .before .before .before .before .before .before .before .before in
     let a = (entry .args) in
-    let q = trees.zero-size (a .params) (constraintsFromWords (a .params) (a .copied .now) (a .user .now) (a .roots .now) (a .widths .now) (a .pairs .now)) in
+    let q = trees.zero-size (a .params) (constraintsFromWords (a .params) (a .copied .now) (a .user .now) (a .roots .now) (a .sizes .now) (a .widths .now) (a .pairs .now)) in
     omega (arith, (entry .pre .1), (c .before .before .before .before .before .before .before .constraint-powers .ensures .number), (c .before .before .before .push .ensures .number))
 
 same-length : tie.Need-same-length

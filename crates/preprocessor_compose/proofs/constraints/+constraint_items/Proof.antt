@@ -20,23 +20,23 @@ use Rattle.preprocessor_compose.proofs.constraints.num_constraints.Read
 use Rattle.preprocessor_compose.proofs.constraints.+constraint_items.{statement}
 use Rattle.preprocessor_compose.proofs.constraints.+constraint_items.Tie.{close}
 
-abbrev μ-constraint-items : Measures 6 constraint-items-kinds.ps ℕ
-μ-constraint-items κs a = numConstraints (length (a .1 .1 .0 .now)) (a .1 .1 .1 .1 .1 .1 .0) - a .1 .1 .1 .1 .1 .1 .1 .0 .i
+abbrev μ-constraint-items : Measures 7 constraint-items-kinds.ps ℕ
+μ-constraint-items κs a = numConstraints (length (a .1 .1 .0 .now)) (a .1 .1 .1 .1 .1 .1 .1 .0) - a .1 .1 .1 .1 .1 .1 .1 .1 .0 .i
 
-abbrev constraint-items-at : ℕ → In 6 constraint-items-kinds.ps
+abbrev constraint-items-at : ℕ → In 7 constraint-items-kinds.ps
 constraint-items-at t =
     and
-    6
+    7
     constraint-items-kinds.ps
-    (is 6 constraint-items-kinds.ps μ-constraint-items t)
+    (is 7 constraint-items-kinds.ps μ-constraint-items t)
     constraint-items.Pre
 
-abbrev constraint-items-below : ℕ → In 6 constraint-items-kinds.ps
+abbrev constraint-items-below : ℕ → In 7 constraint-items-kinds.ps
 constraint-items-below t =
     and
-    6
+    7
     constraint-items-kinds.ps
-    (falls 6 constraint-items-kinds.ps _<_ μ-constraint-items t)
+    (falls 7 constraint-items-kinds.ps _<_ μ-constraint-items t)
     constraint-items.Pre
 
 abbrev constraint-items-claims : ℕ → constraint-items-lts.Claims
@@ -55,22 +55,22 @@ constraint-items-num-constraints-requires :
       list-end-reads.Asked,
       list-end-reads.Learnt,
     ) (constraint-items-at t) constraint-items.Post
-constraint-items-num-constraints-requires t c κs = ((c .before .before .before .before .before .before .pre .1 .0 .words .limits), omega arith)
+constraint-items-num-constraints-requires t c κs = ((c .before .before .before .before .before .before .before .pre .1 .0 .words .limits), omega arith)
 
 constraint-items-constraint-requires : (t : ℕ) → constraint-items-lts.Need-constraint-requires (constraint-items-claims t) (constraint-items-at t) constraint-items.Post
 constraint-items-constraint-requires t c κs =
-    let entry = c .before .before .before .before .before .before .before .before in
+    let entry = c .before .before .before .before .before .before .before .before .before in
     let a = (entry .args) in
     let v = a .params in
-    let es = constraintsFromWords v (a .copied .now) (a .user .now) (a .roots .now) (a .widths .now) (a .pairs .now) in
+    let es = constraintsFromWords v (a .copied .now) (a .user .now) (a .roots .now) (a .sizes .now) (a .widths .now) (a .pairs .now) in
     let n = numConstraints (length (a .roots .now)) v in
-    let long = trees.constraints-length v (a .copied .now) (a .user .now) (a .roots .now) (a .widths .now) (a .pairs .now) in
+    let long = trees.constraints-length v (a .copied .now) (a .user .now) (a .roots .now) (a .sizes .now) (a .widths .now) (a .pairs .now) in
     let e = getD es (a .place .i) (Expr.constant 0) in
     let r = lists.first-room es n long (a .place .i) e refl in
     ((entry .pre .1 .0), ((entry .pre .1 .1 .0), omega (arith, (entry .pre .1 .1 .1))))
 
 constraint-items-add-if1 : (t : ℕ) → constraint-items-lts.Need-add-if1 (constraint-items-claims t) (constraint-items-at t) constraint-items.Post
-constraint-items-add-if1 t c = omega (arith, (c .before .before .before .before .before .before .before .before .before .before .before .before .pre .1 .1 .0), (c .before .before .before .before .before .num-constraints .ensures))
+constraint-items-add-if1 t c = omega (arith, (c .before .before .before .before .before .before .before .before .before .before .before .before .before .pre .1 .1 .0), (c .before .before .before .before .before .num-constraints .ensures))
 
 constraint-items-add-i : (t : ℕ) → constraint-items-lts.Need-add-i (constraint-items-claims t) (constraint-items-at t) constraint-items.Post
 constraint-items-add-i t c = omega (arith, (c .before .if1 .taken))
@@ -89,12 +89,12 @@ constraint-items-constraint-items-requires :
       list-end-reads.Learnt,
     ) (constraint-items-at t) constraint-items.Post
 constraint-items-constraint-items-requires t c κs =
-    let entry = c .before .before .before .before .before .before .before .before .before .before .before .before .before .before .before in
+    let entry = c .before .before .before .before .before .before .before .before .before .before .before .before .before .before .before .before in
     let a = (entry .args) in
     let v = a .params in
-    let es = constraintsFromWords v (a .copied .now) (a .user .now) (a .roots .now) (a .widths .now) (a .pairs .now) in
+    let es = constraintsFromWords v (a .copied .now) (a .user .now) (a .roots .now) (a .sizes .now) (a .widths .now) (a .pairs .now) in
     let n = numConstraints (length (a .roots .now)) v in
-    let long = trees.constraints-length v (a .copied .now) (a .user .now) (a .roots .now) (a .widths .now) (a .pairs .now) in
+    let long = trees.constraints-length v (a .copied .now) (a .user .now) (a .roots .now) (a .sizes .now) (a .widths .now) (a .pairs .now) in
     let e = getD es (a .place .i) (Expr.constant 0) in
     let m : a .place .i + 1 < n = omega (arith, (c .before .before .if1 .taken), (c .before .before .before .before .before .before .before .before .num-constraints .ensures)) in
     let q = lists.more-sizes es n long (a .place .i) e refl m in
@@ -104,12 +104,12 @@ constraint-items-constraint-items-requires t c κs =
 constraint-items-item-requires : (t : ℕ) → constraint-items-lts.Need-item-requires (constraint-items-claims t) (constraint-items-at t) constraint-items.Post
 unfolding body
 constraint-items-item-requires t c κs =
-    let entry = c .before .before .before .before .before .before .before .before .before .before .before .before .before .before .before .before .before .before .before in
+    let entry = c .before .before .before .before .before .before .before .before .before .before .before .before .before .before .before .before .before .before .before .before in
     let a = (entry .args) in
     let v = a .params in
-    let es = constraintsFromWords v (a .copied .now) (a .user .now) (a .roots .now) (a .widths .now) (a .pairs .now) in
+    let es = constraintsFromWords v (a .copied .now) (a .user .now) (a .roots .now) (a .sizes .now) (a .widths .now) (a .pairs .now) in
     let n = numConstraints (length (a .roots .now)) v in
-    let long = trees.constraints-length v (a .copied .now) (a .user .now) (a .roots .now) (a .widths .now) (a .pairs .now) in
+    let long = trees.constraints-length v (a .copied .now) (a .user .now) (a .roots .now) (a .sizes .now) (a .widths .now) (a .pairs .now) in
     let e = getD es (a .place .i) (Expr.constant 0) in
     let m : a .place .i + 1 < n = omega (arith, (c .before .before .before .before .before .before .if1 .taken), (c .before .before .before .before .before .before .before .before .before .before .before .before .num-constraints .ensures)) in
     let q = lists.more-sizes es n long (a .place .i) e refl m in
@@ -122,26 +122,26 @@ constraint-items-same-length t c = search needs
 
 constraint-items-returns : (t : ℕ) → constraint-items-lts.Need-returns (constraint-items-claims t) (constraint-items-at t) constraint-items.Post
 constraint-items-returns t c =
-    let a = (c .before .before .before .before .before .before .before .before .before .before .before .before .before .before .before .before .before .before .before .before .before .before .args) in
+    let a = (c .before .before .before .before .before .before .before .before .before .before .before .before .before .before .before .before .before .before .before .before .before .before .before .args) in
     let v = a .params in
-    let es = constraintsFromWords v (a .copied .now) (a .user .now) (a .roots .now) (a .widths .now) (a .pairs .now) in
+    let es = constraintsFromWords v (a .copied .now) (a .user .now) (a .roots .now) (a .sizes .now) (a .widths .now) (a .pairs .now) in
     let n = numConstraints (length (a .roots .now)) v in
-    let long = trees.constraints-length v (a .copied .now) (a .user .now) (a .roots .now) (a .widths .now) (a .pairs .now) in
+    let long = trees.constraints-length v (a .copied .now) (a .user .now) (a .roots .now) (a .sizes .now) (a .widths .now) (a .pairs .now) in
     let e = getD es (a .place .i) (Expr.constant 0) in
     let m : a .place .i + 1 < n = omega (arith, (c .before .before .before .before .before .before .before .before .before .if1 .taken), (c .before .before .before .before .before .before .before .before .before .before .before .before .before .before .before .num-constraints .ensures)) in
     lists.more-from es n long (a .place .i) e refl m (c .before .before .before .before .before .before .before .before .before .before .before .before .before .constraint .ensures) (c .before .before .before .before .before .before .constraint-items .ensures) (c .before .before .item .ensures)
 
 constraint-items-add-list-end : (t : ℕ) → constraint-items-lts.Need-add-list-end (constraint-items-claims t) (constraint-items-at t) constraint-items.Post
-constraint-items-add-list-end t c = omega (arith, (c .before .before .before .before .before .before .before .before .before .before .before .before .before .before .before .pre .1 .0 .words .limits))
+constraint-items-add-list-end t c = omega (arith, (c .before .before .before .before .before .before .before .before .before .before .before .before .before .before .before .before .pre .1 .0 .words .limits))
 
 constraint-items-list-end-requires : (t : ℕ) → constraint-items-lts.Need-list-end-requires (constraint-items-claims t) (constraint-items-at t) constraint-items.Post
 constraint-items-list-end-requires t c κs =
-    let entry = c .before .before .before .before .before .before .before .before .before .before .before .before .before .before .before in
+    let entry = c .before .before .before .before .before .before .before .before .before .before .before .before .before .before .before .before in
     let a = (entry .args) in
     let v = a .params in
-    let es = constraintsFromWords v (a .copied .now) (a .user .now) (a .roots .now) (a .widths .now) (a .pairs .now) in
+    let es = constraintsFromWords v (a .copied .now) (a .user .now) (a .roots .now) (a .sizes .now) (a .widths .now) (a .pairs .now) in
     let n = numConstraints (length (a .roots .now)) v in
-    let long = trees.constraints-length v (a .copied .now) (a .user .now) (a .roots .now) (a .widths .now) (a .pairs .now) in
+    let long = trees.constraints-length v (a .copied .now) (a .user .now) (a .roots .now) (a .sizes .now) (a .widths .now) (a .pairs .now) in
     let e = getD es (a .place .i) (Expr.constant 0) in
     let r = lists.first-room es n long (a .place .i) e refl in
     let x = (c .before .before .before .before .before .before .constraint .ensures .number) in
@@ -152,11 +152,11 @@ constraint-items-same-length-2 t c = search needs
 
 constraint-items-returns-2 : (t : ℕ) → constraint-items-lts.Need-returns-2 (constraint-items-claims t) (constraint-items-at t) constraint-items.Post
 constraint-items-returns-2 t c =
-    let a = (c .before .before .before .before .before .before .before .before .before .before .before .before .before .before .before .before .before .before .args) in
+    let a = (c .before .before .before .before .before .before .before .before .before .before .before .before .before .before .before .before .before .before .before .args) in
     let v = a .params in
-    let es = constraintsFromWords v (a .copied .now) (a .user .now) (a .roots .now) (a .widths .now) (a .pairs .now) in
+    let es = constraintsFromWords v (a .copied .now) (a .user .now) (a .roots .now) (a .sizes .now) (a .widths .now) (a .pairs .now) in
     let n = numConstraints (length (a .roots .now)) v in
-    let long = trees.constraints-length v (a .copied .now) (a .user .now) (a .roots .now) (a .widths .now) (a .pairs .now) in
+    let long = trees.constraints-length v (a .copied .now) (a .user .now) (a .roots .now) (a .sizes .now) (a .widths .now) (a .pairs .now) in
     let e = getD es (a .place .i) (Expr.constant 0) in
     lists.end-from es n long (a .place .i) e refl (omega (arith, (c .before .before .before .before .before .if1 .left), (c .before .before .before .before .before .before .before .before .before .before .before .num-constraints .ensures))) (c .before .before .before .before .before .before .before .before .before .constraint .ensures) (c .before .before .list-end .ensures)
 

@@ -3,8 +3,6 @@ use Rattle.expression.proofs.Written as written
 use Rattle.expression.specs.Flat.{size}
 use Rattle.preprocessor.proofs.ComposeWords as trees
 use Rattle.preprocessor.proofs.Parts as parts
-use Rattle.preprocessor.specs.Compose.{numberOfM, numberOfH}
-use Rattle.preprocessor.specs.ComposeWords.{sideTree}
 use lib.ListN.{length}
 use mathlib.Core.Path.{_≡_, ap}
 use native.Mathlib.Omega.{arith}
@@ -23,11 +21,11 @@ index-requires c κs = search needs
 
 copy-expr-requires : tie.Need-copy-expr-requires
 copy-expr-requires c κs =
-    let entry = c .before .before .before .before .before .before .before .before .before .before in
+    let entry = c .before .before .before .before .before .before .before .before .before .before .before in
     let a = (entry .args) in
     let v = a .params in
     let n = (c .before .index .result) in
-    let q = ap size (trees.own-nth v (a .copied .now) (a .user .now) (a .roots .now) (a .widths .now) (a .pairs .now) (a .place .i) n (c .before .before .before .if1 .taken) (c .before .index .ensures)) in
+    let q = ap size (trees.own-nth v (a .copied .now) (a .user .now) (a .roots .now) (a .sizes .now) (a .widths .now) (a .pairs .now) (a .place .i) n (c .before .before .before .if1 .taken) (c .before .index .ensures)) in
     (trees.root-node (a .user .now) (a .roots .now) (a .place .i) n (entry .pre .0 .words .constraints-named) (c .before .before .before .if1 .taken) (c .before .index .ensures), omega (arith, (entry .pre .1 .1)))
 
 same-length : tie.Need-same-length
@@ -35,9 +33,9 @@ same-length c = search needs
 
 returns : tie.Need-returns
 returns c =
-    let a = (c .before .before .before .before .before .before .before .before .before .before .before .before .before .args) in
+    let a = (c .before .before .before .before .before .before .before .before .before .before .before .before .before .before .args) in
     let v = a .params in
-    written.written-as (trees.own-nth v (a .copied .now) (a .user .now) (a .roots .now) (a .widths .now) (a .pairs .now) (a .place .i) (c .before .before .before .before .index .result) (c .before .before .before .before .before .before .if1 .taken) (c .before .before .before .before .index .ensures)) (c .before .before .copy-expr .ensures)
+    written.written-as (trees.own-nth v (a .copied .now) (a .user .now) (a .roots .now) (a .sizes .now) (a .widths .now) (a .pairs .now) (a .place .i) (c .before .before .before .before .index .result) (c .before .before .before .before .before .before .if1 .taken) (c .before .before .before .before .index .ensures)) (c .before .before .copy-expr .ensures)
 
 mul-index-2 : tie.Need-mul-index-2
 mul-index-2 c = search needs
@@ -48,47 +46,40 @@ shared-slice-read-index-2 c = search needs
 index-requires-2 : tie.Need-index-requires-2
 index-requires-2 c κs = search needs
 
-pairs-before-requires : tie.Need-pairs-before-requires
-pairs-before-requires c κs = search needs
-
-mul-start : tie.Need-mul-start
-mul-start c =
-    let entry = c .before .before .before .before .before .before .before .before .before .before .before .before in
-    let a = (entry .args) in
-    let v = a .params in
-    let q = trees.words-end (a .user .now) (a .widths .now) (a .pairs .now) (entry .pre .0 .words .all-pairs) (a .place .i - length (a .roots .now)) (omega (arith, (entry .pre .0 .words .all-lookups), (c .before .before .before .if2 .taken))) in
-    omega (arith, (c .pairs-before .ensures))
+sum-before-requires : tie.Need-sum-before-requires
+sum-before-requires c κs =
+    let w = c .before .before .before .before .before .before .before .before .before .before .before .before .pre .0 .words in
+    (omega (arith, w .all-groups, c .before .before .if2 .taken), omega (arith, w .all-members))
 
 lookup-constraint-requires : tie.Need-lookup-constraint-requires
 lookup-constraint-requires c κs =
-    let entry = c .before .before .before .before .before .before .before .before .before .before .before .before .before in
+    let entry = c .before .before .before .before .before .before .before .before .before .before .before .before .before .before in
     let a = (entry .args) in
     let v = a .params in
-    let s = (c .before .pairs-before .result) in
-    let w = (c .before .before .index2 .result) in
+    let w = entry .pre .0 .words in
     let j = a .place .i - length (a .roots .now) in
-    let q = trees.words-end (a .user .now) (a .widths .now) (a .pairs .now) (entry .pre .0 .words .all-pairs) j (omega (arith, (entry .pre .0 .words .all-lookups), (c .before .before .before .before .if2 .taken))) in
-    let t = ap size (trees.lookup-nth v (a .copied .now) (a .user .now) (a .roots .now) (a .widths .now) (a .pairs .now) (a .place .i) j s w (omega (arith, (c .before .before .before .before .before .before .if1 .left))) (c .before .before .before .before .if2 .taken) (entry .pre .0 .words .all-lookups) (entry .pre .0 .words .all-pairs) (c .before .pairs-before .ensures) (c .before .before .index2 .ensures)) in
-    let u = trees.lookup-size (numberOfM v j) (numberOfH v j) (sideTree (a .user .now) (a .pairs .now) (v .«num_challenges») (s * 2) w) (sideTree (a .user .now) (a .pairs .now) (v .«num_challenges») (s * 2 + 1) w) in
-    ((entry .pre .0 .words .pairs-named), ((entry .pre .0 .words .limits), ((c .before .before .before .before .if2 .taken), (omega (arith, (c .before .pairs-before .ensures), (c .before .before .index2 .ensures)), omega (arith, (entry .pre .1 .1))))))
+    let t = ap size (trees.lookup-nth v (a .copied .now) (a .user .now) (a .roots .now) (a .sizes .now) (a .widths .now) (a .pairs .now) (a .place .i) j (c .before .sum-before .result) (c .before .before .index2 .result) (omega (arith, (c .before .before .before .before .before .before .if1 .left))) (c .before .before .before .before .if2 .taken) (w .all-groups) (w .some-members) (w .all-members) (w .all-pairs) (c .before .sum-before .ensures) (c .before .before .index2 .ensures)) in
+    let g = trees.group-in v (a .user .now) (a .roots .now) (a .sizes .now) (a .widths .now) (a .pairs .now) w j (c .before .sum-before .result) (c .before .before .index2 .result) (c .before .before .before .before .if2 .taken) (c .before .sum-before .ensures) (c .before .before .index2 .ensures) in
+    (g .0, (w .limits, (c .before .before .before .before .if2 .taken, omega (arith, (entry .pre .1 .1)))))
 
 same-length-2 : tie.Need-same-length-2
 same-length-2 c = search needs
 
 returns-2 : tie.Need-returns-2
 returns-2 c =
-    let entry = c .before .before .before .before .before .before .before .before .before .before .before .before .before .before .before .before in
+    let entry = c .before .before .before .before .before .before .before .before .before .before .before .before .before .before .before .before .before in
     let a = (entry .args) in
     let v = a .params in
+    let w = entry .pre .0 .words in
     let j = a .place .i - length (a .roots .now) in
-    written.written-as (trees.lookup-nth v (a .copied .now) (a .user .now) (a .roots .now) (a .widths .now) (a .pairs .now) (a .place .i) j (c .before .before .before .before .pairs-before .result) (c .before .before .before .before .before .index2 .result) (omega (arith, (c .before .before .before .before .before .before .before .before .before .if1 .left))) (c .before .before .before .before .before .before .before .if2 .taken) (entry .pre .0 .words .all-lookups) (entry .pre .0 .words .all-pairs) (c .before .before .before .before .pairs-before .ensures) (c .before .before .before .before .before .index2 .ensures)) (c .before .before .lookup-constraint .ensures)
+    written.written-as (trees.lookup-nth v (a .copied .now) (a .user .now) (a .roots .now) (a .sizes .now) (a .widths .now) (a .pairs .now) (a .place .i) j (c .before .before .before .before .sum-before .result) (c .before .before .before .before .before .index2 .result) (omega (arith, (c .before .before .before .before .before .before .before .before .before .if1 .left))) (c .before .before .before .before .before .before .before .if2 .taken) (w .all-groups) (w .some-members) (w .all-members) (w .all-pairs) (c .before .before .before .before .sum-before .ensures) (c .before .before .before .before .before .index2 .ensures)) (c .before .before .lookup-constraint .ensures)
 
 start-constraint-requires : tie.Need-start-constraint-requires
 start-constraint-requires c κs =
-    let entry = c .before .before .before .before .before .before .before .before .before .before .before .before in
+    let entry = c .before .before .before .before .before .before .before .before .before .before .before .before .before in
     let a = (entry .args) in
     let v = a .params in
-    let q = ap size (trees.start-nth v (a .copied .now) (a .user .now) (a .roots .now) (a .widths .now) (a .pairs .now) (a .place .i) (omega (arith, (c .before .before .before .before .before .if1 .left), (c .before .before .before .if2 .left), (c .before .if3 .taken))) (entry .pre .1 .0)) in
+    let q = ap size (trees.start-nth v (a .copied .now) (a .user .now) (a .roots .now) (a .sizes .now) (a .widths .now) (a .pairs .now) (a .place .i) (omega (arith, (c .before .before .before .before .before .if1 .left), (c .before .before .before .if2 .left), (c .before .if3 .taken))) (entry .pre .1 .0)) in
     let r = parts.start-size v in
     ((entry .pre .0 .words .limits), omega (arith, (entry .pre .1 .1)))
 
@@ -97,23 +88,23 @@ same-length-3 c = search needs
 
 returns-3 : tie.Need-returns-3
 returns-3 c =
-    let entry = c .before .before .before .before .before .before .before .before .before .before .before .before .before .before .before in
+    let entry = c .before .before .before .before .before .before .before .before .before .before .before .before .before .before .before .before in
     let a = (entry .args) in
     let v = a .params in
-    written.written-as (trees.start-nth v (a .copied .now) (a .user .now) (a .roots .now) (a .widths .now) (a .pairs .now) (a .place .i) (omega (arith, (c .before .before .before .before .before .before .before .before .if1 .left), (c .before .before .before .before .before .before .if2 .left), (c .before .before .before .before .if3 .taken))) (entry .pre .1 .0)) (c .before .before .start-constraint .ensures)
+    written.written-as (trees.start-nth v (a .copied .now) (a .user .now) (a .roots .now) (a .sizes .now) (a .widths .now) (a .pairs .now) (a .place .i) (omega (arith, (c .before .before .before .before .before .before .before .before .if1 .left), (c .before .before .before .before .before .before .if2 .left), (c .before .before .before .before .if3 .taken))) (entry .pre .1 .0)) (c .before .before .start-constraint .ensures)
 
 sub-part-constraint : tie.Need-sub-part-constraint
 sub-part-constraint c = search needs
 
 part-constraint-requires : tie.Need-part-constraint-requires
 part-constraint-requires c κs =
-    let entry = c .before .before .before .before .before .before .before .before .before .before .before .before in
+    let entry = c .before .before .before .before .before .before .before .before .before .before .before .before .before in
     let a = (entry .args) in
     let v = a .params in
-    let p = a .place .i - length (a .roots .now) - v .«num_lookups» - 1 in
-    let e : a .place .i ≡ length (a .roots .now) + (v .«num_lookups» + suc p) = omega (arith, (c .before .before .before .before .before .if1 .left), (c .before .before .before .if2 .left), (c .before .if3 .left)) in
-    let h = trees.part-below v (a .copied .now) (a .user .now) (a .roots .now) (a .widths .now) (a .pairs .now) (a .place .i) p e (entry .pre .1 .0) in
-    let q = ap size (trees.part-nth v (a .copied .now) (a .user .now) (a .roots .now) (a .widths .now) (a .pairs .now) (a .place .i) p e (entry .pre .1 .0)) in
+    let p = a .place .i - length (a .roots .now) - v .«num_groups» - 1 in
+    let e : a .place .i ≡ length (a .roots .now) + (v .«num_groups» + suc p) = omega (arith, (c .before .before .before .before .before .if1 .left), (c .before .before .before .if2 .left), (c .before .if3 .left)) in
+    let h = trees.part-below v (a .copied .now) (a .user .now) (a .roots .now) (a .sizes .now) (a .widths .now) (a .pairs .now) (a .place .i) p e (entry .pre .1 .0) in
+    let q = ap size (trees.part-nth v (a .copied .now) (a .user .now) (a .roots .now) (a .sizes .now) (a .widths .now) (a .pairs .now) (a .place .i) p e (entry .pre .1 .0)) in
     let r = parts.part-size v (entry .pre .0 .words .limits) p h (a .copied .now) in
     ((entry .pre .0 .words .limits), (h, ((entry .pre .0 .all-copied), omega (arith, (entry .pre .1 .1)))))
 
@@ -122,12 +113,12 @@ same-length-4 c = search needs
 
 returns-4 : tie.Need-returns-4
 returns-4 c =
-    let entry = c .before .before .before .before .before .before .before .before .before .before .before .before .before .before .before in
+    let entry = c .before .before .before .before .before .before .before .before .before .before .before .before .before .before .before .before in
     let a = (entry .args) in
     let v = a .params in
-    let p = a .place .i - length (a .roots .now) - v .«num_lookups» - 1 in
-    let e : a .place .i ≡ length (a .roots .now) + (v .«num_lookups» + suc p) = omega (arith, (c .before .before .before .before .before .before .before .before .if1 .left), (c .before .before .before .before .before .before .if2 .left), (c .before .before .before .before .if3 .left)) in
-    written.written-as (trees.part-nth v (a .copied .now) (a .user .now) (a .roots .now) (a .widths .now) (a .pairs .now) (a .place .i) p e (entry .pre .1 .0)) (c .before .before .part-constraint .ensures)
+    let p = a .place .i - length (a .roots .now) - v .«num_groups» - 1 in
+    let e : a .place .i ≡ length (a .roots .now) + (v .«num_groups» + suc p) = omega (arith, (c .before .before .before .before .before .before .before .before .if1 .left), (c .before .before .before .before .before .before .if2 .left), (c .before .before .before .before .if3 .left)) in
+    written.written-as (trees.part-nth v (a .copied .now) (a .user .now) (a .roots .now) (a .sizes .now) (a .widths .now) (a .pairs .now) (a .place .i) p e (entry .pre .1 .0)) (c .before .before .part-constraint .ensures)
 
 pub constraint-spec : {M : Type 1} → statement M
 constraint-spec =
@@ -142,8 +133,7 @@ constraint-spec =
     mul-index-2
     shared-slice-read-index-2
     index-requires-2
-    pairs-before-requires
-    mul-start
+    sum-before-requires
     lookup-constraint-requires
     same-length-2
     returns-2

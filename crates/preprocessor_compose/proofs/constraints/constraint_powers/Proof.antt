@@ -21,20 +21,20 @@ same-length c = search needs
 
 returns : tie.Need-returns
 returns c =
-    let a = (c .before .before .before .before .before .before .before .before .before .before .before .before .args) in
+    let a = (c .before .before .before .before .before .before .before .before .before .before .before .before .before .args) in
     let v = a .params in
-    let es = constraintsFromWords v (a .copied .now) (a .user .now) (a .roots .now) (a .widths .now) (a .pairs .now) in
-    let long = trees.constraints-length v (a .copied .now) (a .user .now) (a .roots .now) (a .widths .now) (a .pairs .now) in
+    let es = constraintsFromWords v (a .copied .now) (a .user .now) (a .roots .now) (a .sizes .now) (a .widths .now) (a .pairs .now) in
+    let long = trees.constraints-length v (a .copied .now) (a .user .now) (a .roots .now) (a .sizes .now) (a .widths .now) (a .pairs .now) in
     let b = Expr.challenge (v .«num_challenges» + 2) in
     lists.powers-none b es (long ∙ sym (c .before .before .before .before .before .num-constraints .ensures) ∙ (c .before .before .before .before .if1 .taken)) (c .before .before .push .ensures)
 
 constraint-requires : tie.Need-constraint-requires
 constraint-requires c κs =
-    let entry = c .before .before .before .before .before .before .before .before .before .before in
+    let entry = c .before .before .before .before .before .before .before .before .before .before .before in
     let a = (entry .args) in
     let v = a .params in
-    let es = constraintsFromWords v (a .copied .now) (a .user .now) (a .roots .now) (a .widths .now) (a .pairs .now) in
-    let long = trees.constraints-length v (a .copied .now) (a .user .now) (a .roots .now) (a .widths .now) (a .pairs .now) in
+    let es = constraintsFromWords v (a .copied .now) (a .user .now) (a .roots .now) (a .sizes .now) (a .widths .now) (a .pairs .now) in
+    let long = trees.constraints-length v (a .copied .now) (a .user .now) (a .roots .now) (a .sizes .now) (a .widths .now) (a .pairs .now) in
     let b = Expr.challenge (v .«num_challenges» + 2) in
     let q = lists.one-size b es (long ∙ sym (c .before .before .before .num-constraints .ensures) ∙ (c .before .if2 .taken)) in
     ((entry .pre .0), (omega (arith, (c .before .before .before .num-constraints .ensures), (c .before .if2 .taken)), omega (arith, (entry .pre .1))))
@@ -44,21 +44,21 @@ same-length-2 c = search needs
 
 returns-2 : tie.Need-returns-2
 returns-2 c =
-    let a = (c .before .before .before .before .before .before .before .before .before .before .before .before .before .args) in
+    let a = (c .before .before .before .before .before .before .before .before .before .before .before .before .before .before .args) in
     let v = a .params in
-    let es = constraintsFromWords v (a .copied .now) (a .user .now) (a .roots .now) (a .widths .now) (a .pairs .now) in
-    let long = trees.constraints-length v (a .copied .now) (a .user .now) (a .roots .now) (a .widths .now) (a .pairs .now) in
+    let es = constraintsFromWords v (a .copied .now) (a .user .now) (a .roots .now) (a .sizes .now) (a .widths .now) (a .pairs .now) in
+    let long = trees.constraints-length v (a .copied .now) (a .user .now) (a .roots .now) (a .sizes .now) (a .widths .now) (a .pairs .now) in
     let b = Expr.challenge (v .«num_challenges» + 2) in
     lists.powers-one b es (long ∙ sym (c .before .before .before .before .before .before .num-constraints .ensures) ∙ (c .before .before .before .before .if2 .taken)) (c .before .before .constraint .ensures)
 
 constraint-items-requires : tie.Need-constraint-items-requires
 unfolding body
 constraint-items-requires c κs =
-    let entry = c .before .before .before .before .before .before .before .before .before .before in
+    let entry = c .before .before .before .before .before .before .before .before .before .before .before in
     let a = (entry .args) in
     let v = a .params in
-    let es = constraintsFromWords v (a .copied .now) (a .user .now) (a .roots .now) (a .widths .now) (a .pairs .now) in
-    let long = trees.constraints-length v (a .copied .now) (a .user .now) (a .roots .now) (a .widths .now) (a .pairs .now) in
+    let es = constraintsFromWords v (a .copied .now) (a .user .now) (a .roots .now) (a .sizes .now) (a .widths .now) (a .pairs .now) in
+    let long = trees.constraints-length v (a .copied .now) (a .user .now) (a .roots .now) (a .sizes .now) (a .widths .now) (a .pairs .now) in
     let b = Expr.challenge (v .«num_challenges» + 2) in
     let q = lists.many-size b es (omega (arith, (c .before .before .before .num-constraints .ensures), (c .before .before .if1 .left), (c .before .if2 .left))) in
     ((entry .pre .0), (omega (arith, (c .before .before .before .num-constraints .ensures), (c .before .before .if1 .left)), omega (arith, (entry .pre .1))))
@@ -66,11 +66,11 @@ constraint-items-requires c κs =
 list-head-requires : tie.Need-list-head-requires
 unfolding body
 list-head-requires c κs =
-    let entry = c .before .before .before .before .before .before .before .before .before .before .before .before .before .before in
+    let entry = c .before .before .before .before .before .before .before .before .before .before .before .before .before .before .before in
     let a = (entry .args) in
     let v = a .params in
-    let es = constraintsFromWords v (a .copied .now) (a .user .now) (a .roots .now) (a .widths .now) (a .pairs .now) in
-    let long = trees.constraints-length v (a .copied .now) (a .user .now) (a .roots .now) (a .widths .now) (a .pairs .now) in
+    let es = constraintsFromWords v (a .copied .now) (a .user .now) (a .roots .now) (a .sizes .now) (a .widths .now) (a .pairs .now) in
+    let long = trees.constraints-length v (a .copied .now) (a .user .now) (a .roots .now) (a .sizes .now) (a .widths .now) (a .pairs .now) in
     let b = Expr.challenge (v .«num_challenges» + 2) in
     let q = lists.many-size b es (omega (arith, (c .before .before .before .before .before .before .before .num-constraints .ensures), (c .before .before .before .before .before .before .if1 .left), (c .before .before .before .before .before .if2 .left))) in
     let y = (c .before .before .before .constraint-items .ensures .number) in
@@ -81,10 +81,10 @@ same-length-3 c = search needs
 
 returns-3 : tie.Need-returns-3
 returns-3 c =
-    let a = (c .before .before .before .before .before .before .before .before .before .before .before .before .before .before .before .before .before .args) in
+    let a = (c .before .before .before .before .before .before .before .before .before .before .before .before .before .before .before .before .before .before .args) in
     let v = a .params in
-    let es = constraintsFromWords v (a .copied .now) (a .user .now) (a .roots .now) (a .widths .now) (a .pairs .now) in
-    let long = trees.constraints-length v (a .copied .now) (a .user .now) (a .roots .now) (a .widths .now) (a .pairs .now) in
+    let es = constraintsFromWords v (a .copied .now) (a .user .now) (a .roots .now) (a .sizes .now) (a .widths .now) (a .pairs .now) in
+    let long = trees.constraints-length v (a .copied .now) (a .user .now) (a .roots .now) (a .sizes .now) (a .widths .now) (a .pairs .now) in
     let b = Expr.challenge (v .«num_challenges» + 2) in
     lists.powers-many b es (omega (arith, (c .before .before .before .before .before .before .before .before .before .before .num-constraints .ensures), (c .before .before .before .before .before .before .before .before .before .if1 .left), (c .before .before .before .before .before .before .before .before .if2 .left))) (c .before .before .before .before .before .before .constraint-items .ensures) (c .before .before .list-head .ensures)
 

@@ -12,11 +12,20 @@ list-nodes-requires c κs = search needs
 add-sizes-requires : tie.Need-add-sizes-requires
 add-sizes-requires c κs = search needs
 
+add-sizes-requires-2 : tie.Need-add-sizes-requires-2
+add-sizes-requires-2 c κs = search needs
+
 returns : tie.Need-returns
 returns c =
-    let entry = c .before .before .before .before .before in
-    counts.side-counted (entry .args .item) (entry .args .user .now) (entry .args .pairs .now) (entry .args .beta) (entry .args .s) (entry .args .w) (c .add-sizes .result) (c .before .before .roots-nodes .result) (c .before .list-nodes .result) (c .add-sizes .ensures) (c .before .before .roots-nodes .ensures) (c .before .list-nodes .ensures)
+    let a = c .before .before .before .before .before .before .args in
+    counts.side-counted (a .item) (a .user .now) (a .pairs .now) (a .beta) (a .s) (a .w) (c .add-sizes2 .result) (c .before .before .before .roots-nodes .result) (c .before .before .list-nodes .result) (c .before .add-sizes .result) (c .add-sizes2 .ensures) (c .before .add-sizes .ensures) (c .before .before .before .roots-nodes .ensures) (c .before .before .list-nodes .ensures)
 
 pub side-nodes-spec : {M : Type 1} → statement M
 side-nodes-spec =
-    tie.close (tie.spec roots-nodes-requires list-nodes-requires add-sizes-requires returns)
+    tie.close
+    (tie.spec
+    roots-nodes-requires
+    list-nodes-requires
+    add-sizes-requires
+    add-sizes-requires-2
+    returns)
