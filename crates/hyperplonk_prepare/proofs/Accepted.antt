@@ -1,4 +1,4 @@
--- What questions 1 to 11 tell, in the words that the functions ask for.
+-- What questions 1 to 11 and 18 tell, in the words that the functions ask for.
 use mathlib.Core.Path.{_≡_, refl, sym, ap, _∙_, subst}
 use mathlib.Core.Bool.{Bool, true}
 use mathlib.Core.List.{List, _++_, map}
@@ -7,29 +7,32 @@ use native.Mathlib.Omega.{arith}
 use native.Mathlib.Decide.{decLt}
 use native.Mathlib.Nat.{mul-one, mul-le-mul}
 use lib.ListN.{length, getD}
-use lib.Dec.{leb}
+use lib.Dec.{leb, ltb}
 use lib.Pow.{pow-pos, pow-mono}
-use borrow.Author.Tests.{leb-true}
-use Rattle.lists.specs.Lists.{range, allOf, maximum, total, concat, split, ceilDiv}
-use Rattle.lists.proofs.Tests.{and-left, and-right, all-each}
-use Rattle.lists.proofs.All.{all-from}
+use borrow.Author.Tests.{leb-true, ltb-true}
+use Rattle.lists.specs.Lists.{range, allOf, maximum, total, concat, split, ceilDiv, firstNo, All}
+use Rattle.lists.proofs.Tests.{and-left, and-right, all-each, all-true}
+use Rattle.lists.proofs.First.{first-yes, first-both}
+use Rattle.lists.proofs.All.{all-from, all-weaken}
 use Rattle.lists.proofs.Columns.{below-length}
 use Rattle.lists.proofs.Lists.{split-length}
 use Rattle.lists.proofs.Totals.{ceil-le, ceil-pos}
 use Rattle.lists.proofs.Searches.{count-le}
 use Rattle.expression.specs.Expr.{Expr, degree}
-use Rattle.backend.specs.Circuit.{Section, entry, entries, wordK, bodyOf, Cell, cellsOf, cellsName, statedOf, circuitOf, rowsOf, numInstance, numWitness, numChallenges, numPoly, numLookups, copiedIn, copied, numCopied}
+use Rattle.backend.specs.Circuit.{Section, entry, entries, wordK, bodyOf, Cell, cellsOf, cellsName, statedOf, circuitOf, rowsOf, numInstance, numWitness, numChallenges, numPoly, numLookups, copiedIn, copied, numCopied, groupSizes, numGroups}
 use Rattle.backend.specs.Constraints.{lookupConstraints, leastD, maxDegree}
 use Rattle.backend.specs.Layout.{laidOut}
-use Rattle.backend.specs.Questions.{roundsGood, atMost, q5, q7, q10}
+use Rattle.backend.specs.Questions.{roundsGood, atMost, groupNumbersGood, q5, q7, q9, q10, layoutQuestions, bodyQuestions, circuitQuestions}
 use Rattle.backend.specs.Laid.{ContentsValid, BodiesValid}
 use Rattle.backend.proofs.Sections.{body-length}
 use Rattle.backend.proofs.Numbers.{polys}
 use Rattle.backend.proofs.Passed.{Yes, yes-all}
+use Rattle.backend.proofs.Answers.{groups-read, numbers-many, numbers-good}
+use Rattle.backend.proofs.Groups.{sizes-length, sizes-total, sizes-some, groups-few}
 use Rattle.backend.proofs.Degree.{all-most, root-in, left-roots, right-roots, least-high, least-low}
 use Rattle.preprocessor.specs.Compose.{numZ, paramsOf}
 use Rattle.preprocessor.specs.Permutation.{Walkable}
-use Rattle.preprocessor.specs.ComposeWords.{IsNode, Limits, Words, ComposeInput, DecodedFrom}
+use Rattle.preprocessor.specs.ComposeWords.{IsNode, Limits, Words, ComposeInput, GroupsValid, DecodedFrom}
 use Rattle.preprocessor.proofs.Copied.{walkable, cells-of}
 use Rattle.preprocessor.proofs.Composed.{circuit-decoded}
 use Rattle.prover.specs.Lent.{Given}
@@ -40,6 +43,17 @@ answers ws a = yes-all ws a
 
 pub laid-counted : (ws : List ℕ) → Accepted ws → ContentsValid ws × BodiesValid ws
 laid-counted ws a = (answers ws a .laid, answers ws a .counted)
+
+-- question 9, of the lookups: "Is each width at least 1"
+pub nine : (ws : List ℕ) → Accepted ws → q9 (circuitOf ws) ≡ true
+unfolding circuitQuestions
+nine ws a =
+    let r = first-both layoutQuestions bodyQuestions ws a (omega arith) in
+    let r5 = first-yes _ _ ws 4 refl (r .1) in
+    let r6 = first-yes _ _ ws 5 refl (r5 .1) in
+    let r7 = first-yes _ _ ws 6 refl (r6 .1) in
+    let r8 = first-yes _ _ ws 7 refl (r7 .1) in
+    first-yes _ _ ws 8 refl (r8 .1) .0
 
 -- ---- over plain numbers and lists
 
@@ -117,6 +131,12 @@ module _ (ws : List ℕ) (a : Accepted ws) where
   pub few-lookups : numLookups (circuitOf ws) ≤ 8
   few-lookups = let e = widths-are in let w = widths-length in let h = laid-of .few-widths in omega arith
 
+  pub lookups-wide : All (λ l. 0 < length l) (circuitOf ws .lookups)
+  unfolding q9
+  lookups-wide =
+      all-weaken (λ l. ltb 0 (length l) ≡ true) (λ l. 0 < length l) (λ l e. ltb-true 0 (length l) e) (circuitOf ws .lookups)
+      (all-true (λ l. ltb 0 (length l)) (circuitOf ws .lookups) (and-left (allOf (λ l. ltb 0 (length l)) (circuitOf ws .lookups)) _ (nine ws a)))
+
   pub pairs-length : length (bodyOf ws Section.pairs) ≡ entries ws Section.pairs * 2
   pairs-length = body-length ws laid-of Section.pairs
 
@@ -134,6 +154,30 @@ module _ (ws : List ℕ) (a : Accepted ws) where
 
   pub cells-total : total (bodyOf ws Section.lengths) ≡ entries ws Section.cells
   cells-total = sym (counted-of .cells-are)
+
+  -- ---- question 18: the groups
+  pub numbers-follow : groupNumbersGood (circuitOf ws .groups) ≡ true
+  numbers-follow = ap groupNumbersGood (sym (groups-read ws)) ∙ numbers-good ws laid-of (answers ws a .eighteen)
+
+  numbers-are : length (circuitOf ws .groups) ≡ numLookups (circuitOf ws)
+  numbers-are = ap length (sym (groups-read ws)) ∙ numbers-many ws laid-of ∙ sym widths-are
+
+  pub sizes-are : length (groupSizes (circuitOf ws .groups)) ≡ numGroups (circuitOf ws)
+  unfolding numGroups
+  sizes-are = sizes-length (circuitOf ws .groups)
+
+  pub sizes-pos : All (λ n. 0 < n) (groupSizes (circuitOf ws .groups))
+  sizes-pos = sizes-some (circuitOf ws .groups) numbers-follow
+
+  pub sizes-sum : total (groupSizes (circuitOf ws .groups)) ≡ numLookups (circuitOf ws)
+  sizes-sum = sizes-total (circuitOf ws .groups) ∙ numbers-are
+
+  pub fewer-groups : numGroups (circuitOf ws) ≤ numLookups (circuitOf ws)
+  unfolding numGroups
+  fewer-groups = let h = groups-few (circuitOf ws .groups) numbers-follow in let e = numbers-are in omega arith
+
+  pub groups-valid : GroupsValid (circuitOf ws)
+  groups-valid = record { some = sizes-pos; all = sizes-sum; few = fewer-groups }
 
   -- ---- question 5
   pub lengths-short : (i : ℕ) → i < length (bodyOf ws Section.instances) → getD (bodyOf ws Section.instances) i 0 < 2 ^ wordK ws
@@ -213,6 +257,7 @@ module _ (ws : List ℕ) (a : Accepted ws) where
         few-polys = few-polys;
         few-copied = few-copied;
         few-lookups = few-lookups;
+        few-groups = fewer-groups;
         few-user = few-user;
         few-rows = let e = rows-is in let h = rows-few in omega arith;
         some-part = let h = two-degree in omega arith;
@@ -223,7 +268,9 @@ module _ (ws : List ℕ) (a : Accepted ws) where
   unfolding q7 circuitOf
   roots-laid = answers ws a .seven
 
-  pub words : Words (paramsOf (circuitOf ws)) (bodyOf ws Section.nodes) (bodyOf ws Section.constraints) (bodyOf ws Section.widths)
+  pub words : Words (paramsOf (circuitOf ws)) (bodyOf ws Section.nodes) (bodyOf ws Section.constraints)
+      (groupSizes (circuitOf ws .groups))
+      (bodyOf ws Section.widths)
       (bodyOf ws Section.pairs)
   unfolding paramsOf
   words =
@@ -232,6 +279,9 @@ module _ (ws : List ℕ) (a : Accepted ws) where
       let ps : List ℕ = bodyOf ws Section.pairs in
       record {
         limits = limits;
+        all-groups = sym sizes-are;
+        some-members = sizes-pos;
+        all-members = sizes-sum ∙ widths-are;
         all-lookups = widths-are;
         all-pairs = let e = pairs-length in let t = pairs-total in omega arith;
         constraints-named = all-from (IsNode nodes) cs 0 (λ i l. root-in nodes cs (left-roots nodes cs ps roots-laid) i l);
@@ -239,6 +289,7 @@ module _ (ws : List ℕ) (a : Accepted ws) where
       }
 
   pub compose-input : ComposeInput (paramsOf (circuitOf ws)) (copied (circuitOf ws)) (bodyOf ws Section.nodes) (bodyOf ws Section.constraints)
+      (groupSizes (circuitOf ws .groups))
       (bodyOf ws Section.widths)
       (bodyOf ws Section.pairs)
   unfolding paramsOf
@@ -246,6 +297,7 @@ module _ (ws : List ℕ) (a : Accepted ws) where
 
   pub decoded : DecodedFrom (circuitOf ws) (paramsOf (circuitOf ws)) (copied (circuitOf ws)) (bodyOf ws Section.nodes)
       (bodyOf ws Section.constraints)
+      (groupSizes (circuitOf ws .groups))
       (bodyOf ws Section.widths)
       (bodyOf ws Section.pairs)
   decoded = circuit-decoded ws pairs-half

@@ -1,4 +1,4 @@
--- Where questions 1 to 11 are yes, the composed expression takes at most 4,190 nodes, and an evaluation of it visits at most 3,844.
+-- Where questions 1 to 11 and 18 are yes, the composed expression takes at most 11,295 nodes, and an evaluation of it visits at most 11,047.
 use mathlib.Core.Path.{_≡_}
 use mathlib.Core.Bool.{true}
 use mathlib.Core.List.{List, map}
@@ -16,7 +16,7 @@ use Rattle.preprocessor.proofs.Bound as bound
 use Rattle.preprocessor.proofs.Bound.{pairNodes}
 use Rattle.hyperplonk_spec.specs.Sizes.{composedVisits, mostNodes, mostVisits}
 use Rattle.hyperplonk_prepare.specs.Prepared.{Accepted}
-use Rattle.hyperplonk_prepare.proofs.Accepted.{answers, laid-of, counted-of, limits}
+use Rattle.hyperplonk_prepare.proofs.Accepted.{answers, laid-of, counted-of, limits, lookups-wide, groups-valid}
 
 -- question 7 makes the nodes a forest
 pub circuit-forest : (c : Circuit) → q7 c ≡ true → total (map (λ r. size (exprOf (c .nodes) r)) (c .roots)) ≡ numNodes c
@@ -29,16 +29,17 @@ module _ (ws : List ℕ) (a : Accepted ws) where
   user-nodes = bound.user-nodes ws (laid-of ws a) (counted-of ws a) (answers ws a .seven)
 
   pub composed-most : composedNodes (circuitOf ws) ≤ mostNodes
-  composed-most = bound.composed-most ws (laid-of ws a) (counted-of ws a) (answers ws a .seven) (limits ws a)
+  composed-most = bound.composed-most ws (laid-of ws a) (counted-of ws a) (answers ws a .seven) (groups-valid ws a) (limits ws a)
 
   pub composed-visits-most : composedVisits (circuitOf ws) ≤ mostVisits
   unfolding composedVisits
-  composed-visits-most = bound.composed-visits-most ws (laid-of ws a) (counted-of ws a) (answers ws a .seven) (limits ws a)
+  composed-visits-most =
+      bound.composed-visits-most ws (laid-of ws a) (counted-of ws a) (answers ws a .seven) (groups-valid ws a) (limits ws a) (lookups-wide ws a)
 
   -- counts that stop at 2^60 are the numbers themselves
   pub nodes-exact : min largestSize (weight 1 (compose (circuitOf ws))) ≡ composedNodes (circuitOf ws)
-  nodes-exact = bound.nodes-exact ws (laid-of ws a) (counted-of ws a) (answers ws a .seven) (limits ws a)
+  nodes-exact = bound.nodes-exact ws (laid-of ws a) (counted-of ws a) (answers ws a .seven) (groups-valid ws a) (limits ws a)
 
   pub visits-exact : min largestSize (weight 0 (compose (circuitOf ws))) ≡ composedVisits (circuitOf ws)
   unfolding composedVisits
-  visits-exact = bound.visits-exact ws (laid-of ws a) (counted-of ws a) (answers ws a .seven) (limits ws a)
+  visits-exact = bound.visits-exact ws (laid-of ws a) (counted-of ws a) (answers ws a .seven) (groups-valid ws a) (limits ws a)

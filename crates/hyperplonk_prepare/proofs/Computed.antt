@@ -16,10 +16,12 @@ use Rattle.lists.proofs.Columns.{tabulate-length}
 use Rattle.lists.proofs.Once.{same-tests}
 use Rattle.lists.proofs.Parts.{concat-split}
 use Rattle.expression.specs.Flat.{largestSize}
-use Rattle.backend.specs.Circuit.{Section, wordK, bodyOf, wordEach, cellAt, cellsOf, statedOf, circuitOf, rowsOf, numWitness, numChallenges, numPoly, numLookups, copiedIn, copied, numCopied}
+use Rattle.backend.specs.Circuit.{Section, wordK, bodyOf, wordEach, cellAt, cellsOf, statedOf, circuitOf, rowsOf, numWitness, numChallenges, numPoly, numLookups, numGroupsIn, groupSizes, numGroups, groupsOf, copiedIn, copied, numCopied}
 use Rattle.backend.specs.Constraints.{maxDegree}
 use Rattle.backend.specs.Degrees.{largestDegree, degreesFit}
 use Rattle.backend.proofs.Numbers.{each-one, not-past}
+use Rattle.backend.specs.Questions.{groupNumbersGood}
+use Rattle.backend.proofs.Answers.{groups-read, numbers-few}
 use Rattle.backend.proofs.Degree.{ten-is, d-is}
 use Rattle.preprocessor.specs.Compose.{numZ, composedNodes, paramsOf}
 use Rattle.preprocessor.specs.ComposeWords.{Words, DecodedFrom}
@@ -54,33 +56,50 @@ module _ (ws : List ℕ) (a : Accepted ws) where
   copied-from cells q polys e =
       ap₂ (λ (n : ℕ) (body : List ℕ). copiedIn n (cellsOf body)) e q ∙ ap (copiedIn (numPoly (circuitOf ws))) (sym cells-all)
 
+  -- ---- the groups
+  pub numbers-from : (numbers : List ℕ) → numbers ≡ bodyOf ws Section.groups → numbers ≡ circuitOf ws .groups
+  numbers-from numbers q = q ∙ groups-read ws
+
+  pub numbers-good : (numbers : List ℕ) → numbers ≡ bodyOf ws Section.groups → (groupNumbersGood numbers ≡ true) × (length numbers ≤ 8)
+  numbers-good numbers q =
+      (ap groupNumbersGood (numbers-from numbers q) ∙ known.numbers-follow ws a, let h = numbers-few ws (known.laid-of ws a) in let e = ap length q in omega arith)
+
+  pub groups-from : (numbers : List ℕ) → numbers ≡ bodyOf ws Section.groups → numGroupsIn numbers ≡ numGroups (circuitOf ws)
+  unfolding numGroups
+  groups-from numbers q = ap numGroupsIn (numbers-from numbers q)
+
+  pub sizes-from : (numbers : List ℕ) → numbers ≡ bodyOf ws Section.groups → groupSizes numbers ≡ groupSizes (circuitOf ws .groups)
+  sizes-from numbers q = ap groupSizes (numbers-from numbers q)
+
   -- ---- D
-  pub degrees-fit : (s : ℕ) → s ≡ getD ws 1 0 → degreesFit (statedOf s) (circuitOf ws .constraints) (circuitOf ws .lookups) ≡ true
+  pub degrees-fit : (s : ℕ) → s ≡ getD ws 1 0 → degreesFit (statedOf s) (circuitOf ws .constraints) (groupsOf (circuitOf ws)) ≡ true
   unfolding circuitOf
   degrees-fit s t = rw t (sym (ten-is (circuitOf ws)) ∙ known.answers ws a .ten)
 
-  pub degree-from : (s : ℕ) → s ≡ getD ws 1 0 → (r : ℕ) → r ≡ largestDegree (statedOf s) (circuitOf ws .constraints) (circuitOf ws .lookups)
+  pub degree-from : (s : ℕ) → s ≡ getD ws 1 0 → (r : ℕ) → r ≡ largestDegree (statedOf s) (circuitOf ws .constraints) (groupsOf (circuitOf ws))
       → r ≡ maxDegree (circuitOf ws)
   unfolding circuitOf
   degree-from s t r e = e ∙ rw t (sym (d-is (circuitOf ws)))
 
   -- ---- the words that are handed on
-  module _ (nodes roots widths pairs : List ℕ) (x : nodes ≡ bodyOf ws Section.nodes) (y : roots ≡ bodyOf ws Section.constraints)
+  module _ (nodes roots sizes widths pairs : List ℕ) (x : nodes ≡ bodyOf ws Section.nodes) (y : roots ≡ bodyOf ws Section.constraints)
+      (s : sizes ≡ groupSizes (circuitOf ws .groups))
       (z : widths ≡ bodyOf ws Section.widths)
       (q : pairs ≡ bodyOf ws Section.pairs) where
     module _ (v : CircuitParams) (e : v ≡ paramsOf (circuitOf ws)) where
-      pub words-from : Words v nodes roots widths pairs
-      words-from = rw (e, x, y, z, q) (known.words ws a)
+      pub words-from : Words v nodes roots sizes widths pairs
+      words-from = rw (e, x, y, s, z, q) (known.words ws a)
 
-      pub decoded-from : DecodedFrom (circuitOf ws) v (copied (circuitOf ws)) nodes roots widths pairs
-      decoded-from = rw (e, x, y, z, q) (known.decoded ws a)
+      pub decoded-from : DecodedFrom (circuitOf ws) v (copied (circuitOf ws)) nodes roots sizes widths pairs
+      decoded-from = rw (e, x, y, s, z, q) (known.decoded ws a)
 
   -- ---- the numbers
   pub lookups-are : getD ws 13 0 ≡ numLookups (circuitOf ws)
   lookups-are = sym (known.widths-are ws a ∙ known.widths-length ws a)
 
-  pub numbers-from : (polys copies lookups user rows degree : ℕ) → polys ≡ numPoly (circuitOf ws) → copies ≡ numCopied (circuitOf ws)
+  pub params-from : (polys copies lookups groups user rows degree : ℕ) → polys ≡ numPoly (circuitOf ws) → copies ≡ numCopied (circuitOf ws)
       → lookups ≡ numLookups (circuitOf ws)
+      → groups ≡ numGroups (circuitOf ws)
       → user ≡ numChallenges (circuitOf ws)
       → rows ≡ 2 ^ wordK ws
       → degree ≡ maxDegree (circuitOf ws)
@@ -89,6 +108,7 @@ module _ (ws : List ℕ) (a : Accepted ws) where
         «num_poly» = polys;
         «num_permutation_polys» = copies;
         «num_lookups» = lookups;
+        «num_groups» = groups;
         «num_challenges» = user;
         rows = rows;
         «chunk_size» = degree - 1;
@@ -96,30 +116,31 @@ module _ (ws : List ℕ) (a : Accepted ws) where
       })
       (paramsOf (circuitOf ws))
   unfolding paramsOf numZ
-  numbers-from polys copies lookups user rows degree p c l u r d = rw (p, c, l, u, r ∙ sym (known.rows-is ws a), d)
+  params-from polys copies lookups groups user rows degree p c l g u r d = rw (p, c, l, g, u, r ∙ sym (known.rows-is ws a), d)
 
   -- the column words
   module _ (v : CircuitParams) (e : v ≡ paramsOf (circuitOf ws)) where
-    pub columns-low : (getD ws 3 0 + v .«num_permutation_polys» + v .«num_lookups» * 4 + v .«num_chunks» ≤ 184) × (v .rows ≤ 1024)
+    pub columns-low : (getD ws 3 0 + v .«num_permutation_polys» + v .«num_lookups» * 2 + v .«num_groups» * 2 + v .«num_chunks» ≤ 184) × (v .rows ≤ 1024)
     unfolding paramsOf
     columns-low =
         let i = known.instances-entries ws a in
         let s = known.few-instances ws a in
         let c = known.few-copied ws a in
         let l = known.few-lookups ws a in
+        let g = known.fewer-groups ws a in
         let z = known.few-z ws a in
         let t = known.rows-is ws a in
         let r = known.rows-few ws a in
         rw e (omega arith, omega arith)
 
-    pub columns-fit : (getD ws 3 0 + v .«num_permutation_polys» + v .«num_lookups» * 4 + v .«num_chunks») * v .rows ≤ 188416
+    pub columns-fit : (getD ws 3 0 + v .«num_permutation_polys» + v .«num_lookups» * 2 + v .«num_groups» * 2 + v .«num_chunks») * v .rows ≤ 188416
     columns-fit = mul-le-mul (columns-low .0) (columns-low .1)
 
-    pub columns-from : (getD ws 3 0 + v .«num_permutation_polys» + v .«num_lookups» * 4 + v .«num_chunks») * v .rows ≡ columnWords (circuitOf ws)
+    pub columns-from : (getD ws 3 0 + v .«num_permutation_polys» + v .«num_lookups» * 2 + v .«num_groups» * 2 + v .«num_chunks») * v .rows ≡ columnWords (circuitOf ws)
     unfolding paramsOf columnWords
     columns-from =
-        ap (λ (v : CircuitParams). (getD ws 3 0 + v .«num_permutation_polys» + v .«num_lookups» * 4 + v .«num_chunks») * v .rows) e
-        ∙ ap (λ (i : ℕ). (i + numCopied (circuitOf ws) + numLookups (circuitOf ws) * 4 + numZ (circuitOf ws)) * rowsOf (circuitOf ws))
+        ap (λ (v : CircuitParams). (getD ws 3 0 + v .«num_permutation_polys» + v .«num_lookups» * 2 + v .«num_groups» * 2 + v .«num_chunks») * v .rows) e
+        ∙ ap (λ (i : ℕ). (i + numCopied (circuitOf ws) + numLookups (circuitOf ws) * 2 + numGroups (circuitOf ws) * 2 + numZ (circuitOf ws)) * rowsOf (circuitOf ws))
         (known.instances-entries ws a)
 
   -- ---- 12

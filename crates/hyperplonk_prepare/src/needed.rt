@@ -1,5 +1,6 @@
 // How many words the columns and the nodes of accepted circuit words need, how many nodes an evaluation visits, and question 14, whether
 // the buffers have the words. Nothing is built: the nodes are counted.
+use crate::group_sizes_of;
 use backend_sections::contents::INSTANCE_COUNT;
 use backend_sections::reader::constraints_of;
 use backend_sections::reader::nodes_of;
@@ -24,7 +25,11 @@ pub fn column_words(circuit: &[u64], params: CircuitParams) -> usize
     ensures { λ r. ⌜ r ≡ columnWords (circuitOf (now (circuit .entry))) ⌝ }
 {
     let instances = circuit[INSTANCE_COUNT] as usize;
-    (instances + params.num_permutation_polys + params.num_lookups * 4 + params.num_chunks)
+    (instances
+        + params.num_permutation_polys
+        + params.num_lookups * 2
+        + params.num_groups * 2
+        + params.num_chunks)
         * params.rows
 }
 
@@ -37,7 +42,18 @@ fn composed_count(circuit: &[u64], params: CircuitParams, item: u64) -> u64
     let roots = constraints_of(circuit);
     let widths = widths_of(circuit);
     let pairs = pairs_of(circuit);
-    preprocessor_compose::count::composed_nodes(user, roots, widths, pairs, params, item)
+    let groups = group_sizes_of(circuit);
+    let count = groups.count;
+    let sizes = groups.of;
+    preprocessor_compose::count::composed_nodes(
+        user,
+        roots,
+        &sizes[0..count],
+        widths,
+        pairs,
+        params,
+        item,
+    )
 }
 
 // The nodes that the composed expression takes.

@@ -8,7 +8,7 @@ use Rattle.hyperplonk_prepare.proofs.degree_of.Tie as tie
 degrees-of-requires : tie.Need-degrees-of-requires
 degrees-of-requires c κs =
     let s = c .before in
-    (laid-of (s .args .circuit .now) (s .pre), (counted-of (s .args .circuit .now) (s .pre), answers (s .args .circuit .now) (s .pre) .seven))
+    (laid-of (s .args .circuit .now) (s .pre), (counted-of (s .args .circuit .now) (s .pre), (answers (s .args .circuit .now) (s .pre) .seven, answers (s .args .circuit .now) (s .pre) .eighteen)))
 
 max-degree-requires : tie.Need-max-degree-requires
 max-degree-requires c κs = search needs

@@ -18,14 +18,20 @@ mul-result c = omega (arith, columns-low (c .before .before .before .args .circu
 add-result-2 : tie.Need-add-result-2
 add-result-2 c = omega (arith, columns-low (c .before .before .before .args .circuit .now) (c .before .before .before .pre .0) (c .before .before .before .args .params) (c .before .before .before .pre .1) .0)
 
+mul-result-2 : tie.Need-mul-result-2
+mul-result-2 c = omega (arith, columns-low (c .before .before .before .before .args .circuit .now) (c .before .before .before .before .pre .0) (c .before .before .before .before .args .params) (c .before .before .before .before .pre .1) .0)
+
 add-result-3 : tie.Need-add-result-3
 add-result-3 c = omega (arith, columns-low (c .before .before .before .before .args .circuit .now) (c .before .before .before .before .pre .0) (c .before .before .before .before .args .params) (c .before .before .before .before .pre .1) .0)
 
-mul-result-2 : tie.Need-mul-result-2
-mul-result-2 c = omega (arith, columns-fit (c .before .before .before .before .before .args .circuit .now) (c .before .before .before .before .before .pre .0) (c .before .before .before .before .before .args .params) (c .before .before .before .before .before .pre .1))
+add-result-4 : tie.Need-add-result-4
+add-result-4 c = omega (arith, columns-low (c .before .before .before .before .before .args .circuit .now) (c .before .before .before .before .before .pre .0) (c .before .before .before .before .before .args .params) (c .before .before .before .before .before .pre .1) .0)
+
+mul-result-3 : tie.Need-mul-result-3
+mul-result-3 c = omega (arith, columns-fit (c .before .before .before .before .before .before .args .circuit .now) (c .before .before .before .before .before .before .pre .0) (c .before .before .before .before .before .before .args .params) (c .before .before .before .before .before .before .pre .1))
 
 returns : tie.Need-returns
-returns c = columns-from (c .before .before .before .before .before .args .circuit .now) (c .before .before .before .before .before .pre .0) (c .before .before .before .before .before .args .params) (c .before .before .before .before .before .pre .1)
+returns c = columns-from (c .before .before .before .before .before .before .args .circuit .now) (c .before .before .before .before .before .before .pre .0) (c .before .before .before .before .before .before .args .params) (c .before .before .before .before .before .before .pre .1)
 
 pub column-words-spec : {M : Type 1} → statement M
 column-words-spec =
@@ -35,6 +41,8 @@ column-words-spec =
     add-result
     mul-result
     add-result-2
-    add-result-3
     mul-result-2
+    add-result-3
+    add-result-4
+    mul-result-3
     returns)
