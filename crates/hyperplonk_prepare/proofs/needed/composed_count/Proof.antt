@@ -39,7 +39,7 @@ composed-nodes-requires c κs =
     let s = c .before .before .before .before .before .before .before .before .before in
     let g = c .before .before .before .group-sizes-of in (
       words-from (s .args .circuit .now) (s .pre .0) _ _ _ _ _ (c .before .before .before .before .before .before .before .nodes-of .ensures) (c .before .before .before .before .before .before .constraints-of .ensures)
-      (ap (λ (n : ℕ). take n (g .result .of)) (sub-zero (g .result .count)) ∙ g .ensures .3) (c .before .before .before .before .before .widths-of .ensures) (c .before .before .before .before .pairs-of .ensures) _ (s .pre .1),
+          (ap (λ (n : ℕ). take n (g .result .of)) (sub-zero (g .result .count)) ∙ g .ensures .3) (c .before .before .before .before .before .widths-of .ensures) (c .before .before .before .before .pairs-of .ensures) _ (s .pre .1),
       s .pre .2,
     )
 
