@@ -50,7 +50,7 @@ module _ (at rows : ℕ) (sizes : List ℕ) where
   group-first =
       omega (arith, ap (λ (t : ℕ). t * 2 * rows) (total-none sizes), zero-mul rows)
 
-  part : (a b : ℕ) → (a + b) * 2 * rows ≡ a * 2 * rows + b * 2 * rows
+  pub part : (a b : ℕ) → (a + b) * 2 * rows ≡ a * 2 * rows + b * 2 * rows
   part a b = let e : (a + b) * 2 ≡ a * 2 + b * 2 = omega arith in ap (λ (x : ℕ). x * rows) e ∙ add-mul (a * 2) (b * 2) rows
 
   pub group-there : (j : ℕ) → total (take j sizes) * 2 * rows + getD sizes j 0 * 2 * rows ≤ total sizes * 2 * rows

@@ -1,11 +1,12 @@
 -- Counts, coverage, denominators and h depend on the first rows alone.
 use mathlib.Core.Path.{_≡_, sym, ap, ap₂, _∙_}
 use mathlib.Core.Bool.{Bool}
-use mathlib.Core.List.{List, _++_, map}
+use mathlib.Core.List.{List, [], _∷_, _++_, map}
 use mathlib.Core.Option.{Option}
 use Prim.Native.Nat.{ℕ, _+_, _*_, _≤_, _<_}
+use native.Mathlib.Nat.{zero-mul, suc-mul}
 use native.Mathlib.Omega.{arith}
-use lib.ListN.{getD}
+use lib.ListN.{length, getD}
 use Rattle.field.specs.Algebra.{product, sum}
 use Rattle.field.specs.Field.{𝔾, el}
 use Rattle.lists.specs.Lists.{tabulate, range, concat, total, countOf, allOf, anyOf, isSome, isAt}
@@ -68,6 +69,14 @@ pub multiplicity-le : (rows : ℕ) (input table : ℕ → 𝔾 .F) (j : ℕ) →
 unfolding multiplicity
 multiplicity-le rows input table j =
     omega (arith, count-le (λ b. isAt j (lastEqual 𝔾 rows table (input b))) (range rows), below-length rows)
+
+pub group-multiplicity-le : (rows : ℕ) (inputs : List (ℕ → 𝔾 .F)) (table : ℕ → 𝔾 .F) (j : ℕ)
+    → groupMultiplicity 𝔾 rows inputs table j ≤ length inputs * rows
+unfolding groupMultiplicity total
+group-multiplicity-le rows [] table j = omega (arith, zero-mul rows)
+group-multiplicity-le rows (input ∷ inputs) table j =
+    let r : total (map (λ x. multiplicity 𝔾 rows x table j) inputs) ≤ length inputs * rows = group-multiplicity-le rows inputs table j in
+    omega (arith, multiplicity-le rows input table j, suc-mul (length inputs) rows)
 
 -- ---- groups whose columns agree on the first rows
 

@@ -83,8 +83,8 @@ fn count_inputs(columns: &mut [u64], input: usize, table: usize, m: usize, rows:
 }
 
 // The counts of a group, in the column buffer: its first input starts at word input, each further one 2 * rows behind the one before,
-// its table at word input + rows and, behind all of them, the counts at word m.
-// They are also said by the answers of all searches.
+// its table at word input + rows and, behind all of them, the counts at word m. False, and a column of zeros, where an input has no equal
+// table row. Both are also said by the answers of the searches for all inputs, one lookup after another.
 pub fn lookup_m_poly(
     columns: &mut [u64],
     input: usize,

@@ -2,9 +2,8 @@
 use mathlib.Core.Path.{_≡_, sym, ap, ap₂, _∙_}
 use mathlib.Core.Bool.{Bool, true, false, cond}
 use mathlib.Core.List.{List}
-use Prim.Native.Nat.{ℕ, zero, suc, _+_, _*_, _≤_, _<_}
-use native.Mathlib.Nat.{zero-mul, suc-mul, mul-le-mul-right}
-use native.Mathlib.Numerals.{add-one}
+use Prim.Native.Nat.{ℕ, _+_, _*_, _≤_, _<_}
+use native.Mathlib.Nat.{mul-le-mul-right}
 use native.Mathlib.Omega.{arith}
 use lib.ListN.{length, getD, replicate, length-replicate}
 use Rattle.field.specs.Field.{𝔾, el}
@@ -16,7 +15,7 @@ use Rattle.prover.specs.Lookup.{multiplicity, covered, groupMultiplicity, group
 use Rattle.prover.specs.Words.{elementsFrom, Small}
 use Rattle.prover_lookup.specs.Lookups.{inputsFrom, Room, addedWords, groupWords}
 use Rattle.prover_lookup.proofs.Places.{pair-there, first-there}
-use Rattle.prover_lookup.proofs.Same.{covered-same, multiplicity-same, multiplicity-le}
+use Rattle.prover_lookup.proofs.Same.{covered-same, multiplicity-same, group-multiplicity-le}
 
 -- the buffer d when the first i members of a group are counted from word m on
 pub record GroupCounted (d : List ℕ) (at members m rows : ℕ) (cur : List ℕ) (i : ℕ) : Type 0 where
@@ -49,10 +48,9 @@ module _ (d : List ℕ) (at members m rows : ℕ) (before : at + members * 2 * r
       ∙ ap (λ (n : ℕ). n + multiplicity 𝔾 rows (input i) table j) (sym (ap total (map-tabulate (λ x. multiplicity 𝔾 rows x table j) input i)))
 
   count-le : (i j : ℕ) → count i j ≤ i * rows
-  count-le zero j = omega (arith, count-none j, zero-mul rows)
-  count-le (suc i) j =
-      let e : count (suc i) j ≡ count (i + 1) j = ap (λ (n : ℕ). count n j) (sym (add-one i)) in
-      omega (arith, e, count-more i j, count-le i j, multiplicity-le rows (input i) table j, suc-mul i rows)
+  count-le i j =
+      let e : length (tabulate input i) * rows ≡ i * rows = ap (λ (k : ℕ). k * rows) (tabulate-length input i) in
+      omega (arith, group-multiplicity-le rows (tabulate input i) table j)
 
   pub group-start : (cur : List ℕ) → cur ≡ writeAt d m (replicate rows 0) → GroupCounted d at members m rows cur 0
   group-start cur e =
