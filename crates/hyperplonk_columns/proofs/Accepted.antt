@@ -10,16 +10,16 @@ use lib.Dec.{eqb}
 use borrow.Author.Tests.{eqb-true}
 use Rattle.field.specs.Prime.{P}
 use Rattle.field.specs.Field.{𝔾, el}
-use Rattle.lists.specs.Lists.{writeAt, total, writePrefix, anyOf}
+use Rattle.lists.specs.Lists.{All, writeAt, total, writePrefix, anyOf}
 use Rattle.lists.proofs.Tests.{and-left, and-right}
 use Rattle.lists.proofs.Columns.{tabulate-length}
 use Rattle.lists.proofs.Over.{drop-more, drop-past}
-use Rattle.backend.specs.Circuit.{Circuit, Section, bodyOf, circuitOf, rowsOf, numInstance, numWitness, numChallenges, copied, numCopied, numLookups}
+use Rattle.backend.specs.Circuit.{Circuit, Section, bodyOf, circuitOf, rowsOf, numInstance, numWitness, numChallenges, copied, numCopied, numLookups, numGroups, groupSizes, groupsOf}
 use Rattle.preprocessor.specs.Compose.{numZ, paramsOf}
 use Rattle.preprocessor.specs.declared.CircuitParams.{CircuitParams}
 use Rattle.prover.specs.Log.{Log}
-use Rattle.prover.specs.Columns.{permutationAt, permutationFactorAt, inputAt, tableAt, instancePolys, permutationPolys, compressedPolys, mPolys, hPolys, allCovered}
-use Rattle.prover.specs.Denominators.{someZero, lookupDenominators, factorDenominators, zeroDenominator}
+use Rattle.prover.specs.Columns.{permutationAt, permutationFactorAt, groupInputs, groupTable, instancePolys, permutationPolys, compressedPolys, mPolys, hPolys, allCovered}
+use Rattle.prover.specs.Denominators.{someZero, groupDenominators, factorDenominators, zeroDenominator}
 use Rattle.prover.specs.Answers.{outcomeOf, outcomeWords}
 use Rattle.prover.specs.declared.Outcome.{Outcome}
 use Rattle.prover.proofs.NoneZero.{zero-parts}
@@ -28,7 +28,7 @@ use Rattle.prover.specs.Lent.{Given}
 use Rattle.prover.proofs.Words.{words-length}
 use Rattle.hyperplonk_spec.specs.Build.{logOf, columnWords, q12}
 use Rattle.hyperplonk_prepare.specs.Prepared.{Accepted, layoutFromWords, permutationOffset, compressedOffset, mOffset, hOffset, zOffset}
-use Rattle.hyperplonk_prepare.proofs.Accepted.{k-pos, k-few, rows-few, rows-is, few-user, given, instances-entries}
+use Rattle.hyperplonk_prepare.proofs.Accepted.{k-pos, k-few, rows-few, rows-is, few-user, few-lookups, given, instances-entries, sizes-are, sizes-pos, sizes-sum}
 use Rattle.hyperplonk_prepare.proofs.Computed.{columns-low}
 use Rattle.prover_lookup.specs.Lookups.{coveredFrom, countsFrom, zeroFrom, hsFrom, CountsWritten, HsWritten}
 use Rattle.prover_lookup.proofs.Hs.{written-none, zero-some}
@@ -46,8 +46,8 @@ use Rattle.hyperplonk_columns.proofs.Columns.{counts-at, hs-at, through
 pub record Placed (c : Circuit) : Type 0 where
   pub permutations : permutationOffset c + numCopied c * rowsOf c ≡ compressedOffset c
   pub compressed : compressedOffset c + numLookups c * 2 * rowsOf c ≡ mOffset c
-  pub counts : mOffset c + numLookups c * rowsOf c ≡ hOffset c
-  pub hs : hOffset c + numLookups c * rowsOf c ≡ zOffset c
+  pub counts : mOffset c + numGroups c * rowsOf c ≡ hOffset c
+  pub hs : hOffset c + numGroups c * rowsOf c ≡ zOffset c
   pub zs : zOffset c + numZ c * rowsOf c ≡ columnWords c
 
 pub placed : (c : Circuit) → Placed c
@@ -57,12 +57,13 @@ placed c =
     let I : ℕ = numInstance c in
     let n : ℕ = numCopied c in
     let L : ℕ = numLookups c in
+    let G : ℕ = numGroups c in
     record {
       permutations = sym (add-mul I n R);
       compressed = sym (add-mul (I + n) (L * 2) R);
-      counts = sym (add-mul (I + n + L * 2) L R) ∙ ap (λ (m : ℕ). m * R) (let q : I + n + L * 2 + L ≡ I + n + L * 3 = omega arith in q);
-      hs = sym (add-mul (I + n + L * 3) L R) ∙ ap (λ (m : ℕ). m * R) (let q : I + n + L * 3 + L ≡ I + n + L * 4 = omega arith in q);
-      zs = sym (add-mul (I + n + L * 4) (numZ c) R);
+      counts = sym (add-mul (I + n + L * 2) G R);
+      hs = sym (add-mul (I + n + L * 2 + G) G R) ∙ ap (λ (m : ℕ). m * R) (let q : I + n + L * 2 + G + G ≡ I + n + L * 2 + G * 2 = omega arith in q);
+      zs = sym (add-mul (I + n + L * 2 + G * 2) (numZ c) R);
     }
 
 -- ---- question 12
@@ -122,7 +123,7 @@ module _ (ws instances witness challenges : List ℕ) (a : Accepted ws) where
   -- h and z behind the counts, of a buffer that has the columns to the counts at its front
   module _ (d₄ : List ℕ) (room : columnWords c ≤ length d₄) (front : take (hOffset c) d₄ ≡ wordsOf rows (polysThroughM 𝔾 log)) where
     abbrev inLookups : Bool
-    inLookups = anyOf (λ l. someZero 𝔾 (lookupDenominators 𝔾 rows (log .γ) (inputAt 𝔾 log l) (tableAt 𝔾 log l))) (c .lookups)
+    inLookups = anyOf (λ gr. someZero 𝔾 (groupDenominators 𝔾 rows (log .γ) (groupInputs 𝔾 log gr) (groupTable 𝔾 log gr))) (groupsOf c)
 
     abbrev inFactors : Bool
     inFactors = someZero 𝔾 (factorDenominators 𝔾 rows (numCopied c) (permutationFactorAt 𝔾 log))
@@ -131,9 +132,9 @@ module _ (ws instances witness challenges : List ℕ) (a : Accepted ws) where
     unfolding logOf
     parts = zero-parts 𝔾 log
 
-    -- a lookup has a denominator that is zero
+    -- a group has a denominator that is zero
     pub h-stopped : (d₅ : List ℕ) → Outcome.ZeroDenominator ≡ outcomeOf inLookups
-        → drop (hOffset c + numLookups c * rows) d₅ ≡ drop (hOffset c + numLookups c * rows) d₄
+        → drop (hOffset c + numGroups c * rows) d₅ ≡ drop (hOffset c + numGroups c * rows) d₄
         → AfterM log d₄ Outcome.ZeroDenominator d₅
     unfolding logOf
     h-stopped d₅ is back =
@@ -141,12 +142,12 @@ module _ (ws instances witness challenges : List ℕ) (a : Accepted ws) where
         record {
           is = first-zero inLookups inFactors (zeroDenominator 𝔾 log) parts (zero-some inLookups (sym is));
           written = λ e. never e;
-          back = drop-more (hOffset c + numLookups c * rows) (columnWords c) d₅ d₄ (omega arith) back;
+          back = drop-more (hOffset c + numGroups c * rows) (columnWords c) d₅ d₄ (omega arith) back;
         }
 
     -- none has: then z decides
     pub z-decides : (d₅ d₆ : List ℕ) (r : Outcome) → Outcome.Written ≡ outcomeOf inLookups
-        → drop (hOffset c + numLookups c * rows) d₅ ≡ drop (hOffset c + numLookups c * rows) d₄
+        → drop (hOffset c + numGroups c * rows) d₅ ≡ drop (hOffset c + numGroups c * rows) d₄
         → d₅ ≡ writeAt d₄ (hOffset c) (wordsOf rows (hPolys 𝔾 log))
         → length d₅ ≡ length d₄
         → (r ≡ outcomeOf (someZero 𝔾 (zDenominators ws witness d₅ challenges)))
@@ -167,7 +168,7 @@ module _ (ws instances witness challenges : List ℕ) (a : Accepted ws) where
               past-z d₅ d₆ (zOffset c) (columnWords c) (numZ c * rows) r (zWords ws witness d₅ challenges) z-size (p .zs)
               (omega arith)
               (z .1)
-              ∙ drop-more (hOffset c + numLookups c * rows) (columnWords c) d₅ d₄ (omega arith) back;
+              ∙ drop-more (hOffset c + numGroups c * rows) (columnWords c) d₅ d₄ (omega arith) back;
         }
       where
         z-size : length (zWords ws witness d₅ challenges) ≡ numZ c * rows
@@ -216,7 +217,7 @@ module _ (ws instances witness challenges : List ℕ) (a : Accepted ws) where
 
     -- question 15: "the column words needed become 0"
     pub none-end : (d₄ d₆ : List ℕ) (words : ℕ) → false ≡ allCovered 𝔾 log
-        → drop (mOffset c + numLookups c * rows) d₄ ≡ drop (mOffset c + numLookups c * rows) d₃
+        → drop (mOffset c + numGroups c * rows) d₄ ≡ drop (mOffset c + numGroups c * rows) d₃
         → words ≡ columnWords c
         → d₆ ≡ writeAt d₄ 0 (replicate words 0)
         → (ColumnsOutcome.Uncovered ≡ columnsOutcome log) × (d₆ ≡ writePrefix (columnsLeft log ColumnsOutcome.Uncovered) d₀)
@@ -227,7 +228,7 @@ module _ (ws instances witness challenges : List ℕ) (a : Accepted ws) where
           zeros
               ∙ ap (λ (n : ℕ). writeAt d₄ 0 (replicate n 0)) q
               ∙ cleared (columnWords c) d₀ d₄
-              (drop-more (mOffset c + numLookups c * rows) (columnWords c) d₄ d₃ (omega arith) behind
+              (drop-more (mOffset c + numGroups c * rows) (columnWords c) d₄ d₃ (omega arith) behind
               ∙ ap (drop (columnWords c)) before
               ∙ drop-past d₀ 0 (wordsOf rows (polysBeforeM 𝔾 log)) (columnWords c) (omega arith)
               (let e = words-length rows (polysBeforeM 𝔾 log) in let q = counts-at log in omega arith)),
@@ -239,9 +240,9 @@ product-fit : (n rows : ℕ) → n ≤ 184 → rows ≤ 1024 → n * rows ≤ 18
 product-fit n rows h l = mul-le-mul h l
 
 module _ (ws : List ℕ) (a : Accepted ws) (v : CircuitParams) (e : v ≡ paramsOf (circuitOf ws)) where
-  lookups-are : v .«num_lookups» ≡ numLookups (circuitOf ws)
+  pub groups-are : v .«num_groups» ≡ numGroups (circuitOf ws)
   unfolding paramsOf
-  lookups-are = ap (λ (v : CircuitParams). v .«num_lookups») e
+  groups-are = ap (λ (v : CircuitParams). v .«num_groups») e
 
   rows-are : v .rows ≡ rowsOf (circuitOf ws)
   unfolding paramsOf
@@ -259,14 +260,14 @@ module _ (ws : List ℕ) (a : Accepted ws) (v : CircuitParams) (e : v ≡ params
   user-few = let h = few-user ws a in let q = user-is in omega arith
 
   -- the words of n columns fit
-  pub words-fit : (n : ℕ) → n ≤ getD ws 3 0 + v .«num_permutation_polys» + v .«num_lookups» * 4 + v .«num_chunks» → n * v .rows ≤ 188416
+  pub words-fit : (n : ℕ) → n ≤ getD ws 3 0 + v .«num_permutation_polys» + v .«num_lookups» * 2 + v .«num_groups» * 2 + v .«num_chunks» → n * v .rows ≤ 188416
   words-fit n h =
       let q = columns-low ws a v e in
       product-fit n (v .rows) (let w = q .0 in omega arith) (q .1)
 
   pub places-from : ((getD ws 3 0 + v .«num_permutation_polys») * v .rows ≡ compressedOffset (circuitOf ws))
       × ((getD ws 3 0 + v .«num_permutation_polys» + v .«num_lookups» * 2) * v .rows ≡ mOffset (circuitOf ws))
-      × ((getD ws 3 0 + v .«num_permutation_polys» + v .«num_lookups» * 3) * v .rows ≡ hOffset (circuitOf ws))
+      × ((getD ws 3 0 + v .«num_permutation_polys» + v .«num_lookups» * 2 + v .«num_groups») * v .rows ≡ hOffset (circuitOf ws))
   unfolding paramsOf
   places-from =
       let c : Circuit = circuitOf ws in
@@ -274,8 +275,8 @@ module _ (ws : List ℕ) (a : Accepted ws) (v : CircuitParams) (e : v ≡ params
         ap (λ (v : CircuitParams). (getD ws 3 0 + v .«num_permutation_polys») * v .rows) e ∙ ap (λ (i : ℕ). (i + numCopied c) * rowsOf c) i,
         ap (λ (v : CircuitParams). (getD ws 3 0 + v .«num_permutation_polys» + v .«num_lookups» * 2) * v .rows) e
             ∙ ap (λ (i : ℕ). (i + numCopied c + numLookups c * 2) * rowsOf c) i,
-        ap (λ (v : CircuitParams). (getD ws 3 0 + v .«num_permutation_polys» + v .«num_lookups» * 3) * v .rows) e
-            ∙ ap (λ (i : ℕ). (i + numCopied c + numLookups c * 3) * rowsOf c) i,
+        ap (λ (v : CircuitParams). (getD ws 3 0 + v .«num_permutation_polys» + v .«num_lookups» * 2 + v .«num_groups») * v .rows) e
+            ∙ ap (λ (i : ℕ). (i + numCopied c + numLookups c * 2 + numGroups c) * rowsOf c) i,
       )
 
 -- ---- what the stages ask for
@@ -304,31 +305,44 @@ module _ (ws instances witness challenges : List ℕ) (a : Accepted ws)
   compressed-asked names e m l =
       let p = placed circuit in (a, exact-challenges circuit instances witness challenges q, ap length e, omega arith)
 
-module _ (ws : List ℕ) (a : Accepted ws) (v : CircuitParams) (e : v ≡ paramsOf (circuitOf ws)) (x y : ℕ) (x-is : x ≡ compressedOffset (circuitOf ws))
+module _ (ws : List ℕ) (a : Accepted ws) (v : CircuitParams) (e : v ≡ paramsOf (circuitOf ws)) (sizes : List ℕ)
+    (s-is : sizes ≡ groupSizes (circuitOf ws .groups)) (x y : ℕ) (x-is : x ≡ compressedOffset (circuitOf ws))
     (y-is : y ≡ mOffset (circuitOf ws)) (n : ℕ) (room : columnWords (circuitOf ws) ≤ n) where
-  lookup-words : v .«num_lookups» * 2 * v .rows ≡ numLookups (circuitOf ws) * 2 * rowsOf (circuitOf ws)
-  lookup-words = ap₂ (λ (l r : ℕ). l * 2 * r) (lookups-are ws a v e) (rows-are ws a v e)
+  sizes-many : length sizes ≡ numGroups (circuitOf ws)
+  sizes-many = ap length s-is ∙ sizes-are ws a
 
-  count-words : v .«num_lookups» * v .rows ≡ numLookups (circuitOf ws) * rowsOf (circuitOf ws)
-  count-words = ap₂ (λ (l r : ℕ). l * r) (lookups-are ws a v e) (rows-are ws a v e)
+  sizes-all : total sizes ≡ numLookups (circuitOf ws)
+  sizes-all = ap total s-is ∙ sizes-sum ws a
+
+  sizes-some : All (λ s. 0 < s) sizes
+  sizes-some = subst (All (λ s. 0 < s)) (sym s-is) (sizes-pos ws a)
+
+  lookup-words : total sizes * 2 * v .rows ≡ numLookups (circuitOf ws) * 2 * rowsOf (circuitOf ws)
+  lookup-words = ap₂ (λ (l r : ℕ). l * 2 * r) sizes-all (rows-are ws a v e)
+
+  count-words : length sizes * v .rows ≡ numGroups (circuitOf ws) * rowsOf (circuitOf ws)
+  count-words = ap₂ (λ (l r : ℕ). l * r) sizes-many (rows-are ws a v e)
 
   pub counts-asked : (instances witness challenges d₀ d : List ℕ)
       → d ≡ writeAt d₀ 0 (wordsOf (rowsOf (circuitOf ws)) (polysBeforeM 𝔾 (logOf ws instances witness challenges)))
       → length d ≡ n
-      → (x + v .«num_lookups» * 2 * v .rows ≤ y)
-      × (y + v .«num_lookups» * v .rows ≤ length d)
-      × Small (v .«num_lookups» * 2 * v .rows) (λ b. getD d (x + b) 0)
+      → All (λ s. 0 < s) sizes
+      × (x + total sizes * 2 * v .rows ≤ y)
+      × (y + length sizes * v .rows ≤ length d)
+      × Small (total sizes * 2 * v .rows) (λ b. getD d (x + b) 0)
   unfolding logOf
   counts-asked instances witness challenges d₀ d before l =
       let p = placed (circuitOf ws) in
       let w = lookup-words in
-      let w' = count-words in (
+      let w' = count-words in
+      let r : total sizes * 2 * v .rows ≡ total sizes * 2 * rowsOf (circuitOf ws) = ap (λ (r : ℕ). total sizes * 2 * r) (rows-are ws a v e) in (
+        sizes-some,
         omega arith,
         omega arith,
         λ b h.
             subst (λ (z : ℕ). z < P)
             (ap₂ (λ (d : List ℕ) (i : ℕ). getD d (i + b) 0) (sym before) (sym x-is))
-            (lookups-small (logOf ws instances witness challenges)
+            (lookups-small (logOf ws instances witness challenges) sizes s-is sizes-all sizes-some
             (writeAt d₀ 0 (wordsOf (rowsOf (circuitOf ws)) (polysBeforeM 𝔾 (logOf ws instances witness challenges))))
             (compressedOffset (circuitOf ws))
             (compressed-before-m (logOf ws instances witness challenges) d₀)
@@ -337,59 +351,63 @@ module _ (ws : List ℕ) (a : Accepted ws) (v : CircuitParams) (e : v ≡ params
       )
 
   module _ (z : ℕ) (z-is : z ≡ hOffset (circuitOf ws)) where
-    pub hs-asked : (m : ℕ) → m ≡ n → (x + v .«num_lookups» * 2 * v .rows ≤ z) × (y + v .«num_lookups» * v .rows ≤ z) × (z + v .«num_lookups» * v .rows ≤ m)
+    pub hs-asked : (m : ℕ) → m ≡ n
+        → All (λ s. 0 < s) sizes
+        × (x + total sizes * 2 * v .rows ≤ z)
+        × (y + length sizes * v .rows ≤ z)
+        × (z + length sizes * v .rows ≤ m)
     hs-asked m l =
         let p = placed (circuitOf ws) in
         let w = lookup-words in
         let w' = count-words in
-        (omega arith, omega arith, omega arith)
+        (sizes-some, omega arith, omega arith, omega arith)
 
     module _ (γ : 𝔾 .F) (instances witness challenges d d' : List ℕ) (answer : Outcome) (γ-is : γ ≡ el (getD challenges (v .«num_challenges» + 1) 0))
         (front : take (hOffset (circuitOf ws)) d ≡ wordsOf (rowsOf (circuitOf ws)) (polysThroughM 𝔾 (logOf ws instances witness challenges)))
-        (w : HsWritten d (v .«num_lookups») x y z (v .rows) γ answer d') where
+        (w : HsWritten d sizes x y z (v .rows) γ answer d') where
       abbrev log' : Log 𝔾
       log' = logOf ws instances witness challenges
 
       abbrev R : ℕ
       R = rowsOf (circuitOf ws)
 
-      abbrev L : ℕ
-      L = numLookups (circuitOf ws)
+      abbrev G : ℕ
+      G = numGroups (circuitOf ws)
 
       γ-same : log' .γ ≡ γ
       unfolding logOf
       γ-same = sym (γ-is ∙ ap (λ (u : ℕ). el (getD challenges (u + 1) 0)) (user-is ws a v e))
 
       pub hs-answer : answer
-          ≡ outcomeOf (anyOf (λ l. someZero 𝔾 (lookupDenominators 𝔾 R (log' .γ) (inputAt 𝔾 log' l) (tableAt 𝔾 log' l))) (circuitOf ws .lookups))
+          ≡ outcomeOf (anyOf (λ gr. someZero 𝔾 (groupDenominators 𝔾 R (log' .γ) (groupInputs 𝔾 log' gr) (groupTable 𝔾 log' gr))) (groupsOf (circuitOf ws)))
       unfolding logOf
       hs-answer =
           w .is
           ∙ ap (λ (t : Bool). outcomeOf t)
-          (ap₂ (λ (r l : ℕ). zeroFrom d x r γ l) (rows-are ws a v e) (lookups-are ws a v e)
-          ∙ ap (λ (x : ℕ). zeroFrom d x R γ L) x-is
-          ∙ zero-lookups-is log' d (compressedOffset (circuitOf ws)) (compressed-counted log' d front) γ γ-same)
+          (ap₂ (λ (r x : ℕ). zeroFrom d x r sizes γ) (rows-are ws a v e) x-is
+          ∙ zero-lookups-is log' sizes s-is sizes-all sizes-some d (compressedOffset (circuitOf ws)) (compressed-counted log' d front) γ γ-same)
 
       pub hs-written : answer ≡ Outcome.Written → d' ≡ writeAt d (hOffset (circuitOf ws)) (wordsOf R (hPolys 𝔾 log'))
       unfolding logOf
       hs-written t =
           w .hs t
-          ∙ ap₂ (λ (r l : ℕ). writeAt d z (hsFrom d x r γ y l)) (rows-are ws a v e) (lookups-are ws a v e)
-          ∙ ap₂ (λ (x y : ℕ). writeAt d z (hsFrom d x R γ y L)) x-is y-is
-          ∙ ap (λ (z : ℕ). writeAt d z (hsFrom d (compressedOffset (circuitOf ws)) R γ (mOffset (circuitOf ws)) L)) z-is
+          ∙ ap (λ (r : ℕ). writeAt d z (hsFrom d x r sizes γ y)) (rows-are ws a v e)
+          ∙ ap₂ (λ (x y : ℕ). writeAt d z (hsFrom d x R sizes γ y)) x-is y-is
+          ∙ ap (λ (z : ℕ). writeAt d z (hsFrom d (compressedOffset (circuitOf ws)) R sizes γ (mOffset (circuitOf ws)))) z-is
           ∙ ap (writeAt d (hOffset (circuitOf ws)))
-          (hs-are log' d (compressedOffset (circuitOf ws)) (compressed-counted log' d front) (mOffset (circuitOf ws)) (counts-counted log' d front)
+          (hs-are log' sizes s-is sizes-all sizes-some d (compressedOffset (circuitOf ws)) (compressed-counted log' d front) (mOffset (circuitOf ws))
+          (λ j l. counts-counted log' d front j (let q : length sizes * R ≡ G * R = ap (λ (n : ℕ). n * R) sizes-many in omega arith))
           γ γ-same)
 
-      pub hs-behind : drop (hOffset (circuitOf ws) + L * R) d' ≡ drop (hOffset (circuitOf ws) + L * R) d
+      pub hs-behind : drop (hOffset (circuitOf ws) + G * R) d' ≡ drop (hOffset (circuitOf ws) + G * R) d
       hs-behind =
-          let q : z + v .«num_lookups» * v .rows ≡ hOffset (circuitOf ws) + L * R = ap₂ _+_ z-is count-words in
+          let q : z + length sizes * v .rows ≡ hOffset (circuitOf ws) + G * R = ap₂ _+_ z-is count-words in
           ap (λ (n : ℕ). drop n d') (sym q) ∙ w .back ∙ ap (λ (n : ℕ). drop n d) q
 
   -- ---- the counts, and question 15
   module _ (instances witness challenges d₀ d d' : List ℕ) (answer : Bool)
       (before : d ≡ writeAt d₀ 0 (wordsOf (rowsOf (circuitOf ws)) (polysBeforeM 𝔾 (logOf ws instances witness challenges))))
-      (w : CountsWritten d (v .«num_lookups») x y (v .rows) answer d') where
+      (w : CountsWritten d sizes x y (v .rows) answer d') where
     abbrev here : Log 𝔾
     here = logOf ws instances witness challenges
 
@@ -403,24 +421,23 @@ module _ (ws : List ℕ) (a : Accepted ws) (v : CircuitParams) (e : v ≡ params
     unfolding logOf
     answer-is =
         w .is
-        ∙ ap₂ (λ (r l : ℕ). coveredFrom d x r l) (rows-are ws a v e) (lookups-are ws a v e)
-        ∙ ap (λ (x : ℕ). coveredFrom d x (rowsOf (circuitOf ws)) (numLookups (circuitOf ws))) x-is
-        ∙ all-covered-is here d (compressedOffset (circuitOf ws)) compressed-there
+        ∙ ap₂ (λ (r x : ℕ). coveredFrom d x r sizes) (rows-are ws a v e) x-is
+        ∙ all-covered-is here sizes s-is sizes-all sizes-some d (compressedOffset (circuitOf ws)) compressed-there
 
     pub counts-written : answer ≡ true → d' ≡ writeAt d (mOffset (circuitOf ws)) (wordsOf (rowsOf (circuitOf ws)) (mPolys 𝔾 here))
     unfolding logOf
     counts-written t =
         w .counts t
-        ∙ ap₂ (λ (r l : ℕ). writeAt d y (countsFrom d x r l)) (rows-are ws a v e) (lookups-are ws a v e)
-        ∙ ap₂ (λ (x y : ℕ). writeAt d y (countsFrom d x (rowsOf (circuitOf ws)) (numLookups (circuitOf ws)))) x-is y-is
+        ∙ ap (λ (r : ℕ). writeAt d y (countsFrom d x r sizes)) (rows-are ws a v e)
+        ∙ ap₂ (λ (x y : ℕ). writeAt d y (countsFrom d x (rowsOf (circuitOf ws)) sizes)) x-is y-is
         ∙ ap (writeAt d (mOffset (circuitOf ws)))
-        (counts-are here d (compressedOffset (circuitOf ws)) compressed-there refl
+        (counts-are here sizes s-is sizes-all sizes-some d (compressedOffset (circuitOf ws)) compressed-there refl (few-lookups ws a)
         (let r = rows-few ws a in let t = rows-is ws a in omega arith))
 
-    pub counts-behind : drop (mOffset (circuitOf ws) + numLookups (circuitOf ws) * rowsOf (circuitOf ws)) d'
-        ≡ drop (mOffset (circuitOf ws) + numLookups (circuitOf ws) * rowsOf (circuitOf ws)) d
+    pub counts-behind : drop (mOffset (circuitOf ws) + numGroups (circuitOf ws) * rowsOf (circuitOf ws)) d'
+        ≡ drop (mOffset (circuitOf ws) + numGroups (circuitOf ws) * rowsOf (circuitOf ws)) d
     counts-behind =
-        let q : y + v .«num_lookups» * v .rows ≡ mOffset (circuitOf ws) + numLookups (circuitOf ws) * rowsOf (circuitOf ws) =
+        let q : y + length sizes * v .rows ≡ mOffset (circuitOf ws) + numGroups (circuitOf ws) * rowsOf (circuitOf ws) =
         ap₂ _+_ y-is count-words in
         ap (λ (n : ℕ). drop n d') (sym q) ∙ w .back ∙ ap (λ (n : ℕ). drop n d) q
 
@@ -429,6 +446,7 @@ pub z-asked : (ws : List ℕ) → Accepted ws → (v : CircuitParams) → v ≡ 
     → (n : ℕ) → columnWords (circuitOf ws) ≤ n
     → Accepted ws
     × (names ≡ copied (circuitOf ws))
+    × (v .«num_groups» ≡ numGroups (circuitOf ws))
     × (v .«num_chunks» ≡ numZ (circuitOf ws))
     × (zOffset (circuitOf ws) + numZ (circuitOf ws) * rowsOf (circuitOf ws) ≤ n)
-z-asked ws a v e names h n room = let p = placed (circuitOf ws) in (a, h, parts-are ws a v e, omega arith)
+z-asked ws a v e names h n room = let p = placed (circuitOf ws) in (a, h, groups-are ws a v e, parts-are ws a v e, omega arith)

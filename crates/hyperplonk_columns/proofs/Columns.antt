@@ -11,7 +11,7 @@ use Rattle.lists.proofs.Columns.{get-tabulate, map-below}
 use Rattle.lists.proofs.Turns.{grid-lt}
 use Rattle.lists.proofs.Over.{writeAt-writePrefix}
 use Rattle.expression.specs.Value.{polyOf}
-use Rattle.backend.specs.Circuit.{Circuit, Section, circuitOf, entries, rowsOf, numInstance, numChallenges, numCopied, numLookups}
+use Rattle.backend.specs.Circuit.{Circuit, Section, circuitOf, entries, rowsOf, numInstance, numChallenges, numCopied, numLookups, numGroups}
 use Rattle.preprocessor.specs.Compose.{numZ}
 use Rattle.prover.specs.Log.{Log}
 use Rattle.prover.specs.Denominators.{factorDenominators}
@@ -46,7 +46,7 @@ module _ (g : Log 𝔾) where
   before-m-length =
       length-append (instancePolys 𝔾 g ++ permutationPolys 𝔾 g) (compressedPolys 𝔾 g) ∙ ap₂ _+_ named-length (compressed-length 𝔾 g)
 
-  counted-length : length (polysThroughM 𝔾 g) ≡ numInstance c + numCopied c + numLookups c * 3
+  counted-length : length (polysThroughM 𝔾 g) ≡ numInstance c + numCopied c + numLookups c * 2 + numGroups c
   counted-length =
       length-append (polysBeforeM 𝔾 g) (mPolys 𝔾 g)
       ∙ (let a = before-m-length in let b = m-length 𝔾 g in omega arith)
@@ -66,19 +66,19 @@ module _ (g : Log 𝔾) where
 
   zs-at : zOffset c ≡ hOffset c + length (hPolys 𝔾 g) * R
   zs-at =
-      let n : numInstance c + numCopied c + numLookups c * 4 ≡ numInstance c + numCopied c + numLookups c * 3 + length (hPolys 𝔾 g) =
+      let n : numInstance c + numCopied c + numLookups c * 2 + numGroups c * 2 ≡ numInstance c + numCopied c + numLookups c * 2 + numGroups c + length (hPolys 𝔾 g) =
       let e = h-length 𝔾 g in omega arith in
-      ap (λ (m : ℕ). m * R) n ∙ add-mul (numInstance c + numCopied c + numLookups c * 3) (length (hPolys 𝔾 g)) R
+      ap (λ (m : ℕ). m * R) n ∙ add-mul (numInstance c + numCopied c + numLookups c * 2 + numGroups c) (length (hPolys 𝔾 g)) R
 
   -- ---- room
 
   abbrev Room : List ℕ → Type 0
   Room d = columnWords c ≤ length d
 
-  room-of : (d : List ℕ) (n : ℕ) → n ≤ numInstance c + numCopied c + numLookups c * 4 + numZ c → Room d → n * R ≤ length d
+  room-of : (d : List ℕ) (n : ℕ) → n ≤ numInstance c + numCopied c + numLookups c * 2 + numGroups c * 2 + numZ c → Room d → n * R ≤ length d
   unfolding columnWords
   room-of d n h r =
-      let w : n * R ≤ (numInstance c + numCopied c + numLookups c * 4 + numZ c) * R = mul-le-mul {m₁ = R} {m₂ = R} h (omega arith) in
+      let w : n * R ≤ (numInstance c + numCopied c + numLookups c * 2 + numGroups c * 2 + numZ c) * R = mul-le-mul {m₁ = R} {m₂ = R} h (omega arith) in
       omega arith
 
   -- ---- one kind behind another
@@ -116,7 +116,7 @@ module _ (g : Log 𝔾) where
       ≡ writeAt d (hOffset c) (wordsOf R (polysAfterM 𝔾 g))
   last-more d r =
       over-columns R d (hOffset c) (hPolys 𝔾 g) (zPolys 𝔾 g) (zOffset c) zs-at
-      (room-of d (numInstance c + numCopied c + numLookups c * 4) (omega arith) r)
+      (room-of d (numInstance c + numCopied c + numLookups c * 2 + numGroups c * 2) (omega arith) r)
 
   -- all of them
   written-grouped : polysThroughM 𝔾 g ++ polysAfterM 𝔾 g ≡ writtenPolys 𝔾 g
@@ -129,7 +129,7 @@ module _ (g : Log 𝔾) where
   written-more d r =
       over-columns R d 0 (polysThroughM 𝔾 g) (polysAfterM 𝔾 g) (hOffset c)
       (hs-at ∙ sym (zero-add (length (polysThroughM 𝔾 g) * R)))
-      (room-of d (numInstance c + numCopied c + numLookups c * 3) (omega arith) r)
+      (room-of d (numInstance c + numCopied c + numLookups c * 2 + numGroups c) (omega arith) r)
       ∙ ap (λ (ps : List (ℕ → 𝔾 .F)). writeAt d 0 (wordsOf R ps)) written-grouped
       ∙ sym (writeAt-writePrefix (wordsOf R (writtenPolys 𝔾 g)) d)
 
@@ -181,11 +181,11 @@ module _ (g : Log 𝔾) where
     pub compressed-counted : (j : ℕ) → j < numLookups c * 2 * R → getD d (compressedOffset c + j) 0 ≡ getD (wordsOf R (compressedPolys 𝔾 g)) j 0
     compressed-counted = compressed-read d d (mPolys 𝔾 g) (polysThroughM 𝔾 g) refl counted-front
 
-    pub counts-counted : (j : ℕ) → j < numLookups c * R → getD d (mOffset c + j) 0 ≡ getD (wordsOf R (mPolys 𝔾 g)) j 0
+    pub counts-counted : (j : ℕ) → j < numGroups c * R → getD d (mOffset c + j) 0 ≡ getD (wordsOf R (mPolys 𝔾 g)) j 0
     counts-counted j l =
         front-get R d d (polysBeforeM 𝔾 g) (mPolys 𝔾 g) [] (polysThroughM 𝔾 g) (sym (append-nil (polysThroughM 𝔾 g))) counted-front (mOffset c)
         counts-at j
-        (let q : length (mPolys 𝔾 g) * R ≡ numLookups c * R = ap (λ (n : ℕ). n * R) (m-length 𝔾 g) in omega arith)
+        (let q : length (mPolys 𝔾 g) * R ≡ numGroups c * R = ap (λ (n : ℕ). n * R) (m-length 𝔾 g) in omega arith)
 
   -- which it has when m is written
   pub counted-taken : (d : List ℕ) → take (hOffset c) (writeAt d 0 (wordsOf R (polysThroughM 𝔾 g))) ≡ wordsOf R (polysThroughM 𝔾 g)
@@ -262,7 +262,7 @@ module _ (ws instances witness challenges : List ℕ) (positive : 0 < circuitOf 
         ∙ ap (λ (d : List ℕ). writeAt d (hOffset (circuitOf ws)) (wordsOf rows (hPolys 𝔾 log))) (counted-front log d₄ front)
         ∙ over-columns rows d₄ 0 (polysThroughM 𝔾 log) (hPolys 𝔾 log) (hOffset (circuitOf ws))
         (hs-at log ∙ sym (zero-add (length (polysThroughM 𝔾 log) * rows)))
-        (room-of log d₄ (numInstance (circuitOf ws) + numCopied (circuitOf ws) + numLookups (circuitOf ws) * 3) (omega arith) room)
+        (room-of log d₄ (numInstance (circuitOf ws) + numCopied (circuitOf ws) + numLookups (circuitOf ws) * 2 + numGroups (circuitOf ws)) (omega arith) room)
 
     labels : (i b : ℕ) → i < numCopied (circuitOf ws) → b < rows
         → el (getD d₅ ((layoutFromWords ws .instances + i) * rows + b) 0) ≡ permutationAt 𝔾 log i b

@@ -62,7 +62,7 @@ fn places_of(circuit: &[u64], params: CircuitParams) -> Places
     Places {
         compressed: named * params.rows,
         counts: (named + params.num_lookups * 2) * params.rows,
-        hs: (named + params.num_lookups * 3) * params.rows,
+        hs: (named + params.num_lookups * 2 + params.num_groups) * params.rows,
     }
 }
 
@@ -83,25 +83,28 @@ pub fn columns_before_m<'a>(
     compressed_columns(circuit, witness, columns, challenges, copied.len());
 }
 
-// h and z, behind the counts, of any log whose columns to the counts stand at the front of the buffer. Stops where a denominator is zero.
+// h and z, behind the counts, of any log whose columns to the counts stand at the front of the buffer. `sizes` are the sizes of the
+// groups of lookups. Stops where a denominator is zero.
 fn columns_after_m(
     circuit: &[u64],
     witness: &[u64],
     challenges: &[u64],
     columns: &mut [u64],
     copied: &[u64],
+    sizes: &[u64],
     params: CircuitParams,
 ) -> Outcome
-    requires { ⌜ Prepared (now circuit) (now copied) params × (length (now challenges) ≡ numChallenges (circuitOf (now circuit)) + 2) × (columnWords (circuitOf (now circuit)) ≤ length (now columns)) ⌝ }
+    requires { ⌜ Prepared (now circuit) (now copied) (now sizes) params × (length (now challenges) ≡ numChallenges (circuitOf (now circuit)) + 2) × (columnWords (circuitOf (now circuit)) ≤ length (now columns)) ⌝ }
     ensures { λ r. ⌜ ((instances : List ℕ) → take (hOffset (circuitOf (now (circuit .entry)))) (now (columns .entry)) ≡ wordsOf (rowsOf (circuitOf (now (circuit .entry)))) (polysThroughM 𝔾 (logOf (now (circuit .entry)) instances (now (witness .entry)) (now (challenges .entry)))) → AfterM (logOf (now (circuit .entry)) instances (now (witness .entry)) (now (challenges .entry))) (now (columns .entry)) r (now (columns .exit))) ⌝ }
 {
     let at = places_of(circuit, params);
     let user = params.num_challenges;
+    let groups = params.num_groups;
     let chunks = params.num_chunks;
     let gamma = Goldilocks::at(challenges, user + 1);
     let hs = lookup_h_polys(
         columns,
-        params.num_lookups,
+        sizes,
         at.compressed,
         at.counts,
         at.hs,
@@ -109,12 +112,20 @@ fn columns_after_m(
         params.rows,
     );
     match hs {
-        Outcome::Written => z_columns(circuit, witness, columns, challenges, copied, chunks),
+        Outcome::Written => z_columns(
+            circuit,
+            witness,
+            columns,
+            challenges,
+            copied,
+            groups,
+            chunks,
+        ),
         Outcome::ZeroDenominator => Outcome::ZeroDenominator,
     }
 }
 
-// All columns. Where an input of a lookup is in no table row, or a denominator is zero, the column words needed become 0.
+// All columns. `sizes` are the sizes of the groups of lookups. Where an input of a lookup is in no table row, or a denominator is zero, the column words needed become 0.
 pub fn write_columns<'a>(
     circuit: &'a [u64],
     instance: &[u64],
@@ -122,26 +133,21 @@ pub fn write_columns<'a>(
     challenges: &'a [u64],
     columns: &mut [u64],
     copied: &[u64],
+    sizes: &[u64],
     params: CircuitParams,
 ) -> ColumnsOutcome
-    requires { ⌜ Prepared (now circuit) (now copied) params × (q12 (circuitOf (now circuit)) (now instance) (now witness) (now challenges) ≡ true) × (columnWords (circuitOf (now circuit)) ≤ length (now columns)) ⌝ }
+    requires { ⌜ Prepared (now circuit) (now copied) (now sizes) params × (q12 (circuitOf (now circuit)) (now instance) (now witness) (now challenges) ≡ true) × (columnWords (circuitOf (now circuit)) ≤ length (now columns)) ⌝ }
     ensures { λ r. ⌜ (r ≡ columnsOutcome (logOf (now (circuit .entry)) (now (instance .entry)) (now (witness .entry)) (now (challenges .entry)))) × (now (columns .exit) ≡ writePrefix (columnsLeft (logOf (now (circuit .entry)) (now (instance .entry)) (now (witness .entry)) (now (challenges .entry))) r) (now (columns .entry))) ⌝ }
 {
     columns_before_m(circuit, instance, witness, challenges, columns, copied);
     let at = places_of(circuit, params);
     let words = column_words(circuit, params);
-    let covered = lookup_m_polys(
-        columns,
-        params.num_lookups,
-        at.compressed,
-        at.counts,
-        params.rows,
-    );
+    let covered = lookup_m_polys(columns, sizes, at.compressed, at.counts, params.rows);
     if !covered {
         clear(columns, 0, words);
         return ColumnsOutcome::Uncovered;
     }
-    let last = columns_after_m(circuit, witness, challenges, columns, copied, params);
+    let last = columns_after_m(circuit, witness, challenges, columns, copied, sizes, params);
     match last {
         Outcome::Written => ColumnsOutcome::Written,
         Outcome::ZeroDenominator => {

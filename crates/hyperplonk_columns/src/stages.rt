@@ -30,7 +30,7 @@ ghost use lib.ListN.{length};
 ghost use Rattle.field.specs.Field.{𝔾};
 ghost use Rattle.field.specs.Element.{elem};
 ghost use Rattle.lists.specs.Lists.{writeAt, total};
-ghost use Rattle.backend.specs.Circuit.{Section, bodyOf, circuitOf, rowsOf, numInstance, numChallenges, numLookups, copied as copiedOf, numCopied};
+ghost use Rattle.backend.specs.Circuit.{Section, bodyOf, circuitOf, rowsOf, numInstance, numChallenges, numLookups, numGroups, copied as copiedOf, numCopied};
 ghost use Rattle.preprocessor.specs.Compose.{numZ};
 ghost use Rattle.prover.specs.Denominators.{someZero};
 ghost use Rattle.prover.specs.Answers.{outcomeOf, outcomeWords};
@@ -136,16 +136,17 @@ pub(crate) fn compressed_columns<'a>(
 }
 
 // The z columns, behind all others; zeros where a denominator is zero. `challenges` are the user's, then beta and gamma; `copied` are the
-// copied columns, and `chunks` is how many z columns there are.
+// copied columns, `groups` is how many groups of lookups there are, and `chunks` how many z columns.
 pub(crate) fn z_columns(
     circuit: &[u64],
     witness: &[u64],
     columns: &mut [u64],
     challenges: &[u64],
     copied: &[u64],
+    groups: usize,
     chunks: usize,
 ) -> Outcome
-    requires { ⌜ Accepted (now circuit) × (now copied ≡ copiedOf (circuitOf (now circuit))) × (chunks ≡ numZ (circuitOf (now circuit))) × (zOffset (circuitOf (now circuit)) + numZ (circuitOf (now circuit)) * rowsOf (circuitOf (now circuit)) ≤ length (now columns)) ⌝ }
+    requires { ⌜ Accepted (now circuit) × (now copied ≡ copiedOf (circuitOf (now circuit))) × (groups ≡ numGroups (circuitOf (now circuit))) × (chunks ≡ numZ (circuitOf (now circuit))) × (zOffset (circuitOf (now circuit)) + numZ (circuitOf (now circuit)) * rowsOf (circuitOf (now circuit)) ≤ length (now columns)) ⌝ }
     ensures { λ r. ⌜ (r ≡ outcomeOf (someZero 𝔾 (zDenominators (now (circuit .entry)) (now (witness .entry)) (now (columns .entry)) (now (challenges .entry))))) × (now (columns .exit) ≡ writeAt (now (columns .entry)) (zOffset (circuitOf (now (circuit .entry)))) (outcomeWords r (zWords (now (circuit .entry)) (now (witness .entry)) (now (columns .entry)) (now (challenges .entry))))) ⌝ }
 {
     let k = index(k_of(circuit));
@@ -154,7 +155,7 @@ pub(crate) fn z_columns(
     let beta = Goldilocks::from_u64(word_at(challenges, user));
     let gamma = Goldilocks::from_u64(word_at(challenges, user + 1));
     let lookups = index(word_at(circuit, WIDTH_COUNT));
-    let to = (layout.instances + copied.len() + lookups * 4) * layout.rows;
+    let to = (layout.instances + copied.len() + lookups * 2 + groups * 2) * layout.rows;
     let z = ZColumns {
         layout: layout,
         k: k,

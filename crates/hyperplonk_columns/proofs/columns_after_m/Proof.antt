@@ -1,4 +1,4 @@
--- `columns_after_m` meets its contract: h of all lookups first, and z where no denominator of theirs is zero.
+-- `columns_after_m` meets its contract: h of all groups first, and z where no denominator of theirs is zero.
 use borrow.Author.Needs.{needs}
 use mathlib.Core.Path.{_≡_, sym, _∙_, refl}
 use native.Mathlib.Omega.{arith}
@@ -9,7 +9,7 @@ use Rattle.hyperplonk_columns.proofs.columns_after_m.Tie as tie
 
 -- the places before
 abbrev start : tie.After-places-of → tie.Start
-start c = c .before .before .before .before .before .before
+start c = c .before .before .before .before .before .before .before
 
 abbrev places : tie.After-lookup-h-polys → tie.After-places-of
 places c = c .before .before .before
@@ -35,7 +35,7 @@ lookup-h-polys-requires : tie.Need-lookup-h-polys-requires
 lookup-h-polys-requires c κs =
     let s = start (c .before .before) in
     let at = c .before .before .places-of in
-    hs-asked (s .args .circuit .now) (s .pre .0 .accepted) (s .args .params) (s .pre .0 .params-are) _ _ (at .ensures .0) (at .ensures .1)
+    hs-asked (s .args .circuit .now) (s .pre .0 .accepted) (s .args .params) (s .pre .0 .params-are) (s .args .sizes .now) (s .pre .0 .sizes-are) _ _ (at .ensures .0) (at .ensures .1)
     (length (s .args .columns .now))
     (s .pre .2)
     _
@@ -68,11 +68,11 @@ returns c instances front =
     let told = c .before .before .before .before .enum-told .given .1 in
     z-decides (s .args .circuit .now) instances (s .args .witness .now) (s .args .challenges .now) (s .pre .0 .accepted) (s .args .columns .now) (s .pre .2) front _ _ _
     (sym told
-    ∙ hs-answer (s .args .circuit .now) (s .pre .0 .accepted) (s .args .params) (s .pre .0 .params-are) _ _ (at .ensures .0) (at .ensures .1)
+    ∙ hs-answer (s .args .circuit .now) (s .pre .0 .accepted) (s .args .params) (s .pre .0 .params-are) (s .args .sizes .now) (s .pre .0 .sizes-are) _ _ (at .ensures .0) (at .ensures .1)
     (length (s .args .columns .now)) (s .pre .2) _ (at .ensures .2) _ instances (s .args .witness .now) (s .args .challenges .now) (s .args .columns .now) _ _ γ front (x .ensures))
-    (hs-behind (s .args .circuit .now) (s .pre .0 .accepted) (s .args .params) (s .pre .0 .params-are) _ _ (at .ensures .0) (at .ensures .1)
+    (hs-behind (s .args .circuit .now) (s .pre .0 .accepted) (s .args .params) (s .pre .0 .params-are) (s .args .sizes .now) (s .pre .0 .sizes-are) _ _ (at .ensures .0) (at .ensures .1)
     (length (s .args .columns .now)) (s .pre .2) _ (at .ensures .2) _ instances (s .args .witness .now) (s .args .challenges .now) (s .args .columns .now) _ _ γ front (x .ensures))
-    (hs-written (s .args .circuit .now) (s .pre .0 .accepted) (s .args .params) (s .pre .0 .params-are) _ _ (at .ensures .0) (at .ensures .1)
+    (hs-written (s .args .circuit .now) (s .pre .0 .accepted) (s .args .params) (s .pre .0 .params-are) (s .args .sizes .now) (s .pre .0 .sizes-are) _ _ (at .ensures .0) (at .ensures .1)
     (length (s .args .columns .now)) (s .pre .2) _ (at .ensures .2) _ instances (s .args .witness .now) (s .args .challenges .now) (s .args .columns .now) _ _ γ front (x .ensures)
     told)
     (x .kept .0)
@@ -91,9 +91,9 @@ returns-2 c instances front =
     let told = c .enum-told2 .given .1 in
     h-stopped (s .args .circuit .now) instances (s .args .witness .now) (s .args .challenges .now) (s .pre .0 .accepted) (s .args .columns .now) (s .pre .2) front _
     (sym told
-    ∙ hs-answer (s .args .circuit .now) (s .pre .0 .accepted) (s .args .params) (s .pre .0 .params-are) _ _ (at .ensures .0) (at .ensures .1)
+    ∙ hs-answer (s .args .circuit .now) (s .pre .0 .accepted) (s .args .params) (s .pre .0 .params-are) (s .args .sizes .now) (s .pre .0 .sizes-are) _ _ (at .ensures .0) (at .ensures .1)
     (length (s .args .columns .now)) (s .pre .2) _ (at .ensures .2) _ instances (s .args .witness .now) (s .args .challenges .now) (s .args .columns .now) _ _ γ front (x .ensures))
-    (hs-behind (s .args .circuit .now) (s .pre .0 .accepted) (s .args .params) (s .pre .0 .params-are) _ _ (at .ensures .0) (at .ensures .1)
+    (hs-behind (s .args .circuit .now) (s .pre .0 .accepted) (s .args .params) (s .pre .0 .params-are) (s .args .sizes .now) (s .pre .0 .sizes-are) _ _ (at .ensures .0) (at .ensures .1)
     (length (s .args .columns .now)) (s .pre .2) _ (at .ensures .2) _ instances (s .args .witness .now) (s .args .challenges .now) (s .args .columns .now) _ _ γ front (x .ensures))
 
 pub columns-after-m-spec : {M : Type 1} → statement M

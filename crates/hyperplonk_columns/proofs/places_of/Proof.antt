@@ -41,18 +41,21 @@ mul-t11 c = let s = c .before .before .before .before .before .before in omega (
 add-t12 : tie.Need-add-t12
 add-t12 c = let s = c .before .before .before .before .before .before in omega (arith, columns-low (s .args .circuit .now) (s .pre .0) (s .args .params) (s .pre .1) .0)
 
-mul-t13 : tie.Need-mul-t13
-mul-t13 c =
-    let s = c .before .before .before .before .before .before .before in
+add-t13 : tie.Need-add-t13
+add-t13 c = let s = c .before .before .before .before .before .before .before in omega (arith, columns-low (s .args .circuit .now) (s .pre .0) (s .args .params) (s .pre .1) .0)
+
+mul-t14 : tie.Need-mul-t14
+mul-t14 c =
+    let s = c .before .before .before .before .before .before .before .before in
     omega (
       arith,
       words-fit (s .args .circuit .now) (s .pre .0) (s .args .params) (s .pre .1)
-          (getD (s .args .circuit .now) 3 0 + s .args .params .«num_permutation_polys» + s .args .params .«num_lookups» * 3)
+          (getD (s .args .circuit .now) 3 0 + s .args .params .«num_permutation_polys» + s .args .params .«num_lookups» * 2 + s .args .params .«num_groups»)
           (omega arith),
     )
 
 returns : tie.Need-returns
-returns c = let s = c .before .before .before .before .before .before .before in places-from (s .args .circuit .now) (s .pre .0) (s .args .params) (s .pre .1)
+returns c = let s = c .before .before .before .before .before .before .before .before in places-from (s .args .circuit .now) (s .pre .0) (s .args .params) (s .pre .1)
 
 pub places-of-spec : {M : Type 1} → statement M
 places-of-spec =
@@ -66,5 +69,6 @@ places-of-spec =
     mul-t10
     mul-t11
     add-t12
-    mul-t13
+    add-t13
+    mul-t14
     returns)

@@ -23,6 +23,7 @@ use Rattle.backend.specs.Circuit.{
   numWitness,
   numChallenges,
   numLookups,
+  numGroups,
   copied,
   numCopied,
 }
@@ -107,12 +108,14 @@ module _ (ws : List ℕ) (a : Accepted ws) where
     pub compressed-at : (n : ℕ) → n ≡ numCopied (circuitOf ws) → (l .instances + n) * l .rows ≡ compressedOffset (circuitOf ws)
     compressed-at n e = ap₂ _*_ (ap₂ _+_ instances-of e) rows-of
 
-    pub zs-at : (n m : ℕ) → n ≡ numCopied (circuitOf ws) → m ≡ getD ws 13 0
-        → (l .instances + n + m * 4) * l .rows ≡ zOffset (circuitOf ws)
-    zs-at n m e f =
+    pub zs-at : (n m g : ℕ) → n ≡ numCopied (circuitOf ws) → m ≡ getD ws 13 0 → g ≡ numGroups (circuitOf ws)
+        → (l .instances + n + m * 2 + g * 2) * l .rows ≡ zOffset (circuitOf ws)
+    zs-at n m g e f h =
         ap₂ _*_
+        (ap₂ _+_
         (ap₂ _+_ (ap₂ _+_ instances-of e)
-        (ap (λ (m : ℕ). m * 4) (f ∙ sym (accepted.widths-are ws a ∙ accepted.widths-length ws a))))
+        (ap (λ (m : ℕ). m * 2) (f ∙ sym (accepted.widths-are ws a ∙ accepted.widths-length ws a))))
+        (ap (λ (g : ℕ). g * 2) h))
         rows-of
 
     -- none of these numbers wraps
@@ -135,13 +138,15 @@ module _ (ws : List ℕ) (a : Accepted ws) where
         let h = accepted.few-copied ws a in
         (omega arith, in-columns (l .instances + n) (omega arith))
 
-    pub zs-fit : (n m : ℕ) → n ≡ numCopied (circuitOf ws) → m ≡ getD ws 13 0
-        → (l .instances + n ≤ 80) × (m ≤ 8) × ((l .instances + n + m * 4) * l .rows ≤ 114688)
-    zs-fit n m e f =
+    pub zs-fit : (n m g : ℕ) → n ≡ numCopied (circuitOf ws) → m ≡ getD ws 13 0 → g ≡ numGroups (circuitOf ws)
+        → (l .instances + n ≤ 80) × (m ≤ 8) × (g ≤ 8) × ((l .instances + n + m * 2 + g * 2) * l .rows ≤ 114688)
+    zs-fit n m g e f q =
         let i = few-instances in
         let h = accepted.few-copied ws a in
         let w = accepted.laid-of ws a .few-widths in
-        (omega arith, omega arith, in-columns (l .instances + n + m * 4) (omega arith))
+        let k = accepted.few-lookups ws a in
+        let j = accepted.fewer-groups ws a in
+        (omega arith, omega arith, omega arith, in-columns (l .instances + n + m * 2 + g * 2) (omega arith))
 
   -- ---- permutation columns
   label-small : (i b : ℕ) → i < numCopied (circuitOf ws) → b < rowsOf (circuitOf ws) → label (circuitOf ws) i b < P
@@ -269,13 +274,14 @@ module _ (ws : List ℕ) (a : Accepted ws) where
       ∙ ap₂ (λ (user : ℕ) (β : 𝔾 .F). write (c .k) (layoutFromWords ws) user β) eu (eb ∙ ap (λ (user : ℕ). el (getD challenges user 0)) eu)
 
   -- ---- z columns
-  pub z-asks : (l : Layout) (k parts lookups : ℕ) (names columns : List ℕ) → l ≡ layoutFromWords ws → k ≡ wordK ws → lookups ≡ getD ws 13 0
+  pub z-asks : (l : Layout) (k parts lookups groups : ℕ) (names columns : List ℕ) → l ≡ layoutFromWords ws → k ≡ wordK ws → lookups ≡ getD ws 13 0
+      → groups ≡ numGroups (circuitOf ws)
       → names ≡ copied (circuitOf ws) → parts ≡ numZ (circuitOf ws)
       → zOffset (circuitOf ws) + numZ (circuitOf ws) * rowsOf (circuitOf ws) ≤ length columns
       → ((0 < k) × (k < 21)) × Given k l × ((0 < length names → 0 < parts) × (parts ≤ length names)) × (length names ≤ 1048576)
-      × ((l .instances + length names) * 2 ^ k ≤ (l .instances + length names + lookups * 4) * l .rows)
-      × ((l .instances + length names + lookups * 4) * l .rows + parts * 2 ^ k ≤ length columns)
-  z-asks l k parts lookups names columns is ek em en ez room =
+      × ((l .instances + length names) * 2 ^ k ≤ (l .instances + length names + lookups * 2 + groups * 2) * l .rows)
+      × ((l .instances + length names + lookups * 2 + groups * 2) * l .rows + parts * 2 ^ k ≤ length columns)
+  z-asks l k parts lookups groups names columns is ek em eg en ez room =
       let c : Circuit = circuitOf ws in
       let same : k ≡ c .k = ek ∙ sym (accepted.k-is ws a) in
       let n : length names ≡ numCopied c = ap length en in (
@@ -284,21 +290,21 @@ module _ (ws : List ℕ) (a : Accepted ws) where
         ((λ h. let q = accepted.some-z ws a (omega arith) in omega arith), (let h = accepted.few-z ws a in omega arith)),
         (let h = accepted.few-copied ws a in omega arith),
         rw (same, rows-of l is) (mul-le-mul-right (rowsOf c) (omega arith)),
-        rw (zs-at l is (length names) lookups n em, same, ez) room,
+        rw (zs-at l is (length names) lookups groups n em eg, same, ez) room,
       )
 
   -- what is answered, and what is written
-  pub z-written : (l : Layout) (k parts lookups user : ℕ) (beta gamma : 𝔾 .F) (names witness challenges d new : List ℕ) (r : Outcome)
+  pub z-written : (l : Layout) (k parts lookups groups user : ℕ) (beta gamma : 𝔾 .F) (names witness challenges d new : List ℕ) (r : Outcome)
       → l ≡ layoutFromWords ws
-      → k ≡ wordK ws → lookups ≡ getD ws 13 0 → names ≡ copied (circuitOf ws) → parts ≡ numZ (circuitOf ws) → user ≡ numChallenges (circuitOf ws)
+      → k ≡ wordK ws → lookups ≡ getD ws 13 0 → groups ≡ numGroups (circuitOf ws) → names ≡ copied (circuitOf ws) → parts ≡ numZ (circuitOf ws) → user ≡ numChallenges (circuitOf ws)
       → beta ≡ el (getD challenges user 0) → gamma ≡ el (getD challenges (user + 1) 0)
       → (r ≡ outcomeOf (someZero 𝔾 (factorDenominators 𝔾 (2 ^ k) (length names) (λ i b. denominatorInWords l ws witness d names beta gamma b i))))
       × (new
-      ≡ writeAt d ((l .instances + length names + lookups * 4) * l .rows)
+      ≡ writeAt d ((l .instances + length names + lookups * 2 + groups * 2) * l .rows)
       (outcomeWords r (wordsOf (2 ^ k) (tabulate (zOf 𝔾 (ratioInWords l ws witness d names beta gamma) k (length names) parts) parts))))
       → (r ≡ outcomeOf (someZero 𝔾 (zDenominators ws witness d challenges)))
       × (new ≡ writeAt d (zOffset (circuitOf ws)) (outcomeWords r (zWords ws witness d challenges)))
-  z-written l k parts lookups user beta gamma names witness challenges d new r is ek em en ez eu eb eg h =
+  z-written l k parts lookups groups user beta gamma names witness challenges d new r is ek em en' en ez eu eb eg h =
       let c : Circuit = circuitOf ws in
       let b-is = eb ∙ ap (λ (user : ℕ). el (getD challenges user 0)) eu in
       let g-is = eg ∙ ap (λ (user : ℕ). el (getD challenges (user + 1) 0)) eu in
@@ -311,7 +317,7 @@ module _ (ws : List ℕ) (a : Accepted ws) where
             ∙ ap₂ (λ (l : Layout) (names : List ℕ). zeros l (c .k) names beta gamma) is en
             ∙ ap₂ (λ (beta gamma : 𝔾 .F). zeros (layoutFromWords ws) (c .k) (copied c) beta gamma) b-is g-is,
         h .1
-            ∙ ap₂ (λ (to k : ℕ). write to l k names parts beta gamma) (zs-at l is (length names) lookups (ap length en) em)
+            ∙ ap₂ (λ (to k : ℕ). write to l k names parts beta gamma) (zs-at l is (length names) lookups groups (ap length en) em en')
             (ek ∙ sym (accepted.k-is ws a))
             ∙ ap₂ (λ (l : Layout) (names : List ℕ). write (zOffset c) l (c .k) names parts beta gamma) is en
             ∙ ap (λ (parts : ℕ). write (zOffset c) (layoutFromWords ws) (c .k) (copied c) parts beta gamma) ez

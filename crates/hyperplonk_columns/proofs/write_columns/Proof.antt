@@ -10,7 +10,7 @@ use Rattle.hyperplonk_columns.proofs.write_columns.Tie as tie
 
 -- the places before
 abbrev start : tie.After-columns-before-m → tie.Start
-start c = c .before .before .before .before .before .before .before .before
+start c = c .before .before .before .before .before .before .before .before .before
 
 abbrev placed : tie.After-places-of → tie.After-columns-before-m
 placed c = c .before .before .before
@@ -39,7 +39,7 @@ zero c = c .before .before .before .before
 
 columns-before-m-requires : tie.Need-columns-before-m-requires
 columns-before-m-requires c κs =
-    let s = c .before .before .before .before .before .before .before in (s .pre .0 .accepted, s .pre .0 .copied-are, s .pre .1, s .pre .2)
+    let s = c .before .before .before .before .before .before .before .before in (s .pre .0 .accepted, s .pre .0 .copied-are, s .pre .1, s .pre .2)
 
 places-of-requires : tie.Need-places-of-requires
 places-of-requires c κs = let s = start (c .before .before) in (s .pre .0 .accepted, s .pre .0 .params-are)
@@ -52,7 +52,7 @@ lookup-m-polys-requires c κs =
     let w = c .before in
     let s = start (placed (worded w)) in
     let at = worded w .places-of in
-    counts-asked (s .args .circuit .now) (s .pre .0 .accepted) (s .args .params) (s .pre .0 .params-are) _ _ (at .ensures .0) (at .ensures .1)
+    counts-asked (s .args .circuit .now) (s .pre .0 .accepted) (s .args .params) (s .pre .0 .params-are) (s .args .sizes .now) (s .pre .0 .sizes-are) _ _ (at .ensures .0) (at .ensures .1)
     (length (s .args .columns .now))
     (s .pre .2)
     (s .args .instance .now)
@@ -88,7 +88,7 @@ returns c =
     _
     _
     (sym (not-true (m .result) (here .if1 .taken))
-    ∙ answer-is (s .args .circuit .now) (s .pre .0 .accepted) (s .args .params) (s .pre .0 .params-are) _ _ (at .ensures .0) (at .ensures .1)
+    ∙ answer-is (s .args .circuit .now) (s .pre .0 .accepted) (s .args .params) (s .pre .0 .params-are) (s .args .sizes .now) (s .pre .0 .sizes-are) _ _ (at .ensures .0) (at .ensures .1)
     (length (s .args .columns .now))
     (s .pre .2)
     (s .args .instance .now)
@@ -100,7 +100,7 @@ returns c =
     (m .result)
     before
     (m .ensures))
-    (counts-behind (s .args .circuit .now) (s .pre .0 .accepted) (s .args .params) (s .pre .0 .params-are) _ _ (at .ensures .0) (at .ensures .1)
+    (counts-behind (s .args .circuit .now) (s .pre .0 .accepted) (s .args .params) (s .pre .0 .params-are) (s .args .sizes .now) (s .pre .0 .sizes-are) _ _ (at .ensures .0) (at .ensures .1)
     (length (s .args .columns .now))
     (s .pre .2)
     (s .args .instance .now)
@@ -158,7 +158,7 @@ returns-2 c =
     _
     _
     _
-    (counts-written (s .args .circuit .now) (s .pre .0 .accepted) (s .args .params) (s .pre .0 .params-are) _ _ (at .ensures .0) (at .ensures .1)
+    (counts-written (s .args .circuit .now) (s .pre .0 .accepted) (s .args .params) (s .pre .0 .params-are) (s .args .sizes .now) (s .pre .0 .sizes-are) _ _ (at .ensures .0) (at .ensures .1)
     (length (s .args .columns .now))
     (s .pre .2)
     (s .args .instance .now)
@@ -172,7 +172,7 @@ returns-2 c =
     (m .ensures)
     yes)
     (sym yes
-    ∙ answer-is (s .args .circuit .now) (s .pre .0 .accepted) (s .args .params) (s .pre .0 .params-are) _ _ (at .ensures .0) (at .ensures .1)
+    ∙ answer-is (s .args .circuit .now) (s .pre .0 .accepted) (s .args .params) (s .pre .0 .params-are) (s .args .sizes .now) (s .pre .0 .sizes-are) _ _ (at .ensures .0) (at .ensures .1)
     (length (s .args .columns .now))
     (s .pre .2)
     (s .args .instance .now)
@@ -207,7 +207,7 @@ returns-3 c =
     _
     _
     _
-    (counts-written (s .args .circuit .now) (s .pre .0 .accepted) (s .args .params) (s .pre .0 .params-are) _ _ (at .ensures .0) (at .ensures .1)
+    (counts-written (s .args .circuit .now) (s .pre .0 .accepted) (s .args .params) (s .pre .0 .params-are) (s .args .sizes .now) (s .pre .0 .sizes-are) _ _ (at .ensures .0) (at .ensures .1)
     (length (s .args .columns .now))
     (s .pre .2)
     (s .args .instance .now)
@@ -221,7 +221,7 @@ returns-3 c =
     (m .ensures)
     yes)
     (sym yes
-    ∙ answer-is (s .args .circuit .now) (s .pre .0 .accepted) (s .args .params) (s .pre .0 .params-are) _ _ (at .ensures .0) (at .ensures .1)
+    ∙ answer-is (s .args .circuit .now) (s .pre .0 .accepted) (s .args .params) (s .pre .0 .params-are) (s .args .sizes .now) (s .pre .0 .sizes-are) _ _ (at .ensures .0) (at .ensures .1)
     (length (s .args .columns .now))
     (s .pre .2)
     (s .args .instance .now)

@@ -46,21 +46,27 @@ index-requires-3 : tie.Need-index-requires-3
 index-requires-3 c κs = search needs
 
 add-to : tie.Need-add-to
-add-to c = omega (arith, zs-fit (c .before .before .before .before .before .before .before .before .before .before .before .before .before .before .before .before .before .args .circuit .now) (c .before .before .before .before .before .before .before .before .before .before .before .before .before .before .before .before .before .pre .0) _ (c .before .before .before .before .before .before .before .before .before .layout-of .ensures) _ _ (ap length (c .before .before .before .before .before .before .before .before .before .before .before .before .before .before .before .before .before .pre .1)) (c .before .index3 .ensures ∙ c .before .before .word-at3 .ensures) .0)
+add-to c = let f = zs-fit (c .before .before .before .before .before .before .before .before .before .before .before .before .before .before .before .before .before .args .circuit .now) (c .before .before .before .before .before .before .before .before .before .before .before .before .before .before .before .before .before .pre .0) _ (c .before .before .before .before .before .before .before .before .before .layout-of .ensures) _ _ _ (ap length (c .before .before .before .before .before .before .before .before .before .before .before .before .before .before .before .before .before .pre .1)) (c .before .index3 .ensures ∙ c .before .before .word-at3 .ensures) (c .before .before .before .before .before .before .before .before .before .before .before .before .before .before .before .before .before .pre .2) in omega (arith, f .0, f .1, f .2)
 
 mul-to : tie.Need-mul-to
-mul-to c = omega (arith, zs-fit (c .before .before .before .before .before .before .before .before .before .before .before .before .before .before .before .before .before .args .circuit .now) (c .before .before .before .before .before .before .before .before .before .before .before .before .before .before .before .before .before .pre .0) _ (c .before .before .before .before .before .before .before .before .before .layout-of .ensures) _ _ (ap length (c .before .before .before .before .before .before .before .before .before .before .before .before .before .before .before .before .before .pre .1)) (c .before .index3 .ensures ∙ c .before .before .word-at3 .ensures) .1)
+mul-to c = let f = zs-fit (c .before .before .before .before .before .before .before .before .before .before .before .before .before .before .before .before .before .args .circuit .now) (c .before .before .before .before .before .before .before .before .before .before .before .before .before .before .before .before .before .pre .0) _ (c .before .before .before .before .before .before .before .before .before .layout-of .ensures) _ _ _ (ap length (c .before .before .before .before .before .before .before .before .before .before .before .before .before .before .before .before .before .pre .1)) (c .before .index3 .ensures ∙ c .before .before .word-at3 .ensures) (c .before .before .before .before .before .before .before .before .before .before .before .before .before .before .before .before .before .pre .2) in omega (arith, f .0, f .1, f .2)
 
 add-to-2 : tie.Need-add-to-2
-add-to-2 c = let f = zs-fit (c .before .before .before .before .before .before .before .before .before .before .before .before .before .before .before .before .before .args .circuit .now) (c .before .before .before .before .before .before .before .before .before .before .before .before .before .before .before .before .before .pre .0) _ (c .before .before .before .before .before .before .before .before .before .layout-of .ensures) _ _ (ap length (c .before .before .before .before .before .before .before .before .before .before .before .before .before .before .before .before .before .pre .1)) (c .before .index3 .ensures ∙ c .before .before .word-at3 .ensures) in omega (arith, f .0, f .1)
+add-to-2 c = let f = zs-fit (c .before .before .before .before .before .before .before .before .before .before .before .before .before .before .before .before .before .args .circuit .now) (c .before .before .before .before .before .before .before .before .before .before .before .before .before .before .before .before .before .pre .0) _ (c .before .before .before .before .before .before .before .before .before .layout-of .ensures) _ _ _ (ap length (c .before .before .before .before .before .before .before .before .before .before .before .before .before .before .before .before .before .pre .1)) (c .before .index3 .ensures ∙ c .before .before .word-at3 .ensures) (c .before .before .before .before .before .before .before .before .before .before .before .before .before .before .before .before .before .pre .2) in omega (arith, f .0, f .1, f .2)
 
 mul-to-2 : tie.Need-mul-to-2
-mul-to-2 c = omega (arith, zs-fit (c .before .before .before .before .before .before .before .before .before .before .before .before .before .before .before .before .before .before .args .circuit .now) (c .before .before .before .before .before .before .before .before .before .before .before .before .before .before .before .before .before .before .pre .0) _ (c .before .before .before .before .before .before .before .before .before .before .layout-of .ensures) _ _ (ap length (c .before .before .before .before .before .before .before .before .before .before .before .before .before .before .before .before .before .before .pre .1)) (c .before .before .index3 .ensures ∙ c .before .before .before .word-at3 .ensures) .2)
+mul-to-2 c = let f = zs-fit (c .before .before .before .before .before .before .before .before .before .before .before .before .before .before .before .before .before .args .circuit .now) (c .before .before .before .before .before .before .before .before .before .before .before .before .before .before .before .before .before .pre .0) _ (c .before .before .before .before .before .before .before .before .before .layout-of .ensures) _ _ _ (ap length (c .before .before .before .before .before .before .before .before .before .before .before .before .before .before .before .before .before .pre .1)) (c .before .index3 .ensures ∙ c .before .before .word-at3 .ensures) (c .before .before .before .before .before .before .before .before .before .before .before .before .before .before .before .before .before .pre .2) in omega (arith, f .0, f .1, f .2)
+
+add-to-3 : tie.Need-add-to-3
+add-to-3 c = let f = zs-fit (c .before .before .before .before .before .before .before .before .before .before .before .before .before .before .before .before .before .args .circuit .now) (c .before .before .before .before .before .before .before .before .before .before .before .before .before .before .before .before .before .pre .0) _ (c .before .before .before .before .before .before .before .before .before .layout-of .ensures) _ _ _ (ap length (c .before .before .before .before .before .before .before .before .before .before .before .before .before .before .before .before .before .pre .1)) (c .before .index3 .ensures ∙ c .before .before .word-at3 .ensures) (c .before .before .before .before .before .before .before .before .before .before .before .before .before .before .before .before .before .pre .2) in omega (arith, f .0, f .1, f .2)
+
+mul-to-3 : tie.Need-mul-to-3
+mul-to-3 c = omega (arith, zs-fit (c .before .before .before .before .before .before .before .before .before .before .before .before .before .before .before .before .before .before .args .circuit .now) (c .before .before .before .before .before .before .before .before .before .before .before .before .before .before .before .before .before .before .pre .0) _ (c .before .before .before .before .before .before .before .before .before .before .layout-of .ensures) _ _ _ (ap length (c .before .before .before .before .before .before .before .before .before .before .before .before .before .before .before .before .before .before .pre .1)) (c .before .before .index3 .ensures ∙ c .before .before .before .word-at3 .ensures) (c .before .before .before .before .before .before .before .before .before .before .before .before .before .before .before .before .before .before .pre .2) .3)
 
 permutation-z-polys-requires : tie.Need-permutation-z-polys-requires
 permutation-z-polys-requires c κs =
     let s = c .before .before .before .before .before .before .before .before .before .before .before .before .before .before .before .before .before .before .before in
-    z-asks (s .args .circuit .now) (s .pre .0) _ _ _ _ _ (s .args .columns .now) (c .before .before .before .before .before .before .before .before .before .before .before .layout-of .ensures) (c .before .before .before .before .before .before .before .before .before .before .before .before .index .ensures ∙ c .before .before .before .before .before .before .before .before .before .before .before .before .before .k-of .ensures) (c .before .before .before .index3 .ensures ∙ c .before .before .before .before .word-at3 .ensures) (s .pre .1) (s .pre .2) (s .pre .3)
+    z-asks (s .args .circuit .now) (s .pre .0) _ _ _ _ _ _ (s .args .columns .now) (c .before .before .before .before .before .before .before .before .before .before .before .layout-of .ensures) (c .before .before .before .before .before .before .before .before .before .before .before .before .index .ensures ∙ c .before .before .before .before .before .before .before .before .before .before .before .before .before .k-of .ensures) (c .before .before .before .index3 .ensures ∙ c .before .before .before .before .word-at3 .ensures) (s .pre .2) (s .pre .1) (s .pre .3) (s .pre .4)
 
 same-length : tie.Need-same-length
 same-length c = search needs
@@ -68,7 +74,7 @@ same-length c = search needs
 returns : tie.Need-returns
 returns c =
     let s = c .before .before .before .before .before .before .before .before .before .before .before .before .before .before .before .before .before .before .before .before .before .before in
-    z-written (s .args .circuit .now) (s .pre .0) _ _ _ _ _ _ _ _ _ (s .args .challenges .now) _ _ _ (c .before .before .before .before .before .before .before .before .before .before .before .before .before .before .layout-of .ensures) (c .before .before .before .before .before .before .before .before .before .before .before .before .before .before .before .index .ensures ∙ c .before .before .before .before .before .before .before .before .before .before .before .before .before .before .before .before .k-of .ensures) (c .before .before .before .before .before .before .index3 .ensures ∙ c .before .before .before .before .before .before .before .word-at3 .ensures) (s .pre .1) (s .pre .2) (c .before .before .before .before .before .before .before .before .before .before .before .before .index2 .ensures ∙ c .before .before .before .before .before .before .before .before .before .before .before .before .before .num-user .ensures) (c .before .before .before .before .before .before .before .before .before .before .from-u64 .ensures ∙ ap el (c .before .before .before .before .before .before .before .before .before .before .before .word-at .ensures)) (c .before .before .before .before .before .before .before .before .from-u642 .ensures ∙ ap el (c .before .before .before .before .before .before .before .before .before .word-at2 .ensures)) (c .before .before .permutation-z-polys .ensures)
+    z-written (s .args .circuit .now) (s .pre .0) _ _ _ _ _ _ _ _ _ _ (s .args .challenges .now) _ _ _ (c .before .before .before .before .before .before .before .before .before .before .before .before .before .before .layout-of .ensures) (c .before .before .before .before .before .before .before .before .before .before .before .before .before .before .before .index .ensures ∙ c .before .before .before .before .before .before .before .before .before .before .before .before .before .before .before .before .k-of .ensures) (c .before .before .before .before .before .before .index3 .ensures ∙ c .before .before .before .before .before .before .before .word-at3 .ensures) (s .pre .2) (s .pre .1) (s .pre .3) (c .before .before .before .before .before .before .before .before .before .before .before .before .index2 .ensures ∙ c .before .before .before .before .before .before .before .before .before .before .before .before .before .num-user .ensures) (c .before .before .before .before .before .before .before .before .before .before .from-u64 .ensures ∙ ap el (c .before .before .before .before .before .before .before .before .before .before .before .word-at .ensures)) (c .before .before .before .before .before .before .before .before .from-u642 .ensures ∙ ap el (c .before .before .before .before .before .before .before .before .before .word-at2 .ensures)) (c .before .before .permutation-z-polys .ensures)
 
 pub z-columns-spec : {M : Type 1} → statement M
 z-columns-spec =
@@ -90,6 +96,8 @@ z-columns-spec =
     mul-to
     add-to-2
     mul-to-2
+    add-to-3
+    mul-to-3
     permutation-z-polys-requires
     same-length
     returns)
