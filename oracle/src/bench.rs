@@ -412,7 +412,7 @@ pub fn sheets(library: Library) {
         println!("k = 10, everything at its limit, questions 1 to 11: {ms:.3} ms");
     }
     if library.has("sizes") {
-        let words = super::limits::largest().sections.words();
+        let words = super::limits::most_nodes().sections.words();
         let mut answer = [0u64; 3];
         let mut times = Times::default();
         for _ in 0..21 {

@@ -104,7 +104,7 @@ pub fn answer(name: &str, lent: Vec<Vec<u64>>) -> Case {
     Case { call: kind.name, lent, returned, after }
 }
 
-/// Questions 1 to 13.
+/// Questions 1 to 11 with 18, then 12 and 13.
 pub fn lent_right(lent: &[&[u64]]) -> Result<Circuit, u64> {
     let c = read(lent[0])?;
     let user = c.challenges() as usize;
@@ -114,7 +114,7 @@ pub fn lent_right(lent: &[&[u64]]) -> Result<Circuit, u64> {
     Ok(c)
 }
 
-/// Questions 1 to 14.
+/// As `lent_right`, then 14.
 pub fn asked(lent: &[&[u64]], buffers: &[Vec<u64>]) -> Result<Circuit, u64> {
     let c = lent_right(lent)?;
     ask(buffers[0].len() >= c.column_words() && buffers[1].len() >= composed_words(&c).len(), 14)?;
@@ -223,8 +223,8 @@ fn stage(name: &str, lent: &[&[u64]], out: &mut Vec<u64>) -> Result<(), u64> {
     ask(out.len() >= rows, 14)?;
     let column = match name {
         "eq_xy" => Ok((0..rows).map(|b| eq_xy(lent[1], b)).collect()),
-        "lookup_m_poly" => m_column(lent[1], lent[2]),
-        _ => h_column(lent[1], lent[2], lent[3], lent[4][0]),
+        "lookup_m_poly" => m_column(&[lent[1]], lent[2]),
+        _ => h_column(&[lent[1]], lent[2], lent[3], lent[4][0]),
     };
     // 15 or 17: the words needed become 0.
     out[..rows].copy_from_slice(column.as_ref().unwrap_or(&vec![0; rows]));

@@ -37,16 +37,21 @@ pub fn build_case(log: &Log, rng: &mut Rng) -> Case {
     answer("build", build_lent(log, columns, nodes))
 }
 
-/// The sizes of a build's circuit: refused as the build is by 1 to 11, else accepted, with the words that it needs.
+/// Is this the number of a question that is put to the circuit words alone?
+pub fn of_circuit(number: u64) -> bool {
+    (1..=11).contains(&number) || number == 18
+}
+
+/// The sizes of a build's circuit: refused as the build is by 1 to 11 or 18, else accepted, with the words that it needs.
 pub fn sizes_case(build: &Case) -> Case {
     let case = answer("sizes", vec![build.lent[0].clone()]);
     let [number, columns, nodes, _] = case.returned[..] else { unreachable!() };
     let of_build = build.returned[0];
-    assert_eq!(number, if of_build < 12 { of_build } else { 0 }, "the sizes of {build:?}");
+    assert_eq!(number, if of_circuit(of_build) { of_build } else { 0 }, "the sizes of {build:?}");
     if of_build == 0 {
         assert_eq!([columns, nodes], build.returned[1..3]);
     }
-    if of_build == 0 || of_build > 13 {
+    if number == 0 && ![12, 13].contains(&of_build) {
         let short = build.lent[4].len() < columns as usize || build.lent[5].len() < 4 * nodes as usize;
         assert_eq!(short, of_build == 14, "14 follows from the sizes");
     }
@@ -96,7 +101,7 @@ pub fn refused_build(log: Log, way: usize, second: Option<usize>, rng: &mut Rng)
         WAYS[second].1(&mut b, rng);
     }
     // Faults of later questions change nothing.
-    if number < 12 && rng.once_in(3) {
+    if of_circuit(number) && rng.once_in(3) {
         b.log.witness.pop();
         b.log.challenges.iter_mut().for_each(|c| *c = P);
         b.short = [usize::MAX; 2];
@@ -118,7 +123,7 @@ pub fn refused_build(log: Log, way: usize, second: Option<usize>, rng: &mut Rng)
     Some(case)
 }
 
-/// A refusal of the row sum: 1 to 11 by the circuit words, or 16.
+/// A refusal of the row sum: 1 to 11 or 18 by the circuit words, or 16.
 fn refused_row_sum(log: Log, rng: &mut Rng) -> Option<Case> {
     let mut lent = row_sum_case(&log, rng)?.lent;
     let mut number = 16;
@@ -126,7 +131,7 @@ fn refused_row_sum(log: Log, rng: &mut Rng) -> Option<Case> {
         let way = rng.below(WAYS.len());
         let mut b = Broken { log, edits: vec![], short: [0; 2] };
         number = WAYS[way].0;
-        if number > 11 || !WAYS[way].1(&mut b, rng) {
+        if !of_circuit(number) || !WAYS[way].1(&mut b, rng) {
             return None;
         }
         lent[0] = b.words();
@@ -282,6 +287,16 @@ pub fn demo() -> Log {
     Log { sections: s, instance: vec![5, 11], witness, challenges: vec![1000003, 777], meets: true }
 }
 
+/// The group of document 02's brief, k = 2: table 5 7 7 9, inputs 7 7 5 9 and 9 9 7 5, γ = 1. m is 2 0 3 3.
+pub fn two_readings() -> Log {
+    let mut s = Sections { k: 2, ..Default::default() };
+    s.bodies[PREPROCESS] = vec![5, 7, 7, 9];
+    s.bodies[ROUNDS] = vec![2, 0];
+    (1..3).for_each(|p| s.member(&[(Tree::Polynomial(p, 0), Tree::Polynomial(0, 0))]));
+    let witness = vec![7, 7, 5, 9, 9, 9, 7, 5];
+    Log { sections: s, instance: vec![], witness, challenges: vec![10, 1], meets: true }
+}
+
 /// A refusal by this way, on the first small log that it fits.
 pub fn refused_by(way: usize, fits: impl Fn(&Case, u64) -> bool) -> Option<Case> {
     (0..400).find_map(|seed| {
@@ -296,7 +311,7 @@ pub fn refused_by(way: usize, fits: impl Fn(&Case, u64) -> bool) -> Option<Case>
 pub fn fixed() -> Vec<Case> {
     let rng = &mut Rng::new(4);
     let mut out = vec![];
-    for (number, log) in [(0, demo())].into_iter().chain(limits::all()) {
+    for (number, log) in [(0, demo()), (0, two_readings())].into_iter().chain(limits::all()) {
         if number == 0 || number == 17 {
             let case = build_case(&log, rng);
             assert_eq!(case.returned[0], number, "{log:?}");

@@ -4,11 +4,11 @@ use super::super::{
     preprocessor::permutation_polys,
     prover::{lookup_compressed_polys, lookup_m_poly},
 };
-use super::cases::build_case;
+use super::cases::{build_case, two_readings};
 use super::generate;
 use super::given::{answer, build, f, words, Expr, Log, Poly};
-use super::limits::largest;
-use super::model::{self, h_column, m_column, next, order, prev, Tree, P};
+use super::limits::{most_nodes, most_visits, most_words};
+use super::model::{self, compose, h_column, m_column, next, order, prev, Tree, P};
 use super::questions::read;
 use super::sections::*;
 use crate::util::{
@@ -36,6 +36,8 @@ pub fn sized() -> Vec<(Sections, [u64; 3])> {
     sized(base(2, [1, 0], 1), &|s| s.lookup(&[(poly(1), poly(0))]), [16, 27, 25]);
     sized(base(2, [2, 0], 2), &|s| s.lookup(&[(poly(2), poly(0)), (poly(3), poly(1))]), [16, 47, 37]);
     sized(base(2, [2, 0], 1), &|s| [1, 2].into_iter().for_each(|p| s.lookup(&[(poly(p), poly(0))])), [32, 53, 48]);
+    let one_group = |s: &mut Sections| [1, 2].into_iter().for_each(|p| s.member(&[(poly(p), poly(0))]));
+    sized(base(2, [2, 0], 1), &one_group, [24, 43, 41]);
     sized(base(2, [2, 0], 0), &|s| s.cycle(&[(0, 1), (1, 2)]), [16, 57, 54]);
     // One of the two constraints is a list of three by a user challenge.
     let lists = |s: &mut Sections| {
@@ -120,7 +122,7 @@ pub fn examples() {
     let table = [5, 7, 7, 9];
     for (input, m) in [([7, 7, 5, 9], Ok(vec![1, 0, 2, 1])), ([6, 7, 5, 9], Err(15))] {
         let rust = lookup_m_poly(&[Poly::new(f(&input)), Poly::new(f(&table))]);
-        assert_eq!((rust.map(|m| words(&m.evals)).map_err(|_| 15), m_column(&input, &table)), (m.clone(), m));
+        assert_eq!((rust.map(|m| words(&m.evals)).map_err(|_| 15), m_column(&[&input], &table)), (m.clone(), m));
     }
     let labels = permutation_polys::<F>(2, &[0, 1], &[vec![(0, 1), (1, 2)]]);
     assert_eq!(labels.iter().map(|p| words(&p.evals)).collect_vec(), [[0, 6, 2, 3], [4, 5, 1, 7]]);
@@ -138,7 +140,7 @@ pub fn examples() {
 
     // Zero denominators. In the Rust 1/0 is 0, so only what is built is held to it.
     let h = [768614336225607680, 16140901060737761281, 1537228672451215360, 0];
-    assert_eq!(h_column(&[7, 7, 5, 9], &table, &[1, 0, 2, 1], 1), Ok(h.to_vec()));
+    assert_eq!(h_column(&[&[7, 7, 5, 9]], &table, &[1, 0, 2, 1], 1), Ok(h.to_vec()));
     let cases = denominators().into_iter().map(|(number, log)| (number, build_case(&log, &mut Rng::narrow(1))));
     let cases = cases.inspect(|(number, case)| assert_eq!(case.returned[0], *number)).collect_vec();
     let built = |i: usize, at: usize, n: usize| &cases[i].1.after[0][at..at + n];
@@ -152,8 +154,29 @@ pub fn examples() {
         assert_eq!(case.after[0][needed..], case.lent[4][needed..]);
     }
 
-    let largest = (largest().sections, [188416, 4190, 3844]);
-    for (s, [columns, nodes, visits]) in sized().into_iter().chain([largest]) {
+    // Groups: the columns and the nodes of two readings of one table, by kind; how many nodes three take.
+    let readings = two_readings();
+    let built = build_case(&readings, &mut Rng::narrow(1));
+    let m = [2, 0, 3, 3];
+    let h = [1998397274186579968, 14296226653796302849, 1537228672451215360, 614891468980486144];
+    assert_eq!(built.returned, [0, 24, 43, 0]);
+    assert_eq!(built.after[0][16..24], [m, h].concat());
+    assert_eq!((m.iter().sum::<u64>(), h.into_iter().fold(0, model::add)), (8, 0));
+    let kinds = "5 5 6 8 9 5 6 8 9 5 6 8 9 5 6 8 5 6 8 5 6 8 8 9 7 8 5 5 6 8 9 5 6 8 9 8";
+    assert_eq!(built.after[1][4..4 + 4 * 36].iter().step_by(4).map(u64::to_string).collect_vec().join(" "), kinds);
+    let c = read(&readings.sections.words()).unwrap();
+    assert_eq!((c.d(), c.group_sizes(), compose(&c).degree()), (4, vec![2], 5));
+    let mut three = readings.sections;
+    three.member(&[(Tree::Polynomial(1, 0), Tree::Polynomial(0, 0))]);
+    assert_eq!(answer("sizes", vec![three.words()]).returned[2], 60 + 7);
+
+    let largest = [
+        (most_words(), [188416, 4190, 3844]),
+        (most_nodes(), [174080, 11295, 10627]),
+        (most_visits(), [174080, 11271, 11047]),
+    ];
+    let largest = largest.into_iter().map(|(log, sizes)| (log.sections, sizes));
+    for (s, [columns, nodes, visits]) in sized().into_iter().chain(largest) {
         assert_eq!(answer("sizes", vec![s.words()]).returned, [0, columns, nodes, visits]);
     }
 
@@ -167,6 +190,6 @@ pub fn examples() {
     }
     assert!(values.iter().all(|a| *a == 0 || model::mul(*a, F::from(*a).invert().unwrap().value()) == 1));
     println!(
-        "document 01's examples hold, and the sizes and zero denominators; the field is Z/p; halving for k 0 to 31, full order for k 1 to 20"
+        "document 01's examples hold, and the sizes, zero denominators and groups; the field is Z/p; halving for k 0 to 31, full order for k 1 to 20"
     );
 }

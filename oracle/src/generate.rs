@@ -1,7 +1,10 @@
 //! Accepted circuits with logs of every shape: those that meet their circuit, and
 //! others.
 use super::model::{order, rotate, Place, Tree, P};
+use super::questions::Lookup;
 use super::sections::{Rng, Sections, CONSTRAINTS, INSTANCES, NODES, PREPROCESS, ROUNDS, WIDTHS};
+
+use std::ops::Range;
 
 #[derive(Clone, Debug, Default)]
 pub struct Log {
@@ -84,6 +87,45 @@ pub fn log(rng: &mut Rng, small: bool) -> Log {
     }
 }
 
+/// What a further member of a group may be made of.
+struct Bound {
+    meets: bool,
+    scope: Scope,
+    /// The preprocess columns.
+    given: Range<usize>,
+}
+
+/// A lookup with the tables of the one before, whose inputs are: these tables; their columns at another rotation, or rows
+/// picked from them into witness columns that are still free; those of the one before; or, where the log need not meet
+/// them, any.
+fn member(rng: &mut Rng, before: &Lookup, bound: Bound, polys: &mut [Vec<u64>], free: &mut usize) -> Lookup {
+    let tables = before.iter().map(|pair| &pair.1);
+    let columns: Vec<(usize, i64)> = (tables.clone())
+        .filter_map(|t| if let Tree::Polynomial(p, r) = t { Some((*p as usize, *r)) } else { None })
+        .collect();
+    let of_columns = columns.len() == before.len();
+    let given = of_columns && columns.iter().all(|(p, r)| bound.given.contains(p) && *r == 0);
+    let inputs: Vec<Tree> = match rng.below(if bound.meets { 4 } else { 5 }) {
+        0 | 1 if given && *free + columns.len() <= polys.len() => {
+            let rows = polys[0].len();
+            let picks: Vec<usize> = (0..rows).map(|_| rng.below(rows)).collect();
+            for (i, (table, _)) in columns.iter().enumerate() {
+                polys[*free + i] = picks.iter().map(|row| polys[*table][*row]).collect();
+            }
+            *free += columns.len();
+            (*free - columns.len()..*free).map(|p| Tree::Polynomial(p as u64, 0)).collect()
+        }
+        0..=2 if of_columns && columns.iter().all(|c| c.1 == columns[0].1) => {
+            let r = rotation(rng, bound.scope.k);
+            columns.iter().map(|(p, _)| Tree::Polynomial(*p as u64, r)).collect()
+        }
+        0 | 3 => tables.clone().cloned().collect(),
+        4 => before.iter().map(|_| tree(rng, bound.scope, 1)).collect(),
+        _ => before.iter().map(|pair| pair.0.clone()).collect(),
+    };
+    inputs.into_iter().zip(tables.cloned()).collect()
+}
+
 fn draw(rng: &mut Rng, small: bool) -> Log {
     let meets = rng.once_in(2);
     let k = match rng.below(24) {
@@ -134,9 +176,18 @@ fn draw(rng: &mut Rng, small: bool) -> Log {
     }
 
     // Lookups; `free` witness columns from the left are not yet bound to one.
-    let mut lookups: Vec<Vec<(Tree, Tree)>> = vec![];
+    let mut groups: Vec<Vec<Lookup>> = vec![];
     let mut free = witness_at;
     for _ in 0..most(rng, 2, 8) {
+        // Now and then a further member of the last group: its tables, and other inputs.
+        if rng.once_in(3) {
+            if let Some(group) = groups.last_mut() {
+                let preprocess_at = s.bodies[INSTANCES].len();
+                let bound = Bound { meets, scope, given: preprocess_at..witness_at };
+                group.push(member(rng, &group[group.len() - 1], bound, &mut polys, &mut free));
+                continue;
+            }
+        }
         let width = if rng.once_in(4) { rng.range(1, 8) } else { rng.range(1, 3) };
         let picks: Vec<usize> = (0..rows).map(|_| rng.below(rows)).collect();
         let shift = rotation(rng, k);
@@ -174,7 +225,7 @@ fn draw(rng: &mut Rng, small: bool) -> Log {
         if mixed {
             lookup.retain(|p| p.0 != p.1);
         }
-        lookups.push(lookup);
+        groups.push(vec![lookup]);
     }
 
     // Constraints; the last witness column may be made to equal an expression.
@@ -221,7 +272,10 @@ fn draw(rng: &mut Rng, small: bool) -> Log {
     }
 
     constraints.iter().for_each(|tree| s.constraint(tree));
-    lookups.iter().for_each(|lookup| s.lookup(lookup));
+    for group in &groups {
+        s.lookup(&group[0]);
+        group[1..].iter().for_each(|lookup| s.member(lookup));
+    }
     cycles.iter().for_each(|cycle| s.cycle(cycle));
     if s.bodies[CONSTRAINTS].is_empty() && s.bodies[WIDTHS].is_empty() && cycles.is_empty() {
         s.constraint(&Tree::Constant(0));

@@ -9,8 +9,8 @@ use super::super::{
     },
 };
 use super::calls::{self, asked, call, plain_log, polys, sized_builds, Case};
-use super::model::{columns, Columns, Tree};
-use super::questions::{read, Circuit};
+use super::model::{add, columns, composed_words, Columns, Tree};
+use super::questions::{parted, read, Circuit};
 use crate::{
     backend::PlonkishCircuitInfo,
     poly::multilinear::MultilinearPolynomial,
@@ -88,11 +88,10 @@ fn tree(e: &Expr) -> Tree {
     }
 }
 
-/// Circuit words that pass 1 to 11, as the Rust holds a circuit.
+/// Circuit words that pass 1 to 11, as the Rust holds a circuit. It has no groups: every lookup stands by itself.
 pub fn info(w: &[u64]) -> Info {
     let k = w[0] as usize;
-    let end = |s: usize| if s == 8 { w.len() } else { w[4 + 2 * s] as usize };
-    let body = |s: usize| &w[w[2 + 2 * s] as usize..end(s)];
+    let body = |s: usize| &w[w[2 + 2 * s] as usize..w[4 + 2 * s] as usize];
     let sizes = |s: usize| body(s).iter().map(|v| *v as usize).collect_vec();
     let pairs = |s: usize| sizes(s).chunks(2).map(|p| (p[0], p[1])).collect_vec();
     let (rounds, roots, cells) = (pairs(2), pairs(6), pairs(8));
@@ -143,11 +142,12 @@ impl Log {
 /// The stages in `prove`'s order, by the Rust's functions; `lap` hears as each
 /// ends. None: the Rust refuses a lookup input.
 pub fn build(log: &Log, lap: &mut impl FnMut(&'static str)) -> Option<(Columns, Expr)> {
-    stages(log, lap, false)
+    stages(log, lap, false, None)
 }
 
-/// As `build`. `listed`: each compressed table is looked up in itself, so that nothing is refused.
-fn stages(log: &Log, lap: &mut impl FnMut(&'static str), listed: bool) -> Option<(Columns, Expr)> {
+/// As `build`. `listed`: each compressed table is looked up in itself, so that nothing is refused. `cut`: into how many
+/// parts z is cut, where the Rust's own number is another.
+fn stages(log: &Log, lap: &mut impl FnMut(&'static str), listed: bool, cut: Option<usize>) -> Option<(Columns, Expr)> {
     let info = &log.info;
     let instance = instance_polys(info.k, &log.instances);
     lap("instance");
@@ -169,6 +169,7 @@ fn stages(log: &Log, lap: &mut impl FnMut(&'static str), listed: bool) -> Option
     let permutation = info.permutation_polys().into_iter().zip(permutation).collect_vec();
     lap("permutation");
     let (parts, composed) = compose(info);
+    let parts = cut.unwrap_or(parts);
     lap("compose");
     let z = permutation_z_polys(parts, &permutation, &polys, &log.beta, &log.gamma);
     lap("z");
@@ -182,6 +183,28 @@ fn stages(log: &Log, lap: &mut impl FnMut(&'static str), listed: bool) -> Option
         z: all_words(&z),
     };
     Some((built, composed))
+}
+
+/// The columns and the composed expression of a circuit's log. Where a group has two lookups or more, which the Rust has
+/// not, m and h are the Rust's of its members, added up; z is the Rust's for N parts; the expression is the model's.
+fn of_circuit(c: &Circuit, log: &Log, listed: bool) -> Option<(Columns, Expr)> {
+    if c.groups_of_one() {
+        return stages(log, &mut |_| {}, listed, None);
+    }
+    let mut built = stages(log, &mut |_| {}, listed, Some(c.parts() as usize))?.0;
+    let sum = |of: &[Vec<u64>]| (0..1 << c.k).map(|b| of.iter().map(|column| column[b]).fold(0, add)).collect();
+    let added = |columns: &[Vec<u64>]| parted(columns, &c.group_sizes()).into_iter().map(sum).collect();
+    (built.m, built.h) = (added(&built.m), added(&built.h));
+    Some((built, composed_of(c, &log.info)))
+}
+
+/// The Rust's composed expression; the model's where a group has two lookups or more.
+fn composed_of(c: &Circuit, info: &Info) -> Expr {
+    if c.groups_of_one() {
+        return compose(info).1;
+    }
+    let nodes = composed_words(c);
+    expression(&nodes, nodes.len() as u64 / 4 - 1)
 }
 
 /// The expression's value on every row, by the Rust's `evaluate`, over a polynomial
@@ -279,7 +302,9 @@ fn composed_alike(c: &Circuit, rust: &Expr, nodes: &[u64], polys: &[&[u64]], cha
 /// The answer to a call: the model's number, the Rust's columns, the model's
 /// nodes, with each that both know compared. Panics where they part. Where a
 /// denominator is zero (17) the model's answer stands alone: the Rust's columns
-/// have 0 in place of the inverse, and are not looked at.
+/// have 0 in place of the inverse, and are not looked at. Where a group has two
+/// lookups or more it stands alone but for `of_circuit`, and for values and visits,
+/// which are those of the Rust's `evaluate` on the model's expression.
 pub fn answer(name: &str, lent: Vec<Vec<u64>>) -> Case {
     let case = calls::answer(name, lent);
     let slices = case.lent[..call(name).buffers].iter().map(|s| &s[..]).collect_vec();
@@ -292,8 +317,8 @@ pub fn answer(name: &str, lent: Vec<Vec<u64>>) -> Case {
             let c = asked(&slices, &case.lent[4..]).unwrap();
             let log = Log::of(slices[0], slices[1], slices[2], slices[3]);
             assert!(log.info.is_well_formed(), "is_well_formed");
-            assert_eq!(max_degree(&log.info, None) as u64, c.d());
-            let rust = build(&log, &mut |_| {});
+            assert!(!c.groups_of_one() || max_degree(&log.info, None) as u64 == c.d(), "D");
+            let rust = of_circuit(&c, &log, false);
             let model = columns(&c, slices[1], slices[2], slices[3]).ok();
             assert_eq!(rust.as_ref().map(|r| &r.0), model.as_ref(), "columns");
             if let Some((built, composed)) = rust {
@@ -308,14 +333,15 @@ pub fn answer(name: &str, lent: Vec<Vec<u64>>) -> Case {
         "row_sum" => {
             let c = read(slices[0]).unwrap();
             let polys = polys(&c, slices[1], slices[2]);
-            let composed = compose(&info(slices[0])).1;
+            let composed = composed_of(&c, &info(slices[0]));
             let sum = composed_alike(&c, &composed, slices[3], &polys, slices[4], slices[5]);
             assert_eq!(sum.value(), case.returned[1], "row sum");
         }
         "sizes" => {
-            let [instance, witness, challenges] = plain_log(&read(slices[0]).unwrap());
+            let c = read(slices[0]).unwrap();
+            let [instance, witness, challenges] = plain_log(&c);
             let log = Log::of(slices[0], &instance, &witness, &challenges);
-            let (built, composed) = stages(&log, &mut |_| {}, true).unwrap();
+            let (built, composed) = of_circuit(&c, &log, true).unwrap();
             let mut nodes = vec![];
             tree(&composed).write(&mut nodes);
             let rust = [built.words().len() as u64, nodes.len() as u64, visits(&composed)];

@@ -86,8 +86,8 @@ impl Laps {
         SECTIONS.get_or_init(|| (Default::default(), Instant::now()));
         let action = Action { handler: on_write, mask: [0; 16], flags: 4, restorer: 0 };
         assert_eq!(unsafe { sigaction(11, &action, ptr::null_mut()) }, 0);
-        let l = c.lookups.len();
-        let counts = [c.instances.len(), c.copied().len(), 2 * l, l, l, c.parts() as usize].map(|n| n * rows);
+        let (l, g) = (c.lookups.len(), c.group_sizes().len());
+        let counts = [c.instances.len(), c.copied().len(), 2 * l, g, g, c.parts() as usize].map(|n| n * rows);
         let [a, b, d, e, f, g] = counts;
         Some(Laps { columns: pages(c.column_words()), nodes: pages(nodes), sizes: [a, b, d, e, f, g, nodes] })
     }

@@ -3,8 +3,10 @@
 //! can't be written. `Stub` puts the model in the library's place, whole or with
 //! one fault, to try the comparison itself.
 use super::calls::{self, call, lent_right, Case, CALLS};
-use super::model::{compose, is_denominator, log_zeros, lookup_zeros, Factor, Tree, Zero};
-use super::questions::read;
+use super::model::{
+    compose, group_columns, group_zeros, h_column, is_denominator, log_zeros, m_column, Factor, Tree, Zero,
+};
+use super::questions::{read, Circuit};
 use std::{
     ffi::c_void,
     ptr,
@@ -225,7 +227,7 @@ pub fn catch_faults() {
 
 // ---- the model in the library's place
 
-pub const FAULTS: [&str; 26] = [
+pub const FAULTS: [&str; 35] = [
     "none",
     "one word of the first buffer",
     "a word past those written",
@@ -252,6 +254,15 @@ pub const FAULTS: [&str; 26] = [
     "17: row 0 of a lookup is not asked",
     "lookup_h_poly: 17 before 14",
     "lookup_h_poly: 17: the input is not asked",
+    "groups: the second member's inputs are not counted",
+    "groups: h of the first member only",
+    "groups: m and h for each lookup",
+    "18 is not asked",
+    "18 after 10",
+    "18: a number that comes back is allowed",
+    "18: tables of unlike width are allowed",
+    "18: equal tables at other nodes are refused",
+    "10: a group's degree is its first lookup's",
 ];
 
 /// The factors of a build or of h alone that are zero; none where a build is refused by 1 to 13.
@@ -259,8 +270,80 @@ fn zeros(name: &str, lent: &[Vec<u64>]) -> Vec<Zero> {
     let slices: Vec<&[u64]> = lent.iter().map(|s| &s[..]).collect();
     match name {
         "build" => lent_right(&slices).map_or(vec![], |c| log_zeros(&c, slices[1], slices[2], slices[3])),
-        "lookup_h_poly" => lookup_zeros(slices[1], slices[2], slices[4][0]),
+        "lookup_h_poly" => group_zeros(&[slices[1]], slices[2], slices[4][0]),
         _ => vec![],
+    }
+}
+
+/// The circuit words with a group for each lookup.
+fn ungrouped(words: &[u64]) -> Vec<u64> {
+    let mut words = words.to_vec();
+    let (start, count) = (words[20] as usize, words[21]);
+    (0..count).for_each(|i| words[start + i as usize] = i);
+    words
+}
+
+/// The words of a group's column of this kind (0 is m, 1 is h) if it were of the first member only.
+fn first_only(c: &Circuit, columns: &mut [u64], kind: usize, gamma: u64) {
+    let rows = 1 << c.k;
+    let compressed_at = c.instances.len() + c.copied().len();
+    let m_at = compressed_at + 2 * c.lookups.len();
+    let built: Vec<Vec<u64>> = columns.chunks(rows).map(<[u64]>::to_vec).collect();
+    let groups = c.group_sizes().len();
+    for (g, (inputs, table)) in group_columns(c, &built[compressed_at..m_at]).into_iter().enumerate() {
+        let to = match kind {
+            0 => m_column(&inputs[..1], table),
+            _ => h_column(&inputs[..1], table, &built[m_at + g], gamma),
+        };
+        columns[(m_at + kind * groups + g) * rows..][..rows].copy_from_slice(&to.unwrap());
+    }
+}
+
+/// The number of a circuit if 18 were asked otherwise.
+fn otherwise(fault: u64, words: &[u64], number: u64) -> u64 {
+    let later = || read(&ungrouped(words)).err().unwrap_or(0);
+    let numbers = |words: &[u64]| words[words[20] as usize..][..words[21] as usize].to_vec();
+    match (fault, number) {
+        (29, 18) => later(),
+        (30, 18) if later() == 10 => 10,
+        (31, 18) => {
+            // The numbers that come back become new ones.
+            let (mut seen, mut words) = (vec![], words.to_vec());
+            let all = numbers(&words);
+            let start = words[20] as usize;
+            for (i, group) in all.iter().enumerate() {
+                if i == 0 || all[i - 1] != *group {
+                    seen.push(*group);
+                }
+                words[start + i] = seen.len() as u64 - 1;
+            }
+            let rule = |two: &[u64]| two[1] <= two[0] || two[1] == two[0] + 1;
+            if all[0] == 0 && all.windows(2).all(rule) {
+                read(&words).err().unwrap_or(0)
+            } else {
+                18
+            }
+        }
+        (32, 18) => {
+            let c = read(&ungrouped(words));
+            let tables = |i: usize| c.as_ref().unwrap().lookups[i].iter().map(|p| p.1.clone()).collect::<Vec<_>>();
+            let all = numbers(words);
+            let rule = |i: &usize| all[*i] == all[i - 1] || all[i - 1].checked_add(1) == Some(all[*i]);
+            let alike = |i: &usize| {
+                let (a, b) = (tables(i - 1), tables(*i));
+                let n = a.len().min(b.len());
+                all[*i] != all[i - 1] || a[..n] == b[..n]
+            };
+            let passed = c.is_ok() && all[0] == 0 && (1..all.len()).all(|i| rule(&i) && alike(&i));
+            if passed {
+                0
+            } else {
+                18
+            }
+        }
+        (33, 0) if !read(words).unwrap().groups_of_one() => 18,
+        (34, 10) if read(&ungrouped(words)).is_ok() => 0,
+        _ => number,
     }
 }
 
@@ -284,7 +367,7 @@ fn numbered(fault: u64, name: &str, lent: &[Vec<u64>], number: u64) -> u64 {
         21 => is_denominator(zero) && zero.0 != Factor::Permutation,
         22 => is_denominator(zero) && zero.0 != Factor::Table,
         23 => is_denominator(zero) && (zero.1 > 0 || zero.0 == Factor::Permutation),
-        25 => is_denominator(zero) && !(name == "lookup_h_poly" && zero.0 == Factor::Input),
+        25 => is_denominator(zero) && !(name == "lookup_h_poly" && zero.0 == Factor::Input(0)),
         _ => is_denominator(zero),
     };
     let early = (fault == 18 && number == 15) || (fault == 24 && number == 14 && name == "lookup_h_poly");
@@ -335,7 +418,18 @@ fn stub(name: &str, a: &[usize], library: Library) -> u64 {
         14 if number == 17 => case.after = case.lent[kind.buffers..].to_vec(),
         15 if number == 17 && name == "build" => case.after[1].fill(0),
         16 if number == 17 && name == "build" => case.returned[1..].copy_from_slice(&[4, 34, 1]),
-        17.. => case.returned[0] = numbered(fault, name, &case.lent, number),
+        17..=25 => case.returned[0] = numbered(fault, name, &case.lent, number),
+        26 | 27 if number == 0 && name == "build" => {
+            let (c, gamma) = (read(&case.lent[0]).unwrap(), *case.lent[3].last().unwrap());
+            first_only(&c, &mut case.after[0], fault as usize - 26, gamma);
+        }
+        28 if number == 0 && name == "sizes" => {
+            let c = read(&case.lent[0]).unwrap();
+            case.returned[1] += 2 * (c.lookups.len() - c.group_sizes().len() << c.k) as u64;
+        }
+        29..=34 if ["build", "row_sum", "sizes"].contains(&name) => {
+            case.returned[0] = otherwise(fault, &case.lent[0], number);
+        }
         _ if name != "sizes" => {}
         9 if number == 0 => case.returned[3] = case.returned[2],
         10 if number == 0 => case.returned[3] = visits_of_bases(&compose(&read(&case.lent[0]).unwrap())),

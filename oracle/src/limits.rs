@@ -4,6 +4,8 @@ use super::model::{add, mul, neg, Tree, P};
 use super::refuse::of_degree;
 use super::sections::*;
 
+const MAX: u64 = u64::MAX;
+
 /// A log of all-zero columns over these sections, with a constraint if it has none.
 fn log_of(mut s: Sections) -> Log {
     if s.bodies[CONSTRAINTS].is_empty() && s.bodies[WIDTHS].is_empty() && s.bodies[LENGTHS].is_empty() {
@@ -89,22 +91,81 @@ pub fn whole() -> Log {
     log_of(s)
 }
 
-/// The circuit whose columns take the most words and whose composed expression has the most nodes and visits: all nodes
-/// in 8 lookups of width 8, of degree 1 at most, so that D = 2; every polynomial copied.
-pub fn largest() -> Log {
-    let mut s = base(10);
-    s.bodies[INSTANCES] = vec![1023; 8];
-    s.bodies[PREPROCESS] = vec![0; 32 * 1024];
-    s.bodies[ROUNDS] = vec![32, 16];
-    let eight = |leaf: Tree| (1..8).fold(leaf, |t, _| Tree::Negated(t.into()));
-    for l in 0..8 {
-        let pair = |i: u64| (eight(Tree::Polynomial(8 * l + i, 1)), eight(Tree::Constant(0)));
-        s.lookup(&(0..8).map(pair).collect::<Vec<_>>());
-    }
-    (0..1024).for_each(|i| {
-        s.cycle(&(0..4).map(|j| ((4 * i + j) % 72, 1 + i % 1023)).collect::<Vec<_>>());
+/// k = 10, every polynomial copied, these lookups.
+fn all_copied(lookups: impl Fn(&mut Sections)) -> Log {
+    with(10, |s| {
+        s.bodies[INSTANCES] = vec![1023; 8];
+        s.bodies[PREPROCESS] = vec![0; 32 * 1024];
+        s.bodies[ROUNDS] = vec![32, 16];
+        lookups(s);
+        (0..1024).for_each(|i| {
+            s.cycle(&(0..4).map(|j| ((4 * i + j) % 72, 1 + i % 1023)).collect::<Vec<_>>());
+        });
+    })
+}
+
+/// A leaf, and n − 1 nodes above it.
+fn tower(leaf: Tree, n: usize) -> Tree {
+    (1..n).fold(leaf, |t, _| Tree::Negated(t.into()))
+}
+
+/// The circuit whose columns take the most words; of those with all groups of one, its composed expression has the most
+/// nodes and visits: all nodes in 8 lookups of width 8, of degree 1 at most, so that D = 2.
+pub fn most_words() -> Log {
+    all_copied(|s| {
+        for l in 0..8 {
+            let pair = |i: u64| (tower(Tree::Polynomial(8 * l + i, 1), 8), tower(Tree::Constant(0), 8));
+            s.lookup(&(0..8).map(pair).collect::<Vec<_>>());
+        }
+    })
+}
+
+/// 8 lookups of this width in one group, whose tables are single nodes; all other nodes in the inputs, of which one at
+/// most has a degree, 1, so that D = 2.
+fn one_group(width: usize) -> Log {
+    all_copied(|s| {
+        let inputs = 8 * width;
+        let nodes = 1024 - inputs;
+        for l in 0..8 {
+            let pair = |i: usize| {
+                let at = width * l + i;
+                let leaf = if at == 0 { Tree::Polynomial(71, 1) } else { Tree::Constant(0) };
+                (tower(leaf, nodes / inputs + (at < nodes % inputs) as usize), Tree::Constant(0))
+            };
+            let lookup: Vec<_> = (0..width).map(pair).collect();
+            s.member(&lookup);
+        }
+    })
+}
+
+/// The circuit whose composed expression has the most nodes.
+pub fn most_nodes() -> Log {
+    one_group(8)
+}
+
+/// The circuit whose composed expression has the most visits.
+pub fn most_visits() -> Log {
+    one_group(2)
+}
+
+/// k = 10, 8 lookups of width 1 in one group, each a rotation of the table: every m adds up to 8 × 2^10.
+fn eight_in_one() -> Log {
+    let mut log = with(10, |s| {
+        s.bodies[PREPROCESS] = (0..1024).map(|i| i * i % 1009).collect();
+        (0..8).for_each(|r| s.member(&[(Tree::Polynomial(0, r - 4), Tree::Polynomial(0, 0))]));
     });
-    log_of(s)
+    log.challenges = vec![P / 5, P / 7];
+    log
+}
+
+/// Two lookups in one group whose inputs have these degrees, the table none.
+fn two_degrees(first: u64, second: u64) -> Log {
+    with(1, |s| [first, second].into_iter().for_each(|d| s.member(&[(of_degree(d), Tree::Constant(0))])))
+}
+
+/// Lookups in groups of these numbers.
+fn numbered(groups: &[u64]) -> Log {
+    with(1, |s| groups.iter().for_each(|group| s.lookup_in(*group, &[(Tree::Identity, Tree::Identity)])))
 }
 
 /// The limits, each with the number that the log must get.
@@ -126,6 +187,7 @@ pub fn all() -> Vec<(u64, Log)> {
     pair(3, &|n| with(1, |s| (0..n).for_each(|_| s.constraint(&Tree::Constant(0)))), 32);
     pair(3, &|n| with(1, |s| (0..n).for_each(|_| s.lookup(&[(Tree::Identity, Tree::Identity)]))), 8);
     pair(3, &|n| with(1, |s| s.lookup(&vec![(Tree::Identity, Tree::Identity); n as usize])), 8);
+    pair(3, &|n| with(1, |s| (0..n).for_each(|_| s.member(&[(Tree::Identity, Tree::Identity)]))), 8);
     pair(3, &|n| cycles(n, 1), 1024);
     pair(3, &|n| cycles(n, 4), 1024);
     pair(3, &|n| with(1, |s| s.degree = n), 33);
@@ -136,6 +198,13 @@ pub fn all() -> Vec<(u64, Log)> {
     pair(10, &|n| with(1, |s| s.constraint(&of_degree(n))), 1024);
     pair(10, &|n| with(1, |s| s.lookup(&[(of_degree(n), Tree::Constant(0))])), 1023);
     pair(10, &|n| with(1, |s| s.lookup(&[(of_degree(n), of_degree(512))])), 511);
+    pair(10, &|n| two_degrees(512, n), 511);
+    // Two groups, each of that degree: degrees of different groups are not added up.
+    out.push((0, with(1, |s| (0..2).for_each(|_| s.lookup(&[(of_degree(1023), Tree::Constant(0))])))));
+    let mut pair = |past: u64, log: &dyn Fn(u64) -> Log, limit: u64| {
+        out.push((0, log(limit)));
+        out.push((past, log(limit + 1)));
+    };
     pair(
         10,
         &|n| {
@@ -154,6 +223,13 @@ pub fn all() -> Vec<(u64, Log)> {
     out.push((17, zero_factor(3, false)));
     (1..3).for_each(|row| out.push((0, zero_factor(row, true))));
     out.push((17, zero_factor(3, true)));
+    // Group numbers: each next the same or one more.
+    for groups in [&[0][..], &[0, 0], &[0, 1], &[0, 0, 1], &[0, 1, 1], &[0, 0, 1, 2, 2, 3, 4, 4]] {
+        out.push((0, numbered(groups)));
+    }
+    for groups in [&[1][..], &[MAX], &[0, 2], &[0, MAX], &[0, 1, 0], &[0, 0, 2], &[0, 1 << 32], &[1, 1], &[1, 2]] {
+        out.push((18, numbered(groups)));
+    }
     out.push((3, with(1, |s| s.bodies[ROUNDS] = vec![])));
     out.push((11, with(3, |s| s.cycle(&[(0, 0)]))));
     out.push((0, with(3, |s| s.cycle(&[(0, 1)]))));
@@ -163,6 +239,9 @@ pub fn all() -> Vec<(u64, Log)> {
     log.sections.bodies[CELLS].splice(0..0, [0, 7]);
     out.push((3, log));
     out.push((0, whole()));
-    out.push((0, largest()));
+    out.push((0, most_words()));
+    out.push((0, most_nodes()));
+    out.push((0, most_visits()));
+    out.push((0, eight_in_one()));
     out
 }

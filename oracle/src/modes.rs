@@ -7,6 +7,7 @@ use super::examples::examples;
 use super::expressions;
 use super::library::{catch_faults, Library, FAULTS, RUNNING};
 use super::prove::through_prove;
+use super::questions::read;
 use super::stored;
 use std::{collections::BTreeMap, fs, process::exit, sync::atomic::Ordering};
 
@@ -52,20 +53,41 @@ pub fn main() {
     }
 }
 
-/// How many cases have a zero denominator: their answers are the model's alone.
+/// How many cases are held to the model and not to the Rust: those with a zero denominator, and those of accepted
+/// circuits with a group of two lookups or more. And how many of accepted circuits with all groups of one.
 #[derive(Default)]
-struct LeftOut(BTreeMap<&'static str, u64>);
+struct LeftOut {
+    zero: BTreeMap<&'static str, u64>,
+    larger: BTreeMap<&'static str, u64>,
+    of_one: BTreeMap<&'static str, u64>,
+}
 
 impl LeftOut {
     fn note(&mut self, case: &Case) {
-        *self.0.entry(case.call).or_insert(0) += (case.returned[0] == 17) as u64;
+        let number = case.returned[0];
+        if number == 17 {
+            *self.zero.entry(case.call).or_insert(0) += 1;
+        } else if number == 0 || number == 15 {
+            let of = match case.call {
+                "build" | "row_sum" | "sizes" if !read(&case.lent[0]).unwrap().groups_of_one() => &mut self.larger,
+                _ => &mut self.of_one,
+            };
+            *of.entry(case.call).or_insert(0) += 1;
+        }
     }
     fn tell(&self) {
-        let of = |call: &str| self.0.get(call).unwrap_or(&0);
+        let of = |map: &BTreeMap<&str, u64>, call: &str| map.get(call).copied().unwrap_or(0);
+        let three =
+            |map| format!("{} builds, {} row sums, {} sizes", of(map, "build"), of(map, "row_sum"), of(map, "sizes"));
         println!(
             "held to the model and not to the Rust, a denominator being zero: {} builds, {} of h alone",
-            of("build"),
-            of("lookup_h_poly")
+            of(&self.zero, "build"),
+            of(&self.zero, "lookup_h_poly")
+        );
+        println!(
+            "held to the model and not to the Rust, a group having two lookups or more: {}; with all groups of one: {}",
+            three(&self.larger),
+            three(&self.of_one)
         );
     }
 }

@@ -190,16 +190,18 @@ fn fails(log: &Log, composed: &Expr) -> bool {
 /// On logs that meet their circuit: prove's columns are the stages', verify is content.
 pub fn through_prove(seed: u64, count: u64) {
     let rng = &mut Rng::new(seed);
-    let (mut alike, mut passed_over, mut zero) = (0, 0, 0);
+    let (mut alike, mut passed_over, mut zero, mut larger) = (0, 0, 0, 0);
     for _ in 0..count {
         let log = generate::log(rng, false);
         let circuit = log.sections.words();
         let c = read(&circuit).unwrap();
         let refused = columns(&c, &log.instance, &log.witness, &log.challenges).err();
         zero += (refused == Some(17)) as u64;
+        larger += (refused != Some(17) && !c.groups_of_one()) as u64;
         let given = Log::of(&circuit, &log.instance, &log.witness, &log.challenges);
         if !log.meets
             || refused.is_some()
+            || !c.groups_of_one()
             || !c.cuts_are_alike()
             || fails(&given, &build(&given, &mut |_| {}).unwrap().1)
         {
@@ -223,6 +225,6 @@ pub fn through_prove(seed: u64, count: u64) {
     }
     println!(
         "{alike} logs through the Rust's prove and verify: its columns are the stages'; {passed_over} passed over, \
-         {zero} of these for a zero denominator"
+         {zero} of these for a zero denominator and {larger} for a group of two lookups or more"
     );
 }

@@ -1,7 +1,10 @@
-//! Document 01's circuit words and its questions, read plainly. Every sum is made
-//! at a width where it can't wrap.
+//! Document 01's circuit words and its questions, with those that document 02 adds, read plainly. Every
+//! sum is made at a width where it can't wrap.
 use super::model::{Tree, P};
 use std::collections::HashSet;
+
+/// Pairs of input and table.
+pub type Lookup = Vec<(Tree, Tree)>;
 
 /// What words that pass 1 to 11 say.
 #[derive(Clone, Debug)]
@@ -12,8 +15,10 @@ pub struct Circuit {
     pub preprocess: Vec<Vec<u64>>,
     pub rounds: Vec<(u64, u64)>,
     pub constraints: Vec<Tree>,
-    pub lookups: Vec<Vec<(Tree, Tree)>>,
+    pub lookups: Vec<Lookup>,
     pub cycles: Vec<Vec<(u64, u64)>>,
+    /// The group number of each lookup.
+    pub groups: Vec<u64>,
 }
 
 impl Circuit {
@@ -34,11 +39,24 @@ impl Circuit {
         polys.dedup();
         polys
     }
+    /// How many lookups each group has.
+    pub fn group_sizes(&self) -> Vec<usize> {
+        let groups = self.groups.last().map_or(0, |last| last + 1);
+        (0..groups).map(|group| self.groups.iter().filter(|of| **of == group).count()).collect()
+    }
+    /// The lookups of each group.
+    pub fn grouped(&self) -> Vec<&[Lookup]> {
+        parted(&self.lookups, &self.group_sizes())
+    }
+    /// The Rust has a circuit if every group has one lookup.
+    pub fn groups_of_one(&self) -> bool {
+        self.group_sizes().iter().all(|size| *size == 1)
+    }
     /// The degree D.
     pub fn d(&self) -> u64 {
         let users = self.constraints.iter().map(Tree::degree);
-        let lookups = self.lookups.iter().map(|l| lookup_degree(l));
-        users.chain(lookups).chain(self.max_degree).chain([2]).max().unwrap()
+        let groups = self.grouped().into_iter().map(group_degree);
+        users.chain(groups).chain(self.max_degree).chain([2]).max().unwrap()
     }
     /// The z columns, N.
     pub fn parts(&self) -> u64 {
@@ -53,8 +71,8 @@ impl Circuit {
         }
     }
     pub fn column_words(&self) -> usize {
-        let columns = self.instances.len() + self.copied().len() + 4 * self.lookups.len() + self.parts() as usize;
-        columns << self.k
+        let of_lookups = 2 * self.lookups.len() + 2 * self.group_sizes().len();
+        (self.instances.len() + self.copied().len() + of_lookups + self.parts() as usize) << self.k
     }
     pub fn instance_words(&self) -> usize {
         self.instances.iter().sum::<u64>() as usize
@@ -64,10 +82,35 @@ impl Circuit {
     }
 }
 
-fn lookup_degree(lookup: &[(Tree, Tree)]) -> u64 {
+/// Parts of these sizes, one after another.
+pub fn parted<'a, T>(mut all: &'a [T], sizes: &[usize]) -> Vec<&'a [T]> {
+    let part = |size: &usize| {
+        let (part, rest) = all.split_at(*size);
+        all = rest;
+        part
+    };
+    sizes.iter().map(part).collect()
+}
+
+/// Of a group's constraint: 1, its inputs' and its table's.
+fn group_degree(group: &[Lookup]) -> u64 {
     // A list of β's powers has the largest degree in it: β has degree 0.
-    let side = |s: fn(&(Tree, Tree)) -> &Tree| lookup.iter().map(|p| s(p).degree()).max().unwrap_or(0);
-    side(|p| &p.0).saturating_add(side(|p| &p.1)).saturating_add(1)
+    let inputs = group.iter().map(|lookup| lookup.iter().map(|p| p.0.degree()).max().unwrap_or(0));
+    let table = group[0].iter().map(|p| p.1.degree()).max().unwrap_or(0);
+    inputs.chain([table]).fold(1, u64::saturating_add)
+}
+
+/// The first group number is 0, each next the same or one more.
+fn numbers_good(groups: &[u64]) -> bool {
+    groups.first().map_or(true, |first| *first == 0)
+        && groups.windows(2).all(|two| two[1] == two[0] || two[0].checked_add(1) == Some(two[1]))
+}
+
+/// Each member's table is its group's first member's: of the same width, and the same trees.
+fn tables_alike(lookups: &[Lookup], groups: &[u64]) -> bool {
+    let table = |i: usize| lookups[i].iter().map(|p| &p.1).collect::<Vec<_>>();
+    let first_of = |group: u64| groups.iter().position(|of| *of == group).unwrap();
+    (0..lookups.len()).all(|i| table(i) == table(first_of(groups[i])))
 }
 
 fn ask(yes: bool, number: u64) -> Result<(), u64> {
@@ -79,22 +122,22 @@ fn ask(yes: bool, number: u64) -> Result<(), u64> {
 }
 
 /// Words per entry, by section; a preprocess column has 2^k.
-const SIZES: [u128; 9] = [1, 0, 2, 4, 1, 1, 2, 1, 2];
-/// The most entries a section may have by question 3; pairs have no limit there.
-const LIMITS: [u64; 9] = [8, 32, 4, 1024, 32, 8, u64::MAX, 1024, 4096];
+const SIZES: [u128; 10] = [1, 0, 2, 4, 1, 1, 2, 1, 2, 1];
+/// The most entries a section may have by question 3; pairs and group numbers have no limit there.
+const LIMITS: [u64; 10] = [8, 32, 4, 1024, 32, 8, u64::MAX, 1024, 4096, u64::MAX];
 
-/// Questions 1 to 11.
+/// Questions 1 to 11, with 18 after 9.
 pub fn read(w: &[u64]) -> Result<Circuit, u64> {
-    ask(w.len() >= 20, 1)?;
+    ask(w.len() >= 22, 1)?;
     ask((1..=10).contains(&w[0]), 2)?;
     let (k, rows) = (w[0] as usize, 1u64 << w[0]);
     let (start, count) = (|s: usize| w[2 + 2 * s], |s: usize| w[3 + 2 * s]);
     // 3 and 4, contents
-    ask(w[1] <= 33 && (0..9).all(|s| count(s) <= LIMITS[s]) && count(2) >= 1, 3)?;
+    ask(w[1] <= 33 && (0..10).all(|s| count(s) <= LIMITS[s]) && count(2) >= 1, 3)?;
     let size = |s: usize| if s == 1 { rows as u128 } else { SIZES[s] };
-    let mut at = 20u128;
-    let mut agree = true;
-    for s in 0..9 {
+    let mut at = 22u128;
+    let mut agree = count(9) == count(5);
+    for s in 0..10 {
         agree &= start(s) as u128 == at;
         at += count(s) as u128 * size(s);
     }
@@ -135,33 +178,27 @@ pub fn read(w: &[u64]) -> Result<Circuit, u64> {
     ask(nodes.iter().all(in_range), 8)?;
     // 9
     ask(widths.iter().all(|w| *w > 0) && count(4) + count(5) + count(7) > 0, 9)?;
+    // 18
     let tree = |root: u64| Tree::read(&nodes, root);
-    let mut left = &lookup_roots[..];
-    let lookups = (widths.iter()).map(|w| {
-        let (lookup, rest) = left.split_at(*w as usize);
-        left = rest;
-        lookup.iter().map(|p| (tree(p.0), tree(p.1))).collect()
-    });
-    let lookups: Vec<Vec<_>> = lookups.collect();
+    let sizes = |words: &[u64]| words.iter().map(|w| *w as usize).collect::<Vec<_>>();
+    let lookups = parted(&lookup_roots, &sizes(widths)).into_iter();
+    let lookups: Vec<Lookup> = lookups.map(|l| l.iter().map(|p| (tree(p.0), tree(p.1))).collect()).collect();
+    let groups = body(9).to_vec();
+    ask(numbers_good(&groups) && tables_alike(&lookups, &groups), 18)?;
     let constraints: Vec<Tree> = body(4).iter().map(|root| tree(*root)).collect();
     // 10
     let max_degree = w[1].checked_sub(1);
     let within = |t: &Tree| t.degree() <= 1024 && max_degree.map_or(true, |max| t.degree() <= max);
-    ask(constraints.iter().all(within) && lookups.iter().all(|l| lookup_degree(l) <= 1024), 10)?;
+    let preprocess = body(1).chunks(rows as usize).map(<[u64]>::to_vec).collect();
+    let cycles = parted(&pairs(8), &sizes(lengths)).into_iter().map(<[_]>::to_vec).collect();
+    let instances = body(0).to_vec();
+    let c = Circuit { k, max_degree, instances, preprocess, rounds, constraints, lookups, cycles, groups };
+    ask(c.constraints.iter().all(within) && c.grouped().into_iter().all(|g| group_degree(g) <= 1024), 10)?;
     // 11
-    let cells = pairs(8);
-    let mut left = &cells[..];
-    let mut cycles: Vec<Vec<(u64, u64)>> = vec![];
-    for length in lengths {
-        let (cycle, rest) = left.split_at(*length as usize);
-        left = rest;
-        cycles.push(cycle.to_vec());
-    }
     let once = |cycle: &Vec<(u64, u64)>| cycle.iter().collect::<HashSet<_>>().len() == cycle.len();
     let in_range = |cell: &(u64, u64)| cell.0 < polys && 1 <= cell.1 && cell.1 < rows;
-    ask(cycles.iter().all(|c| !c.is_empty() && c.iter().all(in_range) && once(c)), 11)?;
-    let preprocess = body(1).chunks(rows as usize).map(<[u64]>::to_vec).collect();
-    Ok(Circuit { k, max_degree, instances: body(0).to_vec(), preprocess, rounds, constraints, lookups, cycles })
+    ask(c.cycles.iter().all(|c| !c.is_empty() && c.iter().all(in_range) && once(c)), 11)?;
+    Ok(c)
 }
 
 /// Question 7.

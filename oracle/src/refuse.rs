@@ -1,5 +1,5 @@
 //! Refused circuits: an accepted log, broken in one way, the number known by
-//! construction. `WAYS` has every question from 1 to 15 and 17, with sums that would wrap.
+//! construction. `WAYS` has every question from 1 to 15, 17 and 18, with sums that would wrap.
 use super::calls::lent_right;
 use super::generate::Log;
 use super::model::{add, columns, mul, neg, prev, sub, Tree, P};
@@ -139,12 +139,29 @@ const UNLISTED: (Tree, Tree) = (Tree::Constant(1), Tree::Constant(2));
 fn lookups(b: &mut Broken, before: Option<(Tree, Tree)>, after: Option<(Tree, Tree)>) -> bool {
     let s = &mut b.log.sections;
     after.iter().for_each(|pair| s.lookup(&[pair.clone()]));
-    for (input, table) in before {
-        let roots = [s.node(&input), s.node(&table)];
-        s.bodies[PAIRS].splice(0..0, roots);
-        s.bodies[WIDTHS].insert(0, 1);
-    }
+    before.iter().for_each(|pair| s.lookup_before(&[pair.clone()]));
     room(s)
+}
+
+/// A group after the others, of a lookup for each list of pairs.
+fn group(s: &mut Sections, lookups: &[&[(Tree, Tree)]]) -> bool {
+    s.lookup(lookups[0]);
+    lookups[1..].iter().for_each(|lookup| s.member(lookup));
+    room(s)
+}
+/// A group of two lookups of one pair each, with these tables.
+fn tables(s: &mut Sections, first: Tree, second: Tree) -> bool {
+    group(s, &[&[(first.clone(), first)], &[(second.clone(), second)]])
+}
+fn constant(c: u64) -> Tree {
+    Tree::Constant(c)
+}
+fn list_of(constants: &[u64]) -> Tree {
+    Tree::List(constants.iter().map(|c| constant(*c)).collect(), constant(3).into())
+}
+/// A pair of constants.
+const fn constants(input: u64, table: u64) -> (Tree, Tree) {
+    (Tree::Constant(input), Tree::Constant(table))
 }
 
 /// A further witness column, the last, with a cycle over these rows of it. Its permutation factor is zero on one row,
@@ -187,8 +204,9 @@ const CONSTANT: [u64; 4] = [1, 0, 0, 0];
 const LAST: [u64; 4] = [12, NEW, 0, 0];
 
 pub const WAYS: &[(u64, Way)] = &[
-    (1, |b, rng| { b.edits.push(Edit::Length(rng.below(20))); true }),
-    (1, edit!(Edit::Length(19))),
+    (1, |b, rng| { b.edits.push(Edit::Length(rng.below(22))); true }),
+    (1, edit!(Edit::Length(21))),
+    (1, edit!(Edit::Length(20))),
     (1, edit!(Edit::Length(0))),
     (2, edit!(Edit::Set(0, 0))),
     (2, edit!(Edit::Set(0, 11))),
@@ -220,18 +238,26 @@ pub const WAYS: &[(u64, Way)] = &[
     (3, sections!(|s, _rng| { s.bodies[LENGTHS] = vec![MAX, 1 + s.count(CELLS)]; true })),
     (3, sections!(|s, rng| { let at = entry(s, LENGTHS, rng); set(s, LENGTHS, at, 0, MAX) })),
     // 4, contents
-    (4, |b, rng| { b.edits.push(Edit::Add(2 + 2 * rng.below(9), rng.pick(&[1, MAX, TOP, MAX - 19]))); true }),
+    (4, |b, rng| { b.edits.push(Edit::Add(2 + 2 * rng.below(10), rng.pick(&[1, MAX, TOP, MAX - 21]))); true }),
     (4, |b, rng| { b.edits.push(Edit::More(rng.pick(&[0, 1, MAX]))); true }),
-    (4, |b, _| { b.edits.push(Edit::Less); b.log.sections.words().len() > 20 }),
+    (4, |b, _| { b.edits.push(Edit::Less); b.log.sections.words().len() > 22 }),
     (4, edit!(Edit::Add(15, TOP))),
     (4, edit!(Edit::Set(15, MAX))),
     (4, edit!(Edit::Add(15, 1))),
+    // The tenth count: one more and one less than the lookups, with a body as long as before or as the count says.
+    (4, edit!(Edit::Add(21, 1))),
+    (4, edit!(Edit::Add(21, MAX))),
+    (4, edit!(Edit::Set(21, MAX))),
+    (4, edit!(Edit::Add(21, TOP))),
+    (4, sections!(|s, _rng| { let next = s.count(GROUPS); s.bodies[GROUPS].push(next); true })),
+    (4, sections!(|s, _rng| s.bodies[GROUPS].pop().is_some())),
     // 4, bodies
     (4, sections!(|s, _rng| { s.bodies[PAIRS].extend([0, 0]); true })),
     (4, sections!(|s, _rng| s.bodies[PAIRS].pop().and(s.bodies[PAIRS].pop()).is_some())),
     (4, sections!(|s, _rng| { s.bodies[CELLS].extend([0, 1]); s.count(CELLS) <= 4096 })),
     (4, sections!(|s, _rng| s.bodies[CELLS].pop().and(s.bodies[CELLS].pop()).is_some())),
     (4, sections!(|s, _rng| { s.bodies[WIDTHS].push(1); s.count(WIDTHS) <= 8 })),
+    (4, sections!(|s, _rng| { s.lookup(&[]); s.bodies[WIDTHS].pop(); s.bodies[WIDTHS].push(1); s.count(WIDTHS) <= 8 })),
     (4, sections!(|s, _rng| { s.bodies[LENGTHS].push(1); true })),
     // 5
     (5, sections!(|s, rng| { let at = entry(s, ROUNDS, rng); set(s, ROUNDS, at, 0, 0) })),
@@ -332,9 +358,68 @@ pub const WAYS: &[(u64, Way)] = &[
     (8, node!([4, 0, 0, MAX])),
     (8, sections!(|s, _rng| { s.lookup(&[(Tree::EqXY(0), Tree::EqXY(0))]); room(s) })),
     // 9
-    (9, sections!(|s, _rng| { s.bodies[WIDTHS].push(0); room(s) })),
-    (9, sections!(|s, _rng| { s.bodies[WIDTHS].insert(0, 0); room(s) })),
-    (9, sections!(|s, _rng| { (3..9).for_each(|i| s.bodies[i].clear()); true })),
+    (9, sections!(|s, _rng| { s.lookup(&[]); room(s) })),
+    (9, sections!(|s, _rng| { s.lookup_before(&[]); room(s) })),
+    (9, sections!(|s, _rng| { (3..10).for_each(|i| s.bodies[i].clear()); true })),
+    // 9 beside 18: a number that breaks the rule, tables of unlike width.
+    (9, sections!(|s, _rng| { s.lookup_in(MAX, &[]); room(s) })),
+    (9, sections!(|s, _rng| group(s, &[&[constants(1, 1)], &[]]))),
+    // 18, numbers: the first not 0, one left out, one that comes back, one that is the same in 32 bits, one that wraps.
+    (18, sections!(|s, rng| {
+        let by = rng.pick(&[1, 2, MAX, 1 << 32]);
+        s.bodies[GROUPS].iter_mut().for_each(|group| *group = group.wrapping_add(by));
+        s.count(GROUPS) > 0
+    })),
+    (18, sections!(|s, rng| {
+        let after = s.bodies[GROUPS].last().map_or(MAX, |last| *last);
+        s.lookup_in(after.wrapping_add(rng.pick(&[2, 3, 1 << 32, TOP])), &[constants(1, 1)]);
+        room(s)
+    })),
+    (18, sections!(|s, _rng| {
+        s.lookup(&[constants(1, 1)]);
+        s.lookup(&[constants(2, 2)]);
+        let back = s.bodies[GROUPS].last().map_or(0, |last| last - 1);
+        s.lookup_in(back, &[constants(1, 1)]);
+        room(s)
+    })),
+    (18, sections!(|s, _rng| {
+        s.lookup(&[constants(1, 1)]);
+        s.lookup_in(MAX, &[constants(1, 1)]);
+        room(s)
+    })),
+    // 18, widths: 1 and 2, 2 and 1, the tables that both have alike.
+    (18, sections!(|s, _rng| group(s, &[&[constants(1, 1)], &[constants(1, 1), constants(2, 2)]]))),
+    (18, sections!(|s, _rng| group(s, &[&[constants(1, 1), constants(2, 2)], &[constants(1, 1)]]))),
+    // 18, trees of the same value on every row.
+    (18, sections!(|s, _rng| tables(s, constant(0), Tree::Scaled(constant(0).into(), 0)))),
+    (18, sections!(|s, _rng| tables(s, Tree::Scaled(constant(0).into(), 0), constant(0)))),
+    (18, sections!(|s, _rng| { let rows = 1 << s.k; tables(s, Tree::Lagrange(1), Tree::Lagrange(1 + rows)) })),
+    (18, sections!(|s, _rng| {
+        let sum = |a: u64, b: u64| Tree::Sum(constant(a).into(), constant(b).into());
+        tables(s, sum(1, 2), sum(2, 1))
+    })),
+    (18, sections!(|s, _rng| {
+        let twice = Tree::Negated(Tree::Negated(Tree::Identity.into()).into());
+        tables(s, Tree::Identity, twice)
+    })),
+    (18, sections!(|s, _rng| tables(s, list_of(&[1, 2]), list_of(&[1, 2, 0])))),
+    // Trees that differ in a word: a constant, a scalar, a rotation, a polynomial, an expression of a list, its base.
+    (18, sections!(|s, _rng| tables(s, constant(1), constant(2)))),
+    (18, sections!(|s, _rng| tables(s, Tree::Scaled(Tree::Identity.into(), 3), Tree::Scaled(Tree::Identity.into(), 4)))),
+    (18, sections!(|s, _rng| tables(s, Tree::Polynomial(0, 0), Tree::Polynomial(0, 1)))),
+    (18, sections!(|s, _rng| { let last = s.polys() - 1; tables(s, Tree::Polynomial(0, 0), Tree::Polynomial(last, 0)) && last > 0 })),
+    (18, sections!(|s, _rng| tables(s, list_of(&[1, 2, 3]), list_of(&[1, 2, 4])))),
+    (18, sections!(|s, _rng| {
+        let by = |base: u64| Tree::List(vec![constant(1), constant(2)], constant(base).into());
+        tables(s, by(1), by(2))
+    })),
+    // The second pair's table, and the third member's.
+    (18, sections!(|s, _rng| group(s, &[&[constants(1, 1), constants(2, 2)], &[constants(1, 1), constants(2, 3)]]))),
+    (18, sections!(|s, _rng| group(s, &[&[constants(1, 1)], &[constants(1, 1)], &[constants(1, 2)]]))),
+    // 18 beside 10, 11 and 15.
+    (18, sections!(|s, _rng| { s.degree = 0; s.constraint(&of_degree(1025)); tables(s, constant(1), constant(2)) })),
+    (18, sections!(|s, _rng| { s.cycle(&[(0, 0)]); tables(s, constant(1), constant(2)) })),
+    (18, sections!(|s, _rng| group(s, &[&[constants(1, 1)], &[constants(9, 2)]]))),
     // 10
     (10, sections!(|s, rng| { s.degree = rng.range(1, 5) as u64; let d = s.degree; s.constraint(&of_degree(d)); room(s) })),
     (10, sections!(|s, _rng| { s.degree = 0; s.constraint(&of_degree(1025)); room(s) })),
@@ -345,6 +430,12 @@ pub const WAYS: &[(u64, Way)] = &[
         room(s)
     })),
     (10, sections!(|s, _rng| { s.degree = 33; s.constraint(&of_degree(33)); room(s) })),
+    // Degrees that only a group's members have together.
+    (10, sections!(|s, _rng| {
+        s.degree = 0;
+        group(s, &[&[(of_degree(512), constant(0))], &[(of_degree(512), constant(0))]])
+    })),
+    (10, sections!(|s, _rng| group(s, &[&[(of_degree(TOP), constant(0))], &[(of_degree(TOP), constant(0))]]))),
     // 2^64 and 2^66: as u64 both are 0.
     (10, tree!(Tree::Product(of_degree(TOP).into(), of_degree(TOP).into()))),
     (10, tree!(Tree::List(vec![Tree::Constant(0); 9], of_degree(TOP).into()))),
@@ -376,12 +467,11 @@ pub const WAYS: &[(u64, Way)] = &[
     // 15
     (15, sections!(|s, _rng| { s.lookup(&[(Tree::Constant(1), Tree::Constant(2))]); room(s) })),
     (15, sections!(|s, _rng| { s.lookup(&[(Tree::Identity, Tree::Lagrange(1))]); room(s) && s.k > 1 })),
-    (15, sections!(|s, _rng| {
-        let roots = [s.node(&Tree::Identity), s.node(&Tree::Constant(5))];
-        s.bodies[PAIRS].splice(0..0, roots);
-        s.bodies[WIDTHS].insert(0, 1);
-        room(s)
-    })),
+    (15, sections!(|s, _rng| { s.lookup_before(&[(Tree::Identity, constant(5))]); room(s) })),
+    // An input of the first, of the second and of the last member of a group.
+    (15, sections!(|s, _rng| group(s, &[&[constants(1, 2)], &[constants(2, 2)]]))),
+    (15, sections!(|s, _rng| group(s, &[&[constants(2, 2)], &[constants(1, 2)]]))),
+    (15, sections!(|s, _rng| group(s, &[&[constants(2, 2)], &[constants(2, 2)], &[constants(1, 2)]]))),
     // 15 beside a zero denominator: of an earlier lookup, of a later one, of the same, of a factor.
     (15, zero!(|b, gamma, _rng| lookups(b, Some(table_at(0, gamma)), Some(UNLISTED)))),
     (15, zero!(|b, gamma, _rng| lookups(b, Some(UNLISTED), Some(table_at(-1, gamma))))),
@@ -403,6 +493,13 @@ pub const WAYS: &[(u64, Way)] = &[
     // In the earlier and in the later of two lookups or more.
     (17, zero!(|b, gamma, _rng| lookups(b, Some(table_at(1, gamma)), Some((nowhere_zero(gamma), nowhere_zero(gamma)))))),
     (17, zero!(|b, gamma, _rng| lookups(b, Some((nowhere_zero(gamma), nowhere_zero(gamma))), Some(table_at(1, gamma))))),
+    // In a group of two: of the second member's input, and so of the table, which lists it; of the table, where m is 0.
+    (17, zero!(|b, gamma, _rng| {
+        let listed = zero_at(1, gamma);
+        let (first, second) = ((nowhere_zero(gamma), listed.clone()), (listed.clone(), listed));
+        group(&mut b.log.sections, &[&[first], &[second]])
+    })),
+    (17, zero!(|b, gamma, _rng| group(&mut b.log.sections, &[&[table_at(0, gamma)], &[table_at(0, gamma)]]))),
     // A factor: at place 1, at the last place, on a row that stands in no cycle, on one whose label moved.
     (17, zero!(|b, _gamma, rng| zero_factor(b, &[1], 1, rng))),
     (17, zero!(|b, _gamma, rng| { let row = last_row(b.log.sections.k); zero_factor(b, &[row], row, rng) })),

@@ -11,6 +11,11 @@ pub const WIDTHS: usize = 5;
 pub const PAIRS: usize = 6;
 pub const LENGTHS: usize = 7;
 pub const CELLS: usize = 8;
+pub const GROUPS: usize = 9;
+
+/// Words of the table of contents, and how many sections it has.
+pub const CONTENTS: usize = 22;
+pub const SECTIONS: usize = 10;
 
 /// Circuit words before the table of contents is made. Any words may stand in it.
 #[derive(Clone, Debug, Default)]
@@ -18,12 +23,12 @@ pub struct Sections {
     pub k: u64,
     /// Word 1: 0, or the maximum degree + 1.
     pub degree: u64,
-    pub bodies: [Vec<u64>; 9],
+    pub bodies: [Vec<u64>; SECTIONS],
 }
 
 impl Sections {
     pub fn entry(&self, s: usize) -> usize {
-        [1, 1 << self.k.min(20), 2, 4, 1, 1, 2, 1, 2][s]
+        [1, 1 << self.k.min(20), 2, 4, 1, 1, 2, 1, 2, 1][s]
     }
     pub fn count(&self, s: usize) -> u64 {
         (self.bodies[s].len() / self.entry(s)) as u64
@@ -37,8 +42,8 @@ impl Sections {
     }
     pub fn words(&self) -> Vec<u64> {
         let mut words = vec![self.k, self.degree];
-        let mut at = 20;
-        for s in 0..9 {
+        let mut at = CONTENTS as u64;
+        for s in 0..SECTIONS {
             words.extend([at, self.count(s)]);
             at += self.bodies[s].len() as u64;
         }
@@ -56,12 +61,31 @@ impl Sections {
         let root = self.node(tree);
         self.bodies[CONSTRAINTS].push(root);
     }
+    /// A lookup after the others, in a group of its own.
     pub fn lookup(&mut self, pairs: &[(Tree, Tree)]) {
+        let group = self.bodies[GROUPS].last().map_or(0, |last| last.wrapping_add(1));
+        self.lookup_in(group, pairs);
+    }
+    /// A lookup after the others, in the group of the last.
+    pub fn member(&mut self, pairs: &[(Tree, Tree)]) {
+        let group = self.bodies[GROUPS].last().copied().unwrap_or(0);
+        self.lookup_in(group, pairs);
+    }
+    pub fn lookup_in(&mut self, group: u64, pairs: &[(Tree, Tree)]) {
         for (input, table) in pairs {
             let roots = [self.node(input), self.node(table)];
             self.bodies[PAIRS].extend(roots);
         }
         self.bodies[WIDTHS].push(pairs.len() as u64);
+        self.bodies[GROUPS].push(group);
+    }
+    /// A lookup before the others, in a group of its own.
+    pub fn lookup_before(&mut self, pairs: &[(Tree, Tree)]) {
+        let roots: Vec<u64> = pairs.iter().flat_map(|(input, table)| [self.node(input), self.node(table)]).collect();
+        self.bodies[PAIRS].splice(0..0, roots);
+        self.bodies[WIDTHS].insert(0, pairs.len() as u64);
+        self.bodies[GROUPS].iter_mut().for_each(|group| *group = group.wrapping_add(1));
+        self.bodies[GROUPS].insert(0, 0);
     }
     pub fn cycle(&mut self, cells: &[(u64, u64)]) {
         self.bodies[LENGTHS].push(cells.len() as u64);

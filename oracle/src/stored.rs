@@ -35,7 +35,7 @@ fn file(command: &str, cases: &[Case]) -> String {
 fn some_sizes(builds: &[Case]) -> Vec<Case> {
     let numbered = |number: u64| builds.iter().filter(move |b| b.call == "build" && b.returned[0] == number);
     let refused =
-        (1..=15).chain([17]).flat_map(|number| numbered(number).next().into_iter().chain(numbered(number).last()));
+        (1..=15).chain([17, 18]).flat_map(|number| numbered(number).next().into_iter().chain(numbered(number).last()));
     refused.chain(numbered(0).step_by(5)).map(sizes_case).collect()
 }
 
