@@ -8,11 +8,11 @@
  * and can be called from several threads at once. Trees are walked by recursion: a thread that makes calls should have 1 MiB of stack
  * (1024 nodes, one in another, were seen to take 0.2 MiB).
  *
- * NUMBERS. A field element is a word below p. Each call puts its questions in the order below and returns the number of the first that
- * is answered no, or 0 (HYPERPLONK_OK). The order is 1 to 15, then 17; 16 is the row sum's, which asks it after 11. 3 and then 4 are put
- * to words 0 to 19, then 3 and then 4 to what follows. The constants below name the numbers. On 0 the first words of a buffer are those
- * that the call says (alone: the first 2^k are the column). On 15 and on 17 the column words needed become 0, and the nodes stay. On any
- * other number no word of a buffer is written, those of `answer` aside. Words past those needed are never written.
+ * NUMBERS. A field element is a word below p. Each call puts its questions in the order below and returns the number of the first that is
+ * answered no, or 0 (HYPERPLONK_OK). The order is 1 to 9, 18, 10 to 15, 17; 16 is the row sum's, which asks it after 11. 3 and then 4 are
+ * put to words 0 to 21, then 3 and then 4 to what follows. The constants below name the numbers. On 0 the first words of a buffer are
+ * those that the call says (alone: the first 2^k are the column). On 15 and on 17 the column words needed become 0, and the nodes stay.
+ * On any other number no word of a buffer is written, those of `answer` aside. Words past those needed are never written.
  *
  * ROWS. A column has 2^k words: word b is its value at row b. Rows also have an order: row 0 first, then 1, next(1), next(next(1)) ...
  * next(b) is 2 * b and, if bit k of that is set, that exclusive-or PRIMITIVES[k]:
@@ -37,8 +37,8 @@
  *     witness       lent, 2^k words each, by rows, one column after another, round after round
  * and in composed nodes then permutation, m, h, z.
  *
- * CIRCUIT WORDS. Word 0 is k. Word 1 is 0 for no maximum degree, else that degree + 1. Words 2 to 19 are nine pairs (start, count).
- * Counts are in entries. A start is the number of the body's first word: 20, then the start before it plus that body's words, also where
+ * CIRCUIT WORDS. Word 0 is k. Word 1 is 0 for no maximum degree, else that degree + 1. Words 2 to 21 are ten pairs (start, count).
+ * Counts are in entries. A start is the number of the body's first word: 22, then the start before it plus that body's words, also where
  * a body is empty. The bodies follow in this order without gaps, and nothing follows the last:
  *     instance lengths       1 word each
  *     preprocess columns     2^k words each
@@ -49,8 +49,11 @@
  *     lookup pairs           2 words each: input root, table root; as many as the widths sum to
  *     cycle lengths          1 word each
  *     cells                  2 words each: polynomial, row (not place) from 1 to 2^k - 1; as many as the lengths sum to
- * Each lookup takes the next pairs, as many as its width: on every row, row 0 too, the inputs together are to be what the tables
- * together are on some row. Each cycle takes the next cells, as many as its length, none twice: they are to hold one value.
+ *     group numbers          1 word each, one for each lookup: the first 0, each next the same or one more
+ * Each lookup takes the next pairs, as many as its width: on every row, row 0 too, the inputs together are to be what the tables together
+ * are on some row. Lookups of one number are a group, which has one m and one h: the tables of its lookups are to be as many, and the
+ * same trees, pair by pair, whatever the numbers of their nodes. Numbers 0, 1, 2, ... are groups of one. Each cycle takes the next cells,
+ * as many as its length, none twice: they are to hold one value.
  *
  * NODES. The four words of each kind, its value at row b, and its degree. An unused word is 0. A signed number i, from -2147483648 to
  * 2147483647, is kept as i + 2147483648 (HYPERPLONK_SIGNED). Sums and products are in the field.
@@ -80,9 +83,9 @@
  * Item. With e_0, e_1, e_2 at nodes 0, 1, 2 and the base at node 3, a list is node 4: 12 2 0 0, node 5: 12 1 4 1, node 6: 12 0 5 1,
  * node 7: 11 3 6 0.
  *
- * A lookup's constraint has degree 1 + the largest degree of its inputs + the largest of its tables. D is the largest of 2, the maximum
- * degree that the circuit states, and the degrees of all user and lookup constraints. The copied columns are the polynomials that cells
- * name, each once, by rising number; n is how many. N = n / (D - 1), rounded up.
+ * A group's constraint has degree 1 + the largest degree of the inputs of each of its lookups, added up, + the largest of its tables. D
+ * is the largest of 2, the maximum degree that the circuit states, and the degrees of all user and group constraints. The copied columns
+ * are the polynomials that cells name, each once, by rising number; n is how many. N = n / (D - 1), rounded up.
  *
  * COLUMNS that building writes, each 2^k words, by rows, in this order:
  *     instance       as above
@@ -90,35 +93,40 @@
  *                    a cycle each cell takes the label that the cell before held when the cycle began, the first that of the last.
  *                    Cycles act one after another. At k = 2 the cycle (0, 1), (1, 2) makes 0 6 2 3 and 4 5 1 7.
  *     compressed     for each lookup the input, then the table: e_0 + beta * e_1 + beta^2 * e_2 + ... of its inputs, of its tables
- *     m              one for each lookup: at each row how many rows' inputs are counted there, by hyperplonk_lookup_m_poly
- *     h              one for each lookup: hyperplonk_lookup_h_poly
+ *     m              one for each group: at each row how many inputs are counted there, those of every lookup of the group on every row,
+ *                    each at the last row (by row number) whose table value equals it. A group of s lookups has s * 2^k in all
+ *     h              one for each group: 1 / (gamma + input) added up over its lookups, minus m / (gamma + table); the table is that of
+ *                    the group's first lookup. Of a group of one m and h are hyperplonk_lookup_m_poly's and hyperplonk_lookup_h_poly's
  *     z              N of them, z_0 first. The copied columns are cut into N parts of n / N, rounded up, the last perhaps shorter. The
  *                    factor of a part at row b is the product, over its columns j, of (value + beta * (j * 2^k + b) + gamma) / (value +
  *                    beta * label + gamma), the column's value and label at b. Every z is 0 at row 0; z_0 is 1 at row 1. On every row
  *                    but 0, z_(i+1) is z_i times the factor of part i; and z_0 at next(b) is the last z at b times the factor of the
  *                    last part at b, for each b but row 0 and the row at the last place.
- * Denominators are gamma + input and gamma + table of each lookup on every row, row 0 too and also where m is 0, and value + beta * label
- * + gamma of each copied column on every row but 0. If one is 0, and 15 is answered yes for every lookup, the number is 17. A numerator,
- * value + beta * (j * 2^k + b) + gamma, may be 0, and so may a copied column's factor on row 0.
+ * Denominators are gamma + input of each lookup and gamma + table of each group on every row, row 0 too and also where m is 0, and value
+ * + beta * label + gamma of each copied column on every row but 0. If one is 0, and 15 is answered yes for every group, the number is 17.
+ * A numerator, value + beta * (j * 2^k + b) + gamma, may be 0, and so may a copied column's factor on row 0.
  *
  * COMPOSED NODES are the constraints by powers of alpha, times EqXY(0); and then the h columns first, that product last, by powers of
  * alpha. Their challenges are the user's, then beta, gamma, alpha. The constraints are the user's, then these:
- *     for each lookup, of its compressed input and table,
- *         h * (input + gamma) * (table + gamma) - (table + gamma) + m * (input + gamma);
+ *     for each group of s lookups, with I_i the compressed input of lookup i + gamma, and T the compressed table + gamma,
+ *         h * I_1 * ... * I_s * T - T * (P_1 + ... + P_s) + m * I_1 * ... * I_s, where P_i is the product of all I_j but I_i, in rising
+ *         order; of one lookup, h * I_1 * T - T + m * I_1. As nodes (A - B) + C, products and sums from the first on;
  *     if n is not 0, Lagrange(1) * (z_0 - 1), and for each part i of the copied columns cut into parts of D - 1, the last perhaps shorter,
  *         z_i * the product of (value + beta * (j * 2^k + Identity) + gamma) - next * the product of (value + beta * label + gamma),
  *         over its columns j; next is z_(i+1), after the last part z_0 with rotation 1.
  *
  * SIZES. hyperplonk_sizes answers them from the circuit words alone, so that buffers can be ordered before there is a log. Building
  * needs exactly these words: past 1 to 13 it gives 14 exactly when one of its buffers is shorter, and where it gives 0 it returns these
- * column words and nodes. The columns take (instance columns + n + 4 * lookups + N) * 2^k words, the nodes 4 words each.
+ * column words and nodes. The columns take (instance columns + n + 2 * lookups + 2 * groups + N) * 2^k words, the nodes 4 words each.
  * With list(x) = x + 2 for x > 1, else 0, there are, to be added up:
  *     all nodes of the user's constraints
- *     for each lookup 2 * (all nodes of its inputs and tables) + 16 + 4 * list(its width)
+ *     for each group of s lookups, with e = 2 + list(its width), (s + 1) * (all nodes of its inputs + s * e) + 2 * (all nodes of the
+ *         tables of its first lookup + e) + s * s + s + 6
  *     if n is not 0, 6 + 18 * n + 4 * N
- *     list(user's constraints + lookups + (N + 1 if n is not 0)) + 2 + lookups + list(lookups + 1)
+ *     list(user's constraints + groups + (N + 1 if n is not 0)) + 2 + groups + list(groups + 1)
  * One evaluation of the composed expression on one row visits each node once, also the base of a list, but no Item: the visits.
- * Room for HYPERPLONK_MAX_COLUMN_WORDS and HYPERPLONK_MAX_NODE_WORDS is enough for any circuit.
+ * Room for HYPERPLONK_MAX_COLUMN_WORDS and HYPERPLONK_MAX_NODE_WORDS is enough for any circuit. No one circuit needs the most of all
+ * three: groups of one take the most column words, eight lookups in one group the most nodes (at width 8) and visits (at width 2).
  *
  * CHALLENGES must be drawn once the columns before them are fixed: a round's after its witness columns, beta after all witness columns,
  * gamma after the m columns, alpha and y after the h and z columns. Drawing them, and committing to columns, is no part of this
@@ -138,22 +146,23 @@
  * A SMALL CIRCUIT, k = 3. Polynomial 0 is an instance column of five values; polynomial 1 is the one witness column. On every row but
  * that at the last place: witness at rotation 1 = witness + instance value. As (1 - Lagrange(-1)) * (next - (here + value)), degree 2.
  *     word 0     3, 0                                        k; no maximum degree
- *     word 2     20, 1,   21, 0,   21, 1,   23, 11           instance lengths, preprocess columns, rounds, nodes
- *     word 10    67, 1,   68, 0,   68, 0,   68, 0,   68, 0   constraint roots, lookup widths, pairs, cycle lengths, cells
- *     word 20    5                                           the instance column has five values
- *     word 21    1, 0                                        the round: one witness column, no challenge
- *     word 23    HYPERPLONK_POLYNOMIAL, 1, 0, HYPERPLONK_SIGNED(1)    node 0: the witness one row on
- *     word 27    HYPERPLONK_POLYNOMIAL, 1, 0, HYPERPLONK_SIGNED(0)    node 1: the witness
- *     word 31    HYPERPLONK_POLYNOMIAL, 0, 0, HYPERPLONK_SIGNED(0)    node 2: the instance value
- *     word 35    HYPERPLONK_SUM, 1, 2, 0                              node 3
- *     word 39    HYPERPLONK_NEGATED, 3, 0, 0                          node 4
- *     word 43    HYPERPLONK_SUM, 0, 4, 0                              node 5
- *     word 47    HYPERPLONK_CONSTANT, 0, 0, 1                         node 6
- *     word 51    HYPERPLONK_LAGRANGE, 0, 0, HYPERPLONK_SIGNED(-1)     node 7: 1 at the last place, row 5
- *     word 55    HYPERPLONK_NEGATED, 7, 0, 0                          node 8
- *     word 59    HYPERPLONK_SUM, 6, 8, 0                              node 9
- *     word 63    HYPERPLONK_PRODUCT, 9, 5, 0                          node 10
- *     word 67    10                                                   the constraint's root
+ *     word 2     22, 1,   23, 0,   23, 1,   25, 11           instance lengths, preprocess columns, rounds, nodes
+ *     word 10    69, 1,   70, 0,   70, 0,   70, 0,   70, 0   constraint roots, lookup widths, pairs, cycle lengths, cells
+ *     word 20    70, 0                                       group numbers
+ *     word 22    5                                           the instance column has five values
+ *     word 23    1, 0                                        the round: one witness column, no challenge
+ *     word 25    HYPERPLONK_POLYNOMIAL, 1, 0, HYPERPLONK_SIGNED(1)    node 0: the witness one row on
+ *     word 29    HYPERPLONK_POLYNOMIAL, 1, 0, HYPERPLONK_SIGNED(0)    node 1: the witness
+ *     word 33    HYPERPLONK_POLYNOMIAL, 0, 0, HYPERPLONK_SIGNED(0)    node 2: the instance value
+ *     word 37    HYPERPLONK_SUM, 1, 2, 0                              node 3
+ *     word 41    HYPERPLONK_NEGATED, 3, 0, 0                          node 4
+ *     word 45    HYPERPLONK_SUM, 0, 4, 0                              node 5
+ *     word 49    HYPERPLONK_CONSTANT, 0, 0, 1                         node 6
+ *     word 53    HYPERPLONK_LAGRANGE, 0, 0, HYPERPLONK_SIGNED(-1)     node 7: 1 at the last place, row 5
+ *     word 57    HYPERPLONK_NEGATED, 7, 0, 0                          node 8
+ *     word 61    HYPERPLONK_SUM, 6, 8, 0                              node 9
+ *     word 65    HYPERPLONK_PRODUCT, 9, 5, 0                          node 10
+ *     word 69    10                                                   the constraint's root
  * Instance words 11 12 13 14 15. By places the witness is 0 100 111 123 136 150 165 165, so by rows, as its words are lent,
  * 0 100 111 136 123 165 150 165. Challenges beta, gamma: any two words below p. The sizes are 8 column words, 13 nodes, 13 visits.
  * Building writes the column words 0 11 12 14 13 0 15 0, and the nodes; there is no z. The row sum is 0 for every alpha and every three
@@ -193,15 +202,15 @@ extern "C" {
 #define HYPERPLONK_DISTRIBUTE_POWERS UINT64_C(11)
 #define HYPERPLONK_ITEM UINT64_C(12)
 
-/* Numbers. 17 is asked after 15; 16 is the row sum's. */
+/* Numbers. 18 is asked after 9, and 17 after 15; 16 is the row sum's. */
 #define HYPERPLONK_OK UINT64_C(0)
-/* The circuit has fewer than 20 words. */
+/* The circuit has fewer than 22 words. */
 #define HYPERPLONK_TOO_FEW_WORDS UINT64_C(1)
 /* k is not from 1 to 10. */
 #define HYPERPLONK_BAD_K UINT64_C(2)
 /* A count or a sum is past its limit below, or there is no round. */
 #define HYPERPLONK_BAD_COUNT UINT64_C(3)
-/* Starts, counts and total length do not agree. */
+/* Starts, counts and total length do not agree, or there are not as many group numbers as lookups. */
 #define HYPERPLONK_BAD_CONTENTS UINT64_C(4)
 /* A round has no witness column, a round but the last has no challenge, or an instance column has more than 2^k - 1 values. */
 #define HYPERPLONK_BAD_ROUND_OR_INSTANCE UINT64_C(5)
@@ -213,7 +222,7 @@ extern "C" {
 #define HYPERPLONK_BAD_NODE_RANGE UINT64_C(8)
 /* A width is 0, or there is no constraint, no lookup and no cycle. */
 #define HYPERPLONK_EMPTY_LOOKUP_OR_CIRCUIT UINT64_C(9)
-/* A user or lookup constraint's degree is above 1024, or a user constraint's above the stated maximum. */
+/* A user or group constraint's degree is above 1024, or a user constraint's above the stated maximum. */
 #define HYPERPLONK_BAD_DEGREE UINT64_C(10)
 /* A cycle is empty, a cell's polynomial is out of range or its row not from 1 to 2^k - 1, or a cell is twice in one cycle. */
 #define HYPERPLONK_BAD_CYCLE UINT64_C(11)
@@ -223,16 +232,19 @@ extern "C" {
 #define HYPERPLONK_BAD_VALUE UINT64_C(13)
 /* A buffer has fewer words than needed (build: those of hyperplonk_sizes; alone: 2^k). */
 #define HYPERPLONK_SHORT_BUFFER UINT64_C(14)
-/* (Build, counts.) An input equals no table row. */
+/* (Build, counts.) An input equals no table row; building: no row of its group's table. */
 #define HYPERPLONK_NOT_IN_TABLE UINT64_C(15)
 /* (Row sum.) Witness, columns, nodes, challenges or y have not the exact length, the node words are not those that building writes,
  * or another value is not below p. */
 #define HYPERPLONK_BAD_ROW_SUM_WORDS UINT64_C(16)
 /* (Build, h.) A denominator is 0: other challenges are to be drawn. */
 #define HYPERPLONK_ZERO_DENOMINATOR UINT64_C(17)
+/* The group numbers do not start at 0, or one is neither the one before nor one more; or tables of one group differ in width or as
+ * trees. Asked after 9. */
+#define HYPERPLONK_BAD_GROUPS UINT64_C(18)
 
 /* Limits. k is 1 or more, and so are the rounds; witness columns, user challenges and cells are counted in all. The stated degree is
- * that of word 1, the degree that of any user or lookup constraint. */
+ * that of word 1, the degree that of any user or group constraint. */
 #define HYPERPLONK_MAX_K UINT64_C(10)
 #define HYPERPLONK_MAX_INSTANCE_COLUMNS UINT64_C(8)
 #define HYPERPLONK_MAX_PREPROCESS_COLUMNS UINT64_C(32)
@@ -248,25 +260,27 @@ extern "C" {
 #define HYPERPLONK_MAX_STATED_DEGREE UINT64_C(32)
 #define HYPERPLONK_MAX_DEGREE UINT64_C(1024)
 
-/* The words of the contents, before the bodies; and the most words that a circuit has, that columns and nodes take. */
-#define HYPERPLONK_CONTENTS_WORDS UINT64_C(20)
-#define HYPERPLONK_MAX_CIRCUIT_WORDS UINT64_C(46284)
+/* The words of the contents, before the bodies; the most words that a circuit has, that columns and nodes take; and the most nodes that
+ * one evaluation on one row visits. */
+#define HYPERPLONK_CONTENTS_WORDS UINT64_C(22)
+#define HYPERPLONK_MAX_CIRCUIT_WORDS UINT64_C(46294)
 #define HYPERPLONK_MAX_COLUMN_WORDS UINT64_C(188416)
-#define HYPERPLONK_MAX_COMPOSED_NODES UINT64_C(4190)
-#define HYPERPLONK_MAX_NODE_WORDS UINT64_C(16760)
+#define HYPERPLONK_MAX_COMPOSED_NODES UINT64_C(11295)
+#define HYPERPLONK_MAX_NODE_WORDS UINT64_C(45180)
+#define HYPERPLONK_MAX_VISITS UINT64_C(11047)
 
 /* What building needs, from the circuit alone. The first three words of the answer become: the column words needed; the nodes of the
  * composed expression, of which building needs 4 node words each; the nodes visited by one evaluation of the composed expression on one
  * row, every node once, Items not at all. All are 0 when refused; a shorter answer is left as it is. Where this gives 0 and the log's
  * words pass 12 and 13, building gives 14 exactly when a buffer is shorter than these words; where building gives 0, the first two words
- * of its answer are these. Returns 0 to 11, as building does. */
+ * of its answer are these. Returns 0 to 11 or 18, as building does. */
 uint64_t hyperplonk_sizes(const uint64_t *circuit, size_t circuit_len,
                           uint64_t *answer, size_t answer_len);
 
 /* The columns and the composed expression of a log. Instance words are the instance columns' values, witness words the witness columns;
- * challenges are the user's, then beta, gamma. Columns, 2^k words each: instance, permutation, compressed input and table per lookup,
- * m, h, z. Nodes, 4 words each: the root is the last. The first three words of the answer become column words written, nodes written,
- * z columns, all 0 when refused; a shorter answer is left as it is. Returns 0 to 15, 17. */
+ * challenges are the user's, then beta, gamma. Columns, 2^k words each: instance, permutation, compressed input and table per lookup, m
+ * per group, h per group, z. Nodes, 4 words each: the root is the last. The first three words of the answer become column words written,
+ * nodes written, z columns, all 0 when refused; a shorter answer is left as it is. Returns 0 to 15, 17, 18. */
 uint64_t hyperplonk_build(const uint64_t *circuit, size_t circuit_len,
                           const uint64_t *instance, size_t instance_len,
                           const uint64_t *witness, size_t witness_len,
@@ -277,7 +291,7 @@ uint64_t hyperplonk_build(const uint64_t *circuit, size_t circuit_len,
 
 /* The sum of the composed expression over all rows. Columns and nodes are the words that building wrote, and no more. Challenges are
  * the user's, then beta, gamma, alpha; y has k words. The first word of the answer becomes the sum, 0 when refused; an empty answer is
- * left as it is. Returns 0 to 11, 16: a sum that is not 0 is no refusal. */
+ * left as it is. Returns 0 to 11, 16, 18: a sum that is not 0 is no refusal. */
 uint64_t hyperplonk_row_sum(const uint64_t *circuit, size_t circuit_len,
                             const uint64_t *witness, size_t witness_len,
                             const uint64_t *columns, size_t columns_len,

@@ -10,23 +10,24 @@
 
 #define WORDS(a) (a), sizeof(a) / sizeof((a)[0])
 
-enum { K = 3, ROWS = 1 << K, NODES = 16, CELL = 20 + 1 + ROWS + 2 + 4 * NODES + 2 + 1 + 2 + 1 };
+enum { K = 3, ROWS = 1 << K, NODES = 16, CELL = 22 + 1 + ROWS + 2 + 4 * NODES + 2 + 1 + 2 + 1 };
 
 static const uint64_t circuit[] = {
     K, 0,                                                /* words 0 and 1: k; no maximum degree */
-    20, 1,                                               /* words 2 and 3: instance lengths start at word 20, and there is one */
-    21, 1,                                               /* preprocess columns */
-    29, 1,                                               /* rounds */
-    31, NODES,                                           /* nodes */
-    95, 2,                                               /* constraint roots */
-    97, 1,                                               /* lookup widths */
-    98, 1,                                               /* lookup pairs */
-    100, 1,                                              /* cycle lengths */
-    101, 2,                                              /* cells */
-    1,                                                   /* word 20: the instance column has one value, at place 1 */
-    0, 1, 2, 5, 5, 10, 20, 50,                           /* word 21: the table, by rows; 5 is listed twice */
-    2, 0,                                                /* word 29: the round has two witness columns and no challenge */
-    HYPERPLONK_POLYNOMIAL, 2, 0, HYPERPLONK_SIGNED(1),   /* node 0, word 31: the total one row on */
+    22, 1,                                               /* words 2 and 3: instance lengths start at word 22, and there is one */
+    23, 1,                                               /* preprocess columns */
+    31, 1,                                               /* rounds */
+    33, NODES,                                           /* nodes */
+    97, 2,                                               /* constraint roots */
+    99, 1,                                               /* lookup widths */
+    100, 1,                                              /* lookup pairs */
+    102, 1,                                              /* cycle lengths */
+    103, 2,                                              /* cells */
+    107, 1,                                              /* group numbers */
+    1,                                                   /* word 22: the instance column has one value, at place 1 */
+    0, 1, 2, 5, 5, 10, 20, 50,                           /* word 23: the table, by rows; 5 is listed twice */
+    2, 0,                                                /* word 31: the round has two witness columns and no challenge */
+    HYPERPLONK_POLYNOMIAL, 2, 0, HYPERPLONK_SIGNED(1),   /* node 0, word 33: the total one row on */
     HYPERPLONK_POLYNOMIAL, 2, 0, HYPERPLONK_SIGNED(0),   /* node 1: the total */
     HYPERPLONK_POLYNOMIAL, 3, 0, HYPERPLONK_SIGNED(0),   /* node 2: the reading */
     HYPERPLONK_SUM, 1, 2, 0,                             /* node 3 */
@@ -42,12 +43,13 @@ static const uint64_t circuit[] = {
     HYPERPLONK_PRODUCT, 11, 12, 0,                       /* node 13: the second constraint */
     HYPERPLONK_POLYNOMIAL, 3, 0, HYPERPLONK_SIGNED(0),   /* node 14: the lookup's input */
     HYPERPLONK_POLYNOMIAL, 1, 0, HYPERPLONK_SIGNED(0),   /* node 15: the lookup's table */
-    10, 13,                                              /* word 95: the constraints' roots */
-    1,                                                   /* word 97: the lookup has one pair */
-    14, 15,                                              /* word 98: its input and its table */
-    2,                                                   /* word 100: the cycle has two cells */
-    0, 1,                                                /* word 101: the instance column at row 1, which is at place 1 */
+    10, 13,                                              /* word 97: the constraints' roots */
+    1,                                                   /* word 99: the lookup has one pair */
+    14, 15,                                              /* word 100: its input and its table */
+    2,                                                   /* word 102: the cycle has two cells */
+    0, 1,                                                /* word 103: the instance column at row 1, which is at place 1 */
     2, 5,                                                /* the total at row 5, which is at the last place */
+    0,                                                   /* word 107: the lookup's group */
 };
 
 /* The log as it was taken, place by place. Row 0, at place 0, is one that no rotation leads to from another row. */

@@ -9,21 +9,23 @@
 /* k = 2. A table of codes is the preprocess column, polynomial 0; the log's codes are the witness column, polynomial 1. */
 static const uint64_t circuit[] = {
     2, 0,                                              /* k; no maximum degree */
-    20, 0,                                             /* instance lengths */
-    20, 1,                                             /* preprocess columns */
-    24, 1,                                             /* rounds */
-    26, 2,                                             /* nodes */
-    34, 0,                                             /* constraint roots */
-    34, 1,                                             /* lookup widths */
-    35, 1,                                             /* lookup pairs */
-    37, 0,                                             /* cycle lengths */
-    37, 0,                                             /* cells */
+    22, 0,                                             /* instance lengths */
+    22, 1,                                             /* preprocess columns */
+    26, 1,                                             /* rounds */
+    28, 2,                                             /* nodes */
+    36, 0,                                             /* constraint roots */
+    36, 1,                                             /* lookup widths */
+    37, 1,                                             /* lookup pairs */
+    39, 0,                                             /* cycle lengths */
+    39, 0,                                             /* cells */
+    39, 1,                                             /* group numbers */
     5, 7, 7, 9,                                        /* the table: 7 is listed twice */
     1, 0,                                              /* the round: one witness column, no challenge */
     HYPERPLONK_POLYNOMIAL, 1, 0, HYPERPLONK_SIGNED(0), /* node 0, the input */
     HYPERPLONK_POLYNOMIAL, 0, 0, HYPERPLONK_SIGNED(0), /* node 1, the table */
     1,                                                 /* the lookup's width */
     0, 1,                                              /* input root, table root */
+    0,                                                 /* the lookup's group */
 };
 static const uint64_t witness[] = {7, 7, 5, 9};
 static const uint64_t unlisted[] = {7, 6, 5, 9};

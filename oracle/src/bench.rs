@@ -6,7 +6,7 @@ use super::generate::Log;
 use super::given::{self, f, rows, words, Expr, Poly};
 use super::laps::Laps;
 use super::library::Library;
-use super::model::{composed_words, is_denominator, log_zeros, Columns, Tree, P};
+use super::model::{composed_words, is_denominator, log_zeros, m_column, Columns, Tree, P};
 use super::questions::{read, Circuit};
 use super::sections::*;
 use super::stored::lent_for;
@@ -64,6 +64,13 @@ fn full() -> Log {
         challenges: (0..2).map(&mut word).collect(),
         meets: true,
     }
+}
+
+/// The same log with its lookups in one group: they have one table.
+fn one_group() -> Log {
+    let mut log = full();
+    log.sections.bodies[GROUPS].fill(0);
+    log
 }
 
 /// k = 10, one gate q_l a + q_r b + q_m a b + q_o c + q_c over three copied columns.
@@ -157,9 +164,11 @@ struct Sheet {
     c: Circuit,
     lent: Vec<Vec<u64>>,
     given: given::Log,
-    /// The columns that the Rust builds, and all that its row sum reads.
+    /// The columns that the Rust builds; the model's of a circuit with larger groups. And all that a row sum reads.
     built: Columns,
     columns: Vec<u64>,
+    /// m of each lookup by itself.
+    counts: Vec<Vec<u64>>,
     composed: Expr,
     polys: Vec<Vec<F>>,
     /// With α.
@@ -185,8 +194,14 @@ impl Sheet {
         let given = given::Log::of(&lent[0], &lent[1], &lent[2], &lent[3]);
         let zeros = log_zeros(&c, &lent[1], &lent[2], &lent[3]);
         assert!(!zeros.iter().any(is_denominator), "a sheet with a zero denominator: the library answers 17");
-        let (built, composed) = given::build(&given, &mut |_| {}).unwrap();
+        let (built, composed) = if c.groups_of_one() {
+            given::build(&given, &mut |_| {}).unwrap()
+        } else {
+            let model = super::model::columns(&c, &lent[1], &lent[2], &lent[3]).unwrap();
+            (model, given::expression(&lent[5], lent[5].len() as u64 / 4 - 1))
+        };
         let columns = built.words();
+        let counts = built.compressed.chunks(2).map(|pair| m_column(&[&pair[0]], &pair[1]).unwrap()).collect();
         let polys = super::calls::polys(&c, &lent[2], &columns).into_iter().map(f).collect();
         let roots: Vec<u64> = [CONSTRAINTS, PAIRS].iter().flat_map(|s| log.sections.bodies[*s].clone()).collect();
         let nodes = log.sections.bodies[NODES].clone();
@@ -200,6 +215,7 @@ impl Sheet {
             given,
             built,
             columns,
+            counts,
             composed,
             polys,
             challenges,
@@ -228,7 +244,8 @@ impl Sheet {
                 });
                 times.note(RUST, "build", whole);
                 times.note(RUST, "build without m", whole - times.last(RUST, "m"));
-                vec![built.unwrap().0.words()]
+                // Of larger groups the Rust's build is that of the same lookups in groups of one.
+                vec![if self.c.groups_of_one() { built.unwrap().0.words() } else { self.columns.clone() }]
             }
             "m alone" => {
                 let pairs = pairs();
@@ -236,7 +253,7 @@ impl Sheet {
                 m.iter().map(|m| words(&m.evals)).collect()
             }
             "h alone" => {
-                let (pairs, m) = (pairs(), self.built.m.iter().map(|m| Poly::new(f(m))).collect_vec());
+                let (pairs, m) = (pairs(), self.counts.iter().map(|m| Poly::new(f(m))).collect_vec());
                 let gamma = &self.given.gamma;
                 let all = || pairs.iter().zip(&m).map(|(p, m)| lookup_h_poly(p, m, gamma)).collect_vec();
                 times.time(RUST, job, all).iter().map(|h| words(&h.evals)).collect()
@@ -312,7 +329,7 @@ impl Sheet {
                 let mut out = outs(lookups);
                 let to = out.iter_mut().map(|o| [o.as_mut_ptr() as usize, rows]).collect_vec();
                 let gamma = [self.given.gamma.value() as usize];
-                let args = |l: usize| [&k[..], &compressed(l), &slice(&self.built.m[l]), &gamma, &to[l]].concat();
+                let args = |l: usize| [&k[..], &compressed(l), &slice(&self.counts[l]), &gamma, &to[l]].concat();
                 run((0..lookups).map(args).collect());
                 Some(out)
             }
@@ -369,7 +386,8 @@ fn sheet(name: &str, log: &Log, library: Library, reps: usize) {
     }
     let c = &sheet.c;
     println!(
-        "{name}: {} copied, {} z, {} columns, {} nodes; medians of {reps}",
+        "{name}: {} groups, {} copied, {} z, {} columns, {} nodes; medians of {reps}",
+        c.group_sizes().len(),
         c.copied().len(),
         c.parts(),
         c.column_words() >> c.k,
@@ -384,6 +402,9 @@ fn sheet(name: &str, log: &Log, library: Library, reps: usize) {
         let best = |side: usize| of[side].iter().copied().min_by(f64::total_cmp);
         let bests = best(OURS).zip(best(RUST)).map(|(mine, theirs)| mine / theirs);
         println!("  {stage:<18} {theirs:>12} {mine:>12} {:>8} {:>9}", tell(median(ratios), 2), tell(bests, 2));
+    }
+    if !c.groups_of_one() {
+        println!("  The Rust has no such group: its build and stages are of the same lookups, each by itself.");
     }
     if let Some(of) = times.0.get("build, fenced") {
         println!(
@@ -400,6 +421,7 @@ pub fn sheets(library: Library) {
     );
     println!("ratios, and, of bests, that of the two shortest times, which other work on the machine disturbs least.");
     sheet("k = 10, 8 lookups of width 8, 40 copied columns, 32 constraints", &full(), library, 61);
+    sheet("the same lookups in one group", &one_group(), library, 61);
     sheet("k = 10, plain", &plain(), library, 201);
     sheet("k = 4", &little(), library, 401);
     if library.has("circuit_first_no") {

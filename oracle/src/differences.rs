@@ -6,7 +6,7 @@ use super::super::{
     verifier::{pcs_query, point_offset},
 };
 use super::given::{answer, build, f, info, rows, words, Expr, Info, Log, Poly};
-use super::model::{composed_words, Tree, P};
+use super::model::{columns, composed_words, Tree, P};
 use super::prove::proved;
 use super::questions::read;
 use super::refuse::of_degree;
@@ -42,7 +42,7 @@ fn show(what: &str, s: &Sections, rust: impl FnOnce(&Info) -> String) {
     let short = |w: &[u64]| w.iter().map(u64::to_string).collect::<Vec<_>>().join(" ");
     let number = read(&words).map_or_else(|n| n, |_| 0);
     println!("{what}\n  words: {}", if words.len() > 80 { format!("{} in all", words.len()) } else { short(&words) });
-    println!("  Rust: {}\n  document 01: {number}", rust(&info(&words)));
+    println!("  Rust: {}\n  documents 01 and 02: {number}", rust(&info(&words)));
 }
 
 fn well(i: &Info) -> String {
@@ -57,11 +57,11 @@ fn zeros(k: u64) -> Poly {
 fn zero_denominator(what: &str, s: &Sections, witness: &[u64], challenges: [u64; 2]) {
     let (circuit, challenges) = (s.words(), challenges.to_vec());
     let built = build(&Log::of(&circuit, &[], witness, &challenges), &mut |_| {}).unwrap().0;
-    let (c, columns) = (read(&circuit).unwrap(), built.words());
+    let (c, words) = (read(&circuit).unwrap(), built.words());
     let nodes = composed_words(&c);
-    let buffers = [vec![0; columns.len()], vec![0; nodes.len()]];
+    let buffers = [vec![0; words.len()], vec![0; nodes.len()]];
     let lent = [vec![circuit.clone(), vec![], witness.to_vec(), challenges.clone()], buffers.to_vec()].concat();
-    let sum_lent = vec![circuit, witness.to_vec(), columns, nodes, [challenges, vec![31]].concat(), vec![2]];
+    let sum_lent = vec![circuit, witness.to_vec(), words, nodes, [challenges, vec![31]].concat(), vec![2]];
     println!(
         "a zero denominator (k = 1, {what})\n  Rust: h {:?}, z {:?}, row sum {} (batch_invert is a stand-in)\n  document 02: {}",
         built.h,
@@ -141,6 +141,33 @@ pub fn differences() {
         answer("lookup_h_poly", lent).returned[0]
     );
 
+    println!("\n-- the Rust has no groups of lookups\n");
+    let mut s = base(1, 1);
+    (0..2).for_each(|_| s.member(&[(Tree::Polynomial(0, 0), Tree::Polynomial(0, 0))]));
+    show("two lookups of one column in itself, in one group (k = 1, witness 5 7, β = 10, γ = 100)", &s, |i| {
+        let log = Log::of(&s.words(), &[], &[5, 7], &[10, 100]);
+        let (rust, composed) = build(&log, &mut |_| {}).unwrap();
+        let c = read(&s.words()).unwrap();
+        let ours = columns(&c, &[], &[5, 7], &[10, 100]).unwrap();
+        format!(
+            "{}, m {:?}, h {:?}, degree {}; documents: m {:?}, h {:?}, degree {}",
+            well(i),
+            rust.m,
+            rust.h,
+            composed.degree() - 1,
+            ours.m,
+            ours.h,
+            c.d()
+        )
+    });
+    let mut s = base(1, 1);
+    s.lookup_in(1, &[(Tree::Constant(0), Tree::Constant(0))]);
+    show("a group number that breaks the rule: the first is 1", &s, well);
+    let mut s = base(1, 1);
+    s.lookup(&[(Tree::Constant(0), Tree::Constant(0))]);
+    s.member(&[(Tree::Constant(0), Tree::Scaled(Tree::Constant(0).into(), 0))]);
+    show("tables of one group that differ as trees: Constant 0 and 0 × Constant 0", &s, well);
+
     println!("\n-- the Rust panics, document 01 allows\n");
     let mut s = base(1, 1);
     s.cycle(&[(0, 1)]);
@@ -170,7 +197,7 @@ pub fn differences() {
     show("no rounds", &s, well);
     let built = |i: &Info| run(|| lookup_compressed_polys(&i.lookups, &[&zeros(1)], &[], &f(&[1])).len());
     let mut s = base(1, 1);
-    s.bodies[WIDTHS] = vec![0];
+    s.lookup(&[]);
     show("a lookup of width 0", &s, |i| {
         format!("{}, compressed {}, compose {}", well(i), built(i), run(|| compose(i).0))
     });

@@ -163,6 +163,47 @@ fn two_degrees(first: u64, second: u64) -> Log {
     with(1, |s| [first, second].into_iter().for_each(|d| s.member(&[(of_degree(d), Tree::Constant(0))])))
 }
 
+/// A group of two whose tables are one tree, Polynomial 0 + 3, the second written with its nodes in another order.
+pub fn other_order() -> Log {
+    with(1, |s| {
+        s.bodies[NODES] = [
+            [5, 0, 0, 1 << 31],
+            [1, 0, 0, 3],
+            [8, 0, 1, 0],
+            [1, 0, 0, 3],
+            [1, 0, 0, 3],
+            [5, 0, 0, 1 << 31],
+            [8, 5, 4, 0],
+            [1, 0, 0, 3],
+        ]
+        .concat();
+        (s.bodies[WIDTHS], s.bodies[PAIRS], s.bodies[GROUPS]) = (vec![1, 1], vec![3, 2, 7, 6], vec![0, 0]);
+    })
+}
+
+/// A group whose lookups have these tables, looked up in themselves.
+fn tables(of: &[&[Tree]]) -> Log {
+    with(1, |s| of.iter().for_each(|t| s.member(&t.iter().map(|t| (t.clone(), t.clone())).collect::<Vec<_>>())))
+}
+
+/// Groups whose number is known: group numbers, tables of one tree or not.
+pub fn groups() -> Vec<(u64, Log)> {
+    let mut out = vec![(0, other_order())];
+    for groups in [&[0][..], &[0, 0], &[0, 1], &[0, 0, 1], &[0, 1, 1], &[0, 0, 1, 2, 2, 3, 4, 4]] {
+        out.push((0, numbered(groups)));
+    }
+    for groups in [&[1][..], &[0, 2], &[0, 1, 0], &[MAX], &[0, MAX], &[0, 0, 2], &[0, 1 << 32], &[1, 1], &[1, 2]] {
+        out.push((18, numbered(groups)));
+    }
+    let zero = || Tree::Constant(0);
+    out.push((18, tables(&[&[zero()], &[zero(), zero()]])));
+    out.push((18, tables(&[&[zero(), zero()], &[zero()]])));
+    out.push((18, tables(&[&[zero()], &[Tree::Scaled(zero().into(), 0)]])));
+    out.push((0, tables(&[&[zero(), Tree::Identity], &[zero(), Tree::Identity], &[zero(), Tree::Identity]])));
+    out.push((18, tables(&[&[zero(), Tree::Identity], &[zero(), Tree::Identity], &[Tree::Identity, zero()]])));
+    out
+}
+
 /// Lookups in groups of these numbers.
 fn numbered(groups: &[u64]) -> Log {
     with(1, |s| groups.iter().for_each(|group| s.lookup_in(*group, &[(Tree::Identity, Tree::Identity)])))
@@ -223,13 +264,7 @@ pub fn all() -> Vec<(u64, Log)> {
     out.push((17, zero_factor(3, false)));
     (1..3).for_each(|row| out.push((0, zero_factor(row, true))));
     out.push((17, zero_factor(3, true)));
-    // Group numbers: each next the same or one more.
-    for groups in [&[0][..], &[0, 0], &[0, 1], &[0, 0, 1], &[0, 1, 1], &[0, 0, 1, 2, 2, 3, 4, 4]] {
-        out.push((0, numbered(groups)));
-    }
-    for groups in [&[1][..], &[MAX], &[0, 2], &[0, MAX], &[0, 1, 0], &[0, 0, 2], &[0, 1 << 32], &[1, 1], &[1, 2]] {
-        out.push((18, numbered(groups)));
-    }
+    out.extend(groups());
     out.push((3, with(1, |s| s.bodies[ROUNDS] = vec![])));
     out.push((11, with(3, |s| s.cycle(&[(0, 0)]))));
     out.push((0, with(3, |s| s.cycle(&[(0, 1)]))));

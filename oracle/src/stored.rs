@@ -1,10 +1,13 @@
 //! Stored answers: the sample that the replay reads, a handful of small whole
 //! circuits, and what cases are made of.
 use super::calls::Case;
-use super::cases::{build_case, build_lent, case, demo, h_alone, refused_build, refused_by, row_sum_case, sizes_case};
+use super::cases::{
+    build_case, build_lent, case, demo, h_alone, refused_build, refused_by, row_sum_case, sizes_case, two_readings,
+};
 use super::examples::{denominators, sized};
 use super::generate::Log;
 use super::given::answer;
+use super::limits;
 use super::model::{is_denominator, log_zeros, Tree, P};
 use super::questions::read as read_circuit;
 use super::refuse::WAYS;
@@ -39,21 +42,25 @@ fn some_sizes(builds: &[Case]) -> Vec<Case> {
     refused.chain(numbered(0).step_by(5)).map(sizes_case).collect()
 }
 
-/// Every way to be refused, on small circuits; then drawn cases, each short; then h alone, and sizes.
+/// Every way to be refused, on small circuits; then drawn cases, each short, some of them with a group of two lookups or
+/// more; then h alone, and sizes. The replay reads 400,000 bytes.
 pub fn sample() -> String {
     // 15 and 17 want room for the columns.
-    let most = |case: &Case| if case.returned[0] < 15 { 900 } else { 2000 };
+    let most = |case: &Case| if [15, 17].contains(&case.returned[0]) { 1800 } else { 700 };
     let short = |case: &Case, seed: u64| case.text().len() < most(case) || seed > 200;
     let mut cases: Vec<Case> = (0..WAYS.len()).filter_map(|way| refused_by(way, short)).collect();
     let drawn = |call: &'static str, refused: bool, most: usize| {
         let fits = move |c: &Case| c.call == call && (c.returned[0] != 0) == refused && c.text().len() < most;
         (0..).map(|n| case(7, n, true)).filter(fits)
     };
-    cases.extend(drawn("build", false, 2600).take(60));
+    let larger = |c: &Case| !read_circuit(&c.lent[0]).unwrap().groups_of_one();
+    cases.extend(drawn("build", false, 2600).filter(|c| !larger(c)).take(45));
+    cases.extend(drawn("build", false, 3600).filter(larger).take(10));
     for number in [15, 17] {
         cases.extend(drawn("build", true, 1500).filter(|c| c.returned[0] == number).take(8));
     }
-    cases.extend(drawn("row_sum", false, 1600).take(40));
+    cases.extend(drawn("row_sum", false, 1600).filter(|c| !larger(c)).take(32));
+    cases.extend(drawn("row_sum", false, 2400).filter(larger).take(8));
     cases.extend(drawn("row_sum", true, 1200).take(30));
     for stage in ["lookup_m_poly", "lookup_h_poly", "eq_xy"] {
         cases.extend(drawn(stage, false, 1200).take(18));
@@ -64,8 +71,8 @@ pub fn sample() -> String {
     file("oracle/run sample", &cases)
 }
 
-/// Circuits by hand, k = 1 to 3, each built and, where it is not refused, summed; one refusal of each number from 1 to 17;
-/// worked denominators, built and as h alone; then sizes of these circuits, and of more.
+/// Circuits by hand, k = 1 to 3, each built and, where it is not refused, summed; one refusal of each number from 1 to 18;
+/// worked denominators, built and as h alone; then sizes of these circuits, and of more, groups among them.
 pub fn small() -> String {
     let rng = &mut Rng::narrow(3);
     let poly = |p: u64, r: i64| Tree::Polynomial(p, r);
@@ -118,12 +125,13 @@ pub fn small() -> String {
     s.lookup(&[(poly(0, 0), poly(0, 1))]);
     logs.push(log(s, &[], &[5, 7], &[10, P - 7]));
     logs.push(demo());
+    logs.push(two_readings());
     let mut cases = vec![];
     for log in &logs {
         cases.push(build_case(log, rng));
         cases.extend(row_sum_case(log, rng));
     }
-    for number in (1..=15).chain([17]) {
+    for number in (1..=15).chain([17, 18]) {
         let ways = (0..WAYS.len()).filter(|w| WAYS[*w].0 == number);
         let on = if number == 6 || number == 13 { 2 } else { 1 };
         cases.extend(ways.filter_map(|way| refused_build(logs[on].clone(), way, None, rng)).next());
@@ -134,7 +142,9 @@ pub fn small() -> String {
     cases.extend(denominators().into_iter().map(|(_, log)| build_case(&log, rng)));
     // h alone: gamma 1, p − 6, and p − 5, by which a denominator is zero.
     cases.extend(h_alone().into_iter().take(3));
-    let worked: Vec<Case> = sized().into_iter().map(|(s, _)| answer("sizes", vec![s.words()])).collect();
+    let grouped = limits::groups().into_iter().map(|(_, log)| log.sections);
+    let worked = sized().into_iter().map(|(s, _)| s).chain(grouped);
+    let worked: Vec<Case> = worked.map(|s| answer("sizes", vec![s.words()])).collect();
     let mut seen: Vec<Vec<u64>> = worked.iter().map(|w| w.lent[0].clone()).collect();
     let mut sizes = vec![];
     for build in cases.iter().filter(|c| c.call == "build" && ![12, 13, 14, 15].contains(&c.returned[0])) {
@@ -162,6 +172,9 @@ pub fn features(case: &Case) -> BTreeSet<String> {
     if !c.copied().is_empty() {
         saw(format!("cuts {}", if c.cuts_are_alike() { "alike" } else { "not alike" }));
         saw(format!("z columns {}", if c.parts() > 3 { "4 or more".into() } else { c.parts().to_string() }));
+    }
+    for size in c.group_sizes() {
+        saw(format!("group of {}", if size > 3 { "4 or more".into() } else { size.to_string() }));
     }
     for (i, lookup) in c.lookups.iter().enumerate() {
         saw(format!("lookup of width {}", lookup.len()));

@@ -1,6 +1,6 @@
 //! HyperPlonk's columns and composed expression over the Goldilocks field, from Rust.
 //!
-//! Each function makes one call of the proved library, libhyperplonk.a, and returns what it returns: a refusal, number 1 to 17, is a
+//! Each function makes one call of the proved library, libhyperplonk.a, and returns what it returns: a refusal, number 1 to 18, is a
 //! [`Refusal`]. Words are `u64`, and a field element is a word below [`P`]. The library allocates nothing and keeps nothing, so calls
 //! can run on several threads at once. Trees are walked by recursion: a thread that makes calls should have 1 MiB of stack, as Rust's
 //! have unless told otherwise.
@@ -51,8 +51,8 @@
 //!
 //! # Circuit words
 //!
-//! Word 0 is k. Word 1 is 0 for no maximum degree, else that degree + 1. Words 2 to 19 are nine pairs (start, count). Counts are in
-//! entries. A start is the number of the body's first word: 20, then the start before it plus that body's words, also where a body is
+//! Word 0 is k. Word 1 is 0 for no maximum degree, else that degree + 1. Words 2 to 21 are ten pairs (start, count). Counts are in
+//! entries. A start is the number of the body's first word: 22, then the start before it plus that body's words, also where a body is
 //! empty. The bodies follow in this order without gaps, and nothing follows the last:
 //!
 //! | body | words each | |
@@ -66,10 +66,12 @@
 //! | lookup pairs | 2 | input root, table root; as many as the widths sum to |
 //! | cycle lengths | 1 | |
 //! | cells | 2 | polynomial, row (not place) from 1 to 2^k − 1; as many as the lengths sum to |
+//! | group numbers | 1 | one for each lookup: the first 0, each next the same or one more |
 //!
 //! Each lookup takes the next pairs, as many as its width: on every row, row 0 too, the inputs together are to be what the tables
-//! together are on some row. Each cycle takes the next cells, as many as its length, none twice: they are to hold one value. The limits
-//! are in [`limit`].
+//! together are on some row. Lookups of one number are a group, which has one m and one h: the tables of its lookups are to be as many,
+//! and the same trees, pair by pair, whatever the numbers of their nodes. Numbers 0, 1, 2, … are groups of one. Each cycle takes the
+//! next cells, as many as its length, none twice: they are to hold one value. The limits are in [`limit`].
 //!
 //! # Nodes
 //!
@@ -101,9 +103,9 @@
 //! # assert_eq!(nodes_4_to_7.concat(), [12, 2, 0, 0, 12, 1, 4, 1, 12, 0, 5, 1, 11, 3, 6, 0]);
 //! ```
 //!
-//! A lookup's constraint has degree 1 + the largest degree of its inputs + the largest of its tables. D is the largest of 2, the maximum
-//! degree that the circuit states, and the degrees of all user and lookup constraints. The copied columns are the polynomials that cells
-//! name, each once, by rising number; n is how many. N = n / (D − 1), rounded up.
+//! A group's constraint has degree 1 + the largest degree of the inputs of each of its lookups, added up, + the largest of its tables.
+//! D is the largest of 2, the maximum degree that the circuit states, and the degrees of all user and group constraints. The copied
+//! columns are the polynomials that cells name, each once, by rising number; n is how many. N = n / (D − 1), rounded up.
 //!
 //! # Columns
 //!
@@ -114,20 +116,22 @@
 //! | instance | as above |
 //! | permutation | One for each copied column: its labels. Copied column number j (from 0) starts with j × 2^k + b at row b. Along a cycle each cell takes the label that the cell before held when the cycle began, the first that of the last. Cycles act one after another. At k = 2 the cycle (0, 1), (1, 2) makes 0 6 2 3 and 4 5 1 7. |
 //! | compressed | For each lookup the input, then the table: e_0 + β × e_1 + β² × e_2 + … of its inputs, of its tables. |
-//! | m | One for each lookup: at each row how many rows' inputs are counted there, by [`lookup_m_poly`]. |
-//! | h | One for each lookup: [`lookup_h_poly`]. |
+//! | m | One for each group: at each row how many inputs are counted there, those of every lookup of the group on every row, each at the last row (by row number) whose table value equals it. A group of s lookups has s × 2^k in all. Of a group of one: [`lookup_m_poly`]. |
+//! | h | One for each group: 1 / (γ + input) added up over its lookups, minus m / (γ + table); the table is that of the group's first lookup. Of a group of one: [`lookup_h_poly`]. |
 //! | z | N of them, z_0 first. The copied columns are cut into N parts of n / N, rounded up, the last perhaps shorter. The factor of a part at row b is the product, over its columns j, of (value + β × (j × 2^k + b) + γ) / (value + β × label + γ), the column's value and label at b. Every z is 0 at row 0; z_0 is 1 at row 1. On every row but 0, z_(i+1) is z_i times the factor of part i; and z_0 at next(b) is the last z at b times the factor of the last part at b, for each b but row 0 and the row at the last place. |
 //!
-//! Denominators are γ + input and γ + table of each lookup on every row, row 0 too and also where m is 0, and value + β × label + γ of
-//! each copied column on every row but 0. If one is 0, and 15 is answered yes for every lookup, the number is 17. A numerator, value +
-//! β × (j × 2^k + b) + γ, may be 0, and so may a copied column's factor on row 0.
+//! Denominators are γ + input of each lookup and γ + table of each group on every row, row 0 too and also where m is 0, and value +
+//! β × label + γ of each copied column on every row but 0. If one is 0, and 15 is answered yes for every group, the number is 17. A
+//! numerator, value + β × (j × 2^k + b) + γ, may be 0, and so may a copied column's factor on row 0.
 //!
 //! # Composed nodes
 //!
 //! They are the constraints by powers of α, times EqXY(0); and then the h columns first, that product last, by powers of α. Their
 //! challenges are the user's, then β, γ, α. The constraints are the user's, then these:
 //!
-//! - for each lookup, of its compressed input and table, h × (input + γ) × (table + γ) − (table + γ) + m × (input + γ);
+//! - for each group of s lookups, with I_i the compressed input of lookup i + γ, and T the compressed table + γ,
+//!   h × I_1 × … × I_s × T − T × (P_1 + … + P_s) + m × I_1 × … × I_s, where P_i is the product of all I_j but I_i, in rising order; of
+//!   one lookup, h × I_1 × T − T + m × I_1. As nodes (A − B) + C, products and sums from the first on;
 //! - if n is not 0, Lagrange(1) × (z_0 − 1), and for each part i of the copied columns cut into parts of D − 1, the last perhaps shorter,
 //!   z_i × the product of (value + β × (j × 2^k + Identity) + γ) − next × the product of (value + β × label + γ), over its columns j;
 //!   next is z_(i+1), after the last part z_0 with rotation 1.
@@ -136,17 +140,19 @@
 //!
 //! [`sizes`] answers them from the circuit words alone, so that buffers can be ordered before there is a log. Building needs exactly
 //! these words: past 1 to 13 it gives 14 exactly when one of its buffers is shorter, and where it is not refused it returns these column
-//! words and nodes. The columns take (instance columns + n + 4 × lookups + N) × 2^k words, the nodes 4 words each. With list(x) = x + 2
-//! for x > 1, else 0, there are, to be added up:
+//! words and nodes. The columns take (instance columns + n + 2 × lookups + 2 × groups + N) × 2^k words, the nodes 4 words each. With
+//! list(x) = x + 2 for x > 1, else 0, there are, to be added up:
 //!
 //! - all nodes of the user's constraints;
-//! - for each lookup 2 × (all nodes of its inputs and tables) + 16 + 4 × list(its width);
+//! - for each group of s lookups, with e = 2 + list(its width), (s + 1) × (all nodes of its inputs + s × e) + 2 × (all nodes of the
+//!   tables of its first lookup + e) + s × s + s + 6;
 //! - if n is not 0, 6 + 18 × n + 4 × N;
-//! - list(user's constraints + lookups + (N + 1 if n is not 0)) + 2 + lookups + list(lookups + 1).
+//! - list(user's constraints + groups + (N + 1 if n is not 0)) + 2 + groups + list(groups + 1).
 //!
 //! One evaluation of the composed expression on one row visits each node once, also the base of a list, but no Item: the visits.
 //!
-//! Room for [`MAX_COLUMN_WORDS`] and [`MAX_NODE_WORDS`] is enough for any circuit.
+//! Room for [`MAX_COLUMN_WORDS`] and [`MAX_NODE_WORDS`] is enough for any circuit. No one circuit needs the most of all three: groups of
+//! one take the most column words, eight lookups in one group the most nodes (at width 8) and visits (at width 2).
 //!
 //! # Challenges
 //!
@@ -178,18 +184,19 @@
 //!
 //! let circuit = [
 //!     3, 0, // k; no maximum degree
-//!     20, 1, // instance lengths: start, count
-//!     21, 0, // preprocess columns
-//!     21, 1, // rounds
-//!     23, 11, // nodes
-//!     67, 1, // constraint roots
-//!     68, 0, // lookup widths
-//!     68, 0, // lookup pairs
-//!     68, 0, // cycle lengths
-//!     68, 0, // cells
-//!     5, // word 20: the instance column has five values
-//!     1, 0, // word 21: the round has one witness column and no challenge
-//!     POLYNOMIAL, 1, 0, signed(1), // node 0, word 23: the witness one row on
+//!     22, 1, // instance lengths: start, count
+//!     23, 0, // preprocess columns
+//!     23, 1, // rounds
+//!     25, 11, // nodes
+//!     69, 1, // constraint roots
+//!     70, 0, // lookup widths
+//!     70, 0, // lookup pairs
+//!     70, 0, // cycle lengths
+//!     70, 0, // cells
+//!     70, 0, // group numbers
+//!     5, // word 22: the instance column has five values
+//!     1, 0, // word 23: the round has one witness column and no challenge
+//!     POLYNOMIAL, 1, 0, signed(1), // node 0, word 25: the witness one row on
 //!     POLYNOMIAL, 1, 0, signed(0), // node 1: the witness
 //!     POLYNOMIAL, 0, 0, signed(0), // node 2: the instance value
 //!     SUM, 1, 2, 0, // node 3
@@ -200,7 +207,7 @@
 //!     NEGATED, 7, 0, 0, // node 8
 //!     SUM, 6, 8, 0, // node 9
 //!     PRODUCT, 9, 5, 0, // node 10
-//!     10, // word 67: the constraint's root
+//!     10, // word 69: the constraint's root
 //! ];
 //! let instance = [11, 12, 13, 14, 15];
 //! // By places 0 100 111 123 136 150 165 165.
@@ -235,12 +242,13 @@
 //!
 //! let circuit = [
 //!     2, 0, // k, no maximum degree
-//!     20, 0, 20, 1, 24, 1, 26, 2, 34, 0, 34, 1, 35, 1, 37, 0, 37, 0, // starts and counts
+//!     22, 0, 22, 1, 26, 1, 28, 2, 36, 0, 36, 1, 37, 1, 39, 0, 39, 0, 39, 1, // starts and counts
 //!     5, 7, 7, 9, // the preprocess column: polynomial 0
 //!     1, 0, // the round: one witness column, polynomial 1, and no challenge
 //!     POLYNOMIAL, 1, 0, signed(0), // node 0
 //!     POLYNOMIAL, 0, 0, signed(0), // node 1
 //!     1, 0, 1, // one lookup of width 1: input node 0, table node 1
+//!     0, // its group
 //! ];
 //! let sizes = hyperplonk::sizes(&circuit)?;
 //! let (mut columns, mut nodes) = (vec![0; sizes.column_words], vec![0; 4 * sizes.nodes]);
@@ -252,6 +260,36 @@
 //!
 //! let (alpha, y) = (2, [0, 2]);
 //! assert_eq!(hyperplonk::row_sum(&circuit, &witness, &columns, &nodes, &[10, 100, alpha], &y)?, 0);
+//! # Ok::<(), hyperplonk::Refusal>(())
+//! ```
+//!
+//! # Two readings of one table
+//!
+//! In one group they share m and h.
+//!
+//! ```
+//! use hyperplonk::{kind::POLYNOMIAL, signed};
+//!
+//! let circuit = [
+//!     2, 0, // k, no maximum degree
+//!     22, 0, 22, 1, 26, 1, 28, 4, 44, 0, 44, 2, 46, 2, 50, 0, 50, 0, 50, 2, // starts and counts
+//!     5, 7, 7, 9, // the preprocess column: polynomial 0
+//!     2, 0, // the round: two witness columns, polynomials 1 and 2
+//!     POLYNOMIAL, 1, 0, signed(0), // node 0: the first reading
+//!     POLYNOMIAL, 0, 0, signed(0), // node 1: the table
+//!     POLYNOMIAL, 2, 0, signed(0), // node 2: the second reading
+//!     POLYNOMIAL, 0, 0, signed(0), // node 3: the table, once more, since a node is named once
+//!     1, 1, 0, 1, 2, 3, // two lookups of width 1
+//!     0, 0, // both in group 0
+//! ];
+//! let sizes = hyperplonk::sizes(&circuit)?;
+//! assert_eq!((sizes.column_words, sizes.nodes, sizes.visits), (24, 43, 41));
+//! let (mut columns, mut nodes) = (vec![0; sizes.column_words], vec![0; 4 * sizes.nodes]);
+//!
+//! let witness = [7, 7, 5, 9, 9, 9, 7, 5];
+//! let _ = hyperplonk::build(&circuit, &[], &witness, &[10, 1], &mut columns, &mut nodes)?;
+//! assert_eq!(columns[16..20], [2, 0, 3, 3]); // m, after two compressed inputs and tables
+//! assert_eq!(hyperplonk::row_sum(&circuit, &witness, &columns, &nodes, &[10, 1, 31], &[0, 2])?, 0);
 //! # Ok::<(), hyperplonk::Refusal>(())
 //! ```
 #![deny(missing_docs)]
@@ -277,16 +315,19 @@ pub const fn signed(i: i32) -> u64 {
 }
 
 /// The words of the contents, before the bodies.
-pub const CONTENTS_WORDS: usize = 20;
+pub const CONTENTS_WORDS: usize = 22;
 
 /// The most words that a circuit has.
-pub const MAX_CIRCUIT_WORDS: usize = 46_284;
+pub const MAX_CIRCUIT_WORDS: usize = 46_294;
 
 /// The most words that the columns of a build take: 184 columns of 1024.
 pub const MAX_COLUMN_WORDS: usize = 188_416;
 
 /// The most nodes that a composed expression takes.
-pub const MAX_COMPOSED_NODES: usize = 4190;
+pub const MAX_COMPOSED_NODES: usize = 11_295;
+
+/// The most nodes that one evaluation of a composed expression visits on one row.
+pub const MAX_VISITS: usize = 11_047;
 
 /// The most words that the nodes of a build take.
 pub const MAX_NODE_WORDS: usize = 4 * MAX_COMPOSED_NODES;
@@ -347,7 +388,7 @@ pub mod limit {
     pub const CELLS: u64 = 4096;
     /// The maximum degree that word 1 states.
     pub const STATED_DEGREE: u64 = 32;
-    /// The degree of a user or lookup constraint.
+    /// The degree of a user or group constraint.
     pub const DEGREE: u64 = 1024;
 }
 
@@ -413,9 +454,9 @@ mod library {
 
 /// A refusal: the first question that is answered no.
 ///
-/// Questions are put in the order 1 to 15, then 17; 16 is the row sum's. 3 and then 4 are put to words 0 to 19, then 3 and then 4 to
-/// what follows. [`build`] meets 1 to 15 and then 17, [`sizes`] 1 to 11, [`row_sum`] 1 to 11 and then 16. The stages alone meet 2, 12, 13
-/// and 14 of their own columns and buffer, the counts then 15, h then 17. On 15 and on 17 the column words needed become 0, and the
+/// Questions are put in the order 1 to 9, 18, 10 to 15, 17; 16 is the row sum's. 3 and then 4 are put to words 0 to 21, then 3 and then 4
+/// to what follows. [`build`] meets 1 to 15, 18 after 9, and then 17, [`sizes`] 1 to 11 and 18, [`row_sum`] these and then 16. The stages
+/// alone meet 2, 12, 13 and 14 of their own columns and buffer, the counts then 15, h then 17. On 15 and on 17 the column words needed become 0, and the
 /// nodes stay. On any other number no word of a buffer is written.
 ///
 /// ```
@@ -426,13 +467,13 @@ mod library {
 #[derive(Clone, Copy, Debug, PartialEq, Eq, Hash)]
 #[non_exhaustive]
 pub enum Refusal {
-    /// The circuit has fewer than 20 words.
+    /// The circuit has fewer than 22 words.
     TooFewWords = 1,
     /// k is not from 1 to 10.
     BadK = 2,
     /// A count or a sum is past its [limit], or there is no round.
     BadCount = 3,
-    /// Starts, counts and total length do not agree.
+    /// Starts, counts and total length do not agree, or there are not as many group numbers as lookups.
     BadContents = 4,
     /// A round has no witness column, a round but the last has no challenge, or an instance column has more than 2^k − 1 values.
     BadRoundOrInstance = 5,
@@ -444,7 +485,7 @@ pub enum Refusal {
     BadNodeRange = 8,
     /// A width is 0, or there is no constraint, no lookup and no cycle.
     EmptyLookupOrCircuit = 9,
-    /// A user or lookup constraint's degree is above 1024, or a user constraint's above the stated maximum.
+    /// A user or group constraint's degree is above 1024, or a user constraint's above the stated maximum.
     BadDegree = 10,
     /// A cycle is empty, a cell's polynomial is out of range or its row not from 1 to 2^k − 1, or a cell is twice in one cycle.
     BadCycle = 11,
@@ -454,17 +495,19 @@ pub enum Refusal {
     BadValue = 13,
     /// A buffer has fewer words than needed ([`build`]: those of [`sizes`]; alone: 2^k).
     ShortBuffer = 14,
-    /// ([`build`], [`lookup_m_poly`].) An input equals no table row.
+    /// ([`build`], [`lookup_m_poly`].) An input equals no table row; building: no row of its group's table.
     NotInTable = 15,
     /// ([`row_sum`].) Witness, columns, nodes, challenges or y have not the exact length, the node words are not those that building writes, or another value is not below p.
     BadRowSumWords = 16,
     /// ([`build`], [`lookup_h_poly`].) A [denominator](crate#columns) is 0: other challenges are to be drawn. Asked after 15.
     ZeroDenominator = 17,
+    /// The group numbers do not start at 0, or one is neither the one before nor one more; or tables of one group differ in width or as trees. Asked after 9.
+    BadGroups = 18,
 }
 
 impl Refusal {
     /// All of them, by rising number.
-    pub const ALL: [Refusal; 17] = [
+    pub const ALL: [Refusal; 18] = [
         Refusal::TooFewWords,
         Refusal::BadK,
         Refusal::BadCount,
@@ -482,17 +525,18 @@ impl Refusal {
         Refusal::NotInTable,
         Refusal::BadRowSumWords,
         Refusal::ZeroDenominator,
+        Refusal::BadGroups,
     ];
 
-    /// The number of the question, 1 to 17.
+    /// The number of the question, 1 to 18.
     pub const fn number(self) -> u64 {
         self as u64
     }
 
-    /// The question, in the words of document 01, the library's scope; 17, which document 02 adds, as a question.
+    /// The question, in the words of document 01, the library's scope; 17 and 18, which document 02 adds, as questions.
     pub const fn question(self) -> &'static str {
         match self {
-            Refusal::TooFewWords => "Are there 20 words or more?",
+            Refusal::TooFewWords => "Are there 22 words or more?",
             Refusal::BadK => "Is k from 1 to 10?",
             Refusal::BadCount => "Is each count and sum in its limit? Instance columns 0–8, preprocess 0–32, rounds 1–4, witness columns 32 in all, user challenges 16 in all, nodes 0–1024, constraints 0–32, lookups 0–8, width 0–8, cycles 0–1024, cells 0–4096, degree 0–32.",
             Refusal::BadContents => "Do starts, counts and total length agree?",
@@ -509,6 +553,7 @@ impl Refusal {
             Refusal::NotInTable => "Does each compressed input equal some compressed table row?",
             Refusal::BadRowSumWords => "(Row sum only.) Are witness, columns, nodes, challenges with α, and y (k values) of the exact length, the node words those that building writes, and all other values below p?",
             Refusal::ZeroDenominator => "Is every denominator other than zero? They are γ + input and γ + table on all rows, and the inverted factors on every row but 0.",
+            Refusal::BadGroups => "Is the first group number 0 and each next the same or one more, and have the tables of one group the same width and the same trees?",
         }
     }
 }
@@ -525,7 +570,7 @@ impl error::Error for Refusal {}
 fn told(number: u64) -> Result<(), Refusal> {
     match number {
         0 => Ok(()),
-        1..=17 => Err(Refusal::ALL[number as usize - 1]),
+        1..=18 => Err(Refusal::ALL[number as usize - 1]),
         _ => panic!("libhyperplonk.a is not the one of these bindings: it returned the number {number}"),
     }
 }
@@ -549,7 +594,7 @@ pub struct Sizes {
 ///
 /// ```
 /// // k = 1, one witness column, and the constraint Constant(0): no column is written.
-/// let circuit = [1, 0, 20, 0, 20, 0, 20, 1, 22, 1, 26, 1, 27, 0, 27, 0, 27, 0, 27, 0, 1, 0, 1, 0, 0, 0, 0];
+/// let circuit = [1, 0, 22, 0, 22, 0, 22, 1, 24, 1, 28, 1, 29, 0, 29, 0, 29, 0, 29, 0, 29, 0, 1, 0, 1, 0, 0, 0, 0];
 /// let sizes = hyperplonk::sizes(&circuit)?;
 /// assert_eq!(sizes, hyperplonk::Sizes { column_words: 0, nodes: 3, visits: 3 });
 /// # Ok::<(), hyperplonk::Refusal>(())
@@ -557,7 +602,7 @@ pub struct Sizes {
 ///
 /// # Errors
 ///
-/// Refusals 1 to 11, as [`build`] has them.
+/// Refusals 1 to 11 and 18, as [`build`] has them.
 pub fn sizes(circuit: &[u64]) -> Result<Sizes, Refusal> {
     let mut answer = [0; 3];
     // SAFETY: each pointer and length is a slice's; the one written is borrowed alone, and nothing is kept.
@@ -583,12 +628,12 @@ pub struct Built {
 /// Builds the columns and the composed expression of a log.
 ///
 /// `instance` has the instance columns' values, `witness` the witness columns; `challenges` are the user's, then β, γ. The first words of
-/// `columns` become the [columns](crate#columns) of 2^k words each: instance, permutation, compressed input and table per lookup, m, h,
-/// z; and the first words of `nodes` the composed expression's node words, the root last. Words past those are never written.
+/// `columns` become the [columns](crate#columns) of 2^k words each: instance, permutation, compressed input and table per lookup, m and h
+/// per group, z; and the first words of `nodes` the composed expression's node words, the root last. Words past those are never written.
 ///
 /// # Errors
 ///
-/// Refusals 1 to 15, and 17 after 15. On 15 and on 17 the column words needed become 0 and `nodes` stays as it was. On any other nothing
+/// Refusals 1 to 15, 18 after 9, and 17 after 15. On 15 and on 17 the column words needed become 0 and `nodes` stays as it was. On any other nothing
 /// is written.
 pub fn build(
     circuit: &[u64],
@@ -630,7 +675,7 @@ pub fn build(
 ///
 /// # Errors
 ///
-/// Refusals 1 to 11, and 16.
+/// Refusals 1 to 11 and 18, and 16.
 pub fn row_sum(
     circuit: &[u64],
     witness: &[u64],

@@ -13,36 +13,46 @@ const M: [u64; 4] = [1, 0, 2, 1];
 const H: [u64; 4] = [14213926427140369957, 861997386421242258, 3370820255852972106, 0];
 /// The witness column looked up in the preprocess column 5, 7, 7, 9.
 #[rustfmt::skip]
-const TWICE: [u64; 37] = [
-    2, 0, 20, 0, 20, 1, 24, 1, 26, 2, 34, 0, 34, 1, 35, 1, 37, 0, 37, 0, // contents
-    5, 7, 7, 9, 1, 0, 5, 1, 0, 1 << 31, 5, 0, 0, 1 << 31, 1, 0, 1, // bodies
+const TWICE: [u64; 40] = [
+    2, 0, 22, 0, 22, 1, 26, 1, 28, 2, 36, 0, 36, 1, 37, 1, 39, 0, 39, 0, 39, 1, // contents
+    5, 7, 7, 9, 1, 0, 5, 1, 0, 1 << 31, 5, 0, 0, 1 << 31, 1, 0, 1, 0, // bodies
 ];
 /// One witness column, k = 1, and the constraint Constant(0): no column is written.
-const BARE: [u64; 27] = [1, 0, 20, 0, 20, 0, 20, 1, 22, 1, 26, 1, 27, 0, 27, 0, 27, 0, 27, 0, 1, 0, 1, 0, 0, 0, 0];
+const BARE: [u64; 29] =
+    [1, 0, 22, 0, 22, 0, 22, 1, 24, 1, 28, 1, 29, 0, 29, 0, 29, 0, 29, 0, 29, 0, 1, 0, 1, 0, 0, 0, 0];
 /// One witness column, k = 1, and a cycle of one cell.
-const CELL: [u64; 25] = [1, 0, 20, 0, 20, 0, 20, 1, 22, 0, 22, 0, 22, 0, 22, 0, 22, 1, 23, 1, 1, 0, 1, 0, 1];
+const CELL: [u64; 27] = [1, 0, 22, 0, 22, 0, 22, 1, 24, 0, 24, 0, 24, 0, 24, 0, 24, 1, 25, 1, 27, 0, 1, 0, 1, 0, 1];
 /// Two lookups of width 1 in one preprocess column, k = 2.
 #[rustfmt::skip]
-const TWO: [u64; 48] = [
-    2, 0, 20, 0, 20, 1, 24, 1, 26, 4, 42, 0, 42, 2, 44, 2, 48, 0, 48, 0, // contents
-    5, 7, 7, 9, 2, 0, 5, 1, 0, 1 << 31, 5, 0, 0, 1 << 31, 5, 2, 0, 1 << 31, 5, 0, 0, 1 << 31, 1, 1, 0, 1, 2, 3, // bodies
+const TWO: [u64; 52] = [
+    2, 0, 22, 0, 22, 1, 26, 1, 28, 4, 44, 0, 44, 2, 46, 2, 50, 0, 50, 0, 50, 2, // contents
+    5, 7, 7, 9, 2, 0, 5, 1, 0, 1 << 31, 5, 0, 0, 1 << 31, 5, 2, 0, 1 << 31, 5, 0, 0, 1 << 31, 1, 1, 0, 1, 2, 3, 0, 1, // bodies
 ];
 /// A lookup of width 2, k = 2: as TWO, with one width in place of two.
 #[rustfmt::skip]
-const WIDE: [u64; 47] = [
-    2, 0, 20, 0, 20, 1, 24, 1, 26, 4, 42, 0, 42, 1, 43, 2, 47, 0, 47, 0, // contents
-    5, 7, 7, 9, 2, 0, 5, 1, 0, 1 << 31, 5, 0, 0, 1 << 31, 5, 2, 0, 1 << 31, 5, 0, 0, 1 << 31, 2, 0, 1, 2, 3, // bodies
+const WIDE: [u64; 50] = [
+    2, 0, 22, 0, 22, 1, 26, 1, 28, 4, 44, 0, 44, 1, 45, 2, 49, 0, 49, 0, 49, 1, // contents
+    5, 7, 7, 9, 2, 0, 5, 1, 0, 1 << 31, 5, 0, 0, 1 << 31, 5, 2, 0, 1 << 31, 5, 0, 0, 1 << 31, 2, 0, 1, 2, 3, 0, // bodies
 ];
 /// Two witness columns, k = 2, and the cycle (0, 1), (1, 2).
-const COPY: [u64; 27] = [2, 0, 20, 0, 20, 0, 20, 1, 22, 0, 22, 0, 22, 0, 22, 0, 22, 1, 23, 2, 2, 0, 2, 0, 1, 1, 2];
+const COPY: [u64; 29] =
+    [2, 0, 22, 0, 22, 0, 22, 1, 24, 0, 24, 0, 24, 0, 24, 0, 24, 1, 25, 2, 29, 0, 2, 0, 2, 0, 1, 1, 2];
 /// Two constraints, k = 2: a witness column less itself, and a list of three Constants by a user challenge.
 #[rustfmt::skip]
-const LIST: [u64; 72] = [
-    2, 0, 20, 0, 20, 0, 20, 1, 22, 12, 70, 2, 72, 0, 72, 0, 72, 0, 72, 0, 1, 1, // contents, the round
+const LIST: [u64; 74] = [
+    2, 0, 22, 0, 22, 0, 22, 1, 24, 12, 72, 2, 74, 0, 74, 0, 74, 0, 74, 0, 74, 0, // contents
+    1, 1, // the round
     5, 0, 0, 1 << 31, 5, 0, 0, 1 << 31, 7, 1, 0, 0, 8, 0, 2, 0, // nodes 0 to 3
     1, 0, 0, 0, 1, 0, 0, 0, 1, 0, 0, 0, 6, 0, 0, 0, 12, 6, 0, 0, 12, 5, 8, 1, 12, 4, 9, 1, 11, 7, 10, 0, // nodes 4 to 11
     3, 11, // the roots
 ];
+
+/// The two lookups of TWO in one group.
+fn one_group() -> [u64; 52] {
+    let mut circuit = TWO;
+    circuit[51] = 0;
+    circuit
+}
 
 fn refused<T>(number: u64) -> Result<T, Refusal> {
     Err(Refusal::ALL[number as usize - 1])
@@ -168,12 +178,13 @@ fn builds() {
 #[test]
 fn foretells() {
     // The circuit; its witness and challenge words; column words, nodes, visits.
-    let circuits: [(&[u64], usize, usize, [usize; 3]); 7] = [
+    let circuits: [(&[u64], usize, usize, [usize; 3]); 8] = [
         (&BARE, 2, 2, [0, 3, 3]),
         (&CELL, 2, 2, [4, 34, 32]),
         (&TWICE, 4, 2, [16, 27, 25]),
         (&WIDE, 8, 2, [16, 47, 37]),
         (&TWO, 8, 2, [32, 53, 48]),
+        (&one_group(), 8, 2, [24, 43, 41]),
         (&COPY, 8, 2, [16, 57, 54]),
         (&LIST, 4, 3, [0, 18, 13]),
     ];
@@ -194,7 +205,7 @@ fn foretells() {
     }
 }
 
-/// Refusals 1 to 11, as building has them.
+/// Refusals 1 to 11 and 18, as building has them.
 #[test]
 fn sizes_refuse() {
     fn with(circuit: &[u64], at: usize, word: u64) -> Vec<u64> {
@@ -202,21 +213,28 @@ fn sizes_refuse() {
         circuit[at] = word;
         circuit
     }
-    let empty = vec![1, 0, 20, 0, 20, 0, 20, 1, 22, 0, 22, 0, 22, 0, 22, 0, 22, 0, 22, 0, 1, 0];
+    let empty = vec![1, 0, 22, 0, 22, 0, 22, 1, 24, 0, 24, 0, 24, 0, 24, 0, 24, 0, 24, 0, 24, 0, 1, 0];
     let cases = [
-        (1, TWICE[..19].to_vec()),
+        (1, TWICE[..21].to_vec()),
+        (4, TWICE[..22].to_vec()),
         (2, with(&TWICE, 0, 11)),
         (3, with(&TWICE, 1, 34)),
-        (3, with(&TWICE, 24, 33)),
-        (4, TWICE[..36].to_vec()),
-        (4, with(&CELL, 22, 2)),
-        (5, with(&TWICE, 24, 0)),
-        (6, with(&TWICE, 20, P)),
-        (7, with(&TWICE, 26, 13)),
-        (8, with(&TWICE, 27, 2)),
+        (3, with(&TWICE, 26, 33)),
+        (4, TWICE[..39].to_vec()),
+        (4, with(&CELL, 24, 2)),
+        (4, with(&TWICE, 21, 0)),
+        (4, with(&TWICE, 21, 2)),
+        (4, with(&TWICE, 21, u64::MAX)),
+        (5, with(&TWICE, 26, 0)),
+        (6, with(&TWICE, 22, P)),
+        (7, with(&TWICE, 28, 13)),
+        (8, with(&TWICE, 29, 2)),
         (9, empty),
-        (10, with(&with(&BARE, 1, 1), 22, 2)),
-        (11, with(&CELL, 24, 0)),
+        (18, with(&TWICE, 39, 1)),
+        (18, with(&TWO, 51, 2)),
+        (18, with(&with(&TWO, 51, 0), 41, 1)),
+        (10, with(&with(&BARE, 1, 1), 24, 2)),
+        (11, with(&CELL, 26, 0)),
     ];
     for (number, circuit) in &cases {
         assert_eq!(sizes(circuit), refused(*number));
@@ -225,15 +243,44 @@ fn sizes_refuse() {
     assert_eq!(sizes(&[]), refused(1));
 }
 
+/// Two readings of one table: one m, which counts both, and one h. 15 for an input of either; 17 for either's denominator.
+#[test]
+fn groups() {
+    let (circuit, witness) = (one_group(), [7, 7, 5, 9, 9, 9, 7, 5]);
+    let (mut columns, mut nodes) = ([BEFORE; 25], [BEFORE; 4 * 43]);
+    let built = build(&circuit, &[], &witness, &[10, 1], &mut columns, &mut nodes);
+    assert_eq!(built, Ok(Built { column_words: 24, nodes: 43, z_columns: 0 }));
+    let h = [1998397274186579968, 14296226653796302849, 1537228672451215360, 614891468980486144];
+    assert_eq!(columns[..16], [&witness[..4], &TABLE, &witness[4..], &TABLE].concat());
+    assert_eq!((&columns[16..24], columns[24]), (&[[2, 0, 3, 3], h].concat()[..], BEFORE));
+    // One by one they have the same columns, added up.
+    let mut apart = [0; 32];
+    assert!(build(&TWO, &[], &witness, &[10, 1], &mut apart, &mut [0; 4 * 53]).is_ok());
+    assert_eq!([&apart[16..20], &apart[20..24]], [[1, 0, 2, 1], [1, 0, 1, 2]]);
+    (0..4).for_each(|b| assert_eq!((apart[24 + b] as u128 + apart[28 + b] as u128) % P as u128, h[b] as u128));
+    for (alpha, y) in [(2, [0, 2]), (0, [0, 0]), (P - 1, [P - 1, 12345])] {
+        assert_eq!(row_sum(&circuit, &witness, &columns[..24], &nodes, &[10, 1, alpha], &y), Ok(0));
+    }
+    for at in 0..8 {
+        let mut unlisted = witness;
+        unlisted[at] = 6;
+        assert_eq!(build(&circuit, &[], &unlisted, &[10, 1], &mut columns, &mut nodes), refused(15));
+        assert_eq!((&columns[..24], columns[24]), (&[0; 24][..], BEFORE));
+    }
+    for gamma in [P - 5, P - 7, P - 9] {
+        assert_eq!(build(&circuit, &[], &witness, &[10, gamma], &mut columns, &mut nodes), refused(17));
+    }
+}
+
 #[test]
 fn build_refuses() {
     let mut k11 = TWICE;
     k11[0] = 11;
     let high = [7, 7, 5, P];
     let cases: [(u64, &[u64], &[u64], &[u64], &[u64], usize, usize); 9] = [
-        (1, &TWICE[..19], &[], &INPUT, &[10, 100], 16, 108),
+        (1, &TWICE[..21], &[], &INPUT, &[10, 100], 16, 108),
         (2, &k11, &[], &high, &[10, 100], 16, 108),
-        (4, &TWICE[..36], &[], &INPUT, &[10, 100], 16, 108),
+        (4, &TWICE[..39], &[], &INPUT, &[10, 100], 16, 108),
         (12, &TWICE, &[1], &high, &[10, 100], 16, 108),
         (12, &TWICE, &[], &INPUT, &[10, 100, 2], 0, 0),
         (13, &TWICE, &[], &high, &[10, 100], 15, 108),
@@ -277,7 +324,7 @@ fn row_sum_refuses() {
     let mut others = nodes;
     others[107] ^= 1;
     assert_eq!(row_sum(&[], &INPUT, &columns, &nodes, &[10, 100, 2], &[0, 2]), refused(1));
-    assert_eq!(row_sum(&TWICE[..36], &high, &columns, &nodes, &[10, 100, 2], &[0, 2]), refused(4));
+    assert_eq!(row_sum(&TWICE[..39], &high, &columns, &nodes, &[10, 100, 2], &[0, 2]), refused(4));
     assert_eq!(row_sum(&TWICE, &high, &columns, &nodes, &[10, 100, 2], &[0, 2]), refused(16));
     assert_eq!(row_sum(&TWICE, &INPUT, &longer, &nodes, &[10, 100, 2], &[0, 2]), refused(16));
     assert_eq!(row_sum(&TWICE, &INPUT, &columns, &others, &[10, 100, 2], &[0, 2]), refused(16));
@@ -328,10 +375,11 @@ fn threads() {
 /// An input of 1023 nodes, each the negation of the one before, is built and summed on 1 MiB of stack.
 #[test]
 fn deep() {
-    let mut circuit = vec![1, 0, 20, 0, 20, 0, 20, 1, 22, 1024, 4118, 0, 4118, 1, 4119, 1, 4121, 0, 4121, 0, 1, 0];
+    let mut circuit =
+        vec![1, 0, 22, 0, 22, 0, 22, 1, 24, 1024, 4120, 0, 4120, 1, 4121, 1, 4123, 0, 4123, 0, 4123, 1, 1, 0];
     circuit.extend([1, 0, 0, 0]);
     (0..1022).for_each(|below| circuit.extend([7, below, 0, 0]));
-    circuit.extend([5, 0, 0, 1 << 31, 1, 1022, 1023]);
+    circuit.extend([5, 0, 0, 1 << 31, 1, 1022, 1023, 0]);
     let calls = move || {
         let (mut columns, mut nodes) = (vec![BEFORE; 8], vec![BEFORE; 1 << 14]);
         let built = build(&circuit, &[], &[4, 0], &[5, 6], &mut columns, &mut nodes).unwrap();
