@@ -46,7 +46,7 @@ fn some_sizes(builds: &[Case]) -> Vec<Case> {
 /// more; then h alone, and sizes. The replay reads 400,000 bytes.
 pub fn sample() -> String {
     // 15 and 17 want room for the columns.
-    let most = |case: &Case| if [15, 17].contains(&case.returned[0]) { 1800 } else { 700 };
+    let most = |case: &Case| if [15, 17].contains(&case.returned[0]) { 2400 } else { 700 };
     let short = |case: &Case, seed: u64| case.text().len() < most(case) || seed > 200;
     let mut cases: Vec<Case> = (0..WAYS.len()).filter_map(|way| refused_by(way, short)).collect();
     let drawn = |call: &'static str, refused: bool, most: usize| {
@@ -54,7 +54,7 @@ pub fn sample() -> String {
         (0..).map(|n| case(7, n, true)).filter(fits)
     };
     let larger = |c: &Case| !read_circuit(&c.lent[0]).unwrap().groups_of_one();
-    cases.extend(drawn("build", false, 2600).filter(|c| !larger(c)).take(45));
+    cases.extend(drawn("build", false, 2600).filter(|c| !larger(c)).take(40));
     cases.extend(drawn("build", false, 3600).filter(larger).take(10));
     for number in [15, 17] {
         cases.extend(drawn("build", true, 1500).filter(|c| c.returned[0] == number).take(8));

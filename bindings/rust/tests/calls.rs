@@ -437,5 +437,5 @@ fn stored_answers() {
         }
         calls += 1;
     }
-    assert!(calls >= 68, "{calls} blocks");
+    assert!(calls >= 95, "{calls} blocks");
 }
