@@ -404,7 +404,10 @@ fn sheet(name: &str, log: &Log, library: Library, reps: usize) {
         println!("  {stage:<18} {theirs:>12} {mine:>12} {:>8} {:>9}", tell(median(ratios), 2), tell(bests, 2));
     }
     if !c.groups_of_one() {
-        println!("  The Rust has no such group: its build and stages are of the same lookups, each by itself.");
+        println!(
+            "  The Rust has no such group: its build and stages are of the same lookups, each by itself; its row sum is of \
+             our composed expression."
+        );
     }
     if let Some(of) = times.0.get("build, fenced") {
         println!(

@@ -17,7 +17,8 @@ use std::collections::BTreeSet;
 /// Lines that begin with # stand at the head of a file only.
 pub fn head(command: &str) -> String {
     format!(
-        "# Made by `{command}`: the columns are the given Rust's, the numbers and nodes document 01's.\n\
+        "# Made by `{command}`: the columns are the given Rust's, those of groups of two lookups or more the model's; the numbers and \
+         nodes are those of documents 01 and 02.\n\
          # A block: the call; each lent slice as its length and words; the returned numbers; each buffer after.\n"
     )
 }

@@ -1,5 +1,6 @@
 -- Small whole circuits through `sizes`, the building call and the row sum, and h alone, with the oracle's answers: made from the
--- oracle's data by `oracle/theorems`. The columns are the given Rust's, the numbers and nodes document 01's.
+-- oracle's data by `oracle/theorems`. The columns are the given Rust's, those of groups of two lookups or more the model's; the
+-- numbers and nodes are those of documents 01 and 02.
 use mathlib.Core.Path.{_≡_, refl}
 use mathlib.Core.List.{List, [], _∷_}
 use Prim.Native.Nat.{ℕ}
