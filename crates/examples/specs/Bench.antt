@@ -41,6 +41,7 @@ plainCircuit k stated witness constraints cycles =
       constraints = constraints;
       lookups = [];
       cycles = cycles;
+      groups = [];
     }
 
 abbrev pub cell : ℕ → ℕ → Cell
@@ -121,7 +122,7 @@ answers-2 = refl
 
 -- ● k=1, one single-cell cycle: z = 0,1. The words of that circuit, built with β = 5 and γ = 7; its columns are the labels 0,1 and z.
 abbrev pub single : ℕ → List ℕ
-single row = 1 ∷ 0 ∷ 20 ∷ 0 ∷ 20 ∷ 0 ∷ 20 ∷ 1 ∷ 22 ∷ 0 ∷ 22 ∷ 0 ∷ 22 ∷ 0 ∷ 22 ∷ 0 ∷ 22 ∷ 1 ∷ 23 ∷ 1 ∷ 1 ∷ 0 ∷ 1 ∷ 0 ∷ row ∷ []
+single row = 1 ∷ 0 ∷ 22 ∷ 0 ∷ 22 ∷ 0 ∷ 22 ∷ 1 ∷ 24 ∷ 0 ∷ 24 ∷ 0 ∷ 24 ∷ 0 ∷ 24 ∷ 0 ∷ 24 ∷ 1 ∷ 25 ∷ 1 ∷ 27 ∷ 0 ∷ 1 ∷ 0 ∷ 1 ∷ 0 ∷ row ∷ []
 
 pub z-single : take 4 (buildOf (lentBuild (single 1) [] (3 ∷ 4 ∷ []) (5 ∷ 7 ∷ []) (four 9 9 9 9) (replicate 200 9)) .columns) ≡ four 0 1 0 1
 unfolding everything
@@ -152,7 +153,7 @@ none-copied = refl
 pub k-10 : goodK 10 ≡ true
 k-10 = refl
 
-pub k-11 : firstNo circuitQuestions (11 ∷ replicate 19 0) ≡ 2
+pub k-11 : firstNo circuitQuestions (11 ∷ replicate 21 0) ≡ 2
 unfolding everything
 k-11 = refl
 
@@ -180,7 +181,7 @@ unfolding everything
 value-p-told = refl
 
 pub preprocess-p-told : firstNo circuitQuestions
-    (1 ∷ 0 ∷ 20 ∷ 0 ∷ 20 ∷ 1 ∷ 22 ∷ 1 ∷ 24 ∷ 0 ∷ 24 ∷ 0 ∷ 24 ∷ 0 ∷ 24 ∷ 0 ∷ 24 ∷ 1 ∷ 25 ∷ 1 ∷ P ∷ 0 ∷ 1 ∷ 0 ∷ 1 ∷ 0 ∷ 1 ∷ [])
+    (1 ∷ 0 ∷ 22 ∷ 0 ∷ 22 ∷ 1 ∷ 24 ∷ 1 ∷ 26 ∷ 0 ∷ 26 ∷ 0 ∷ 26 ∷ 0 ∷ 26 ∷ 0 ∷ 26 ∷ 1 ∷ 27 ∷ 1 ∷ 29 ∷ 0 ∷ P ∷ 0 ∷ 1 ∷ 0 ∷ 1 ∷ 0 ∷ 1 ∷ [])
     ≡ parsedNumber Among.circuitWords (parsed P)
 unfolding everything
 preprocess-p-told = refl

@@ -33,7 +33,7 @@ use Rattle.examples.specs.Open.{everything}
 -- k is 3 and no maximum degree is stated; then start and count of each section
 abbrev contents : List ℕ
 contents =
-    3 ∷ 0 ∷ 20 ∷ 1 ∷ 21 ∷ 2 ∷ 37 ∷ 2 ∷ 41 ∷ 19 ∷ 117 ∷ 1 ∷ 118 ∷ 1 ∷ 119 ∷ 2 ∷ 123 ∷ 2 ∷ 125 ∷ 5 ∷ []
+    3 ∷ 0 ∷ 22 ∷ 1 ∷ 23 ∷ 2 ∷ 39 ∷ 2 ∷ 43 ∷ 19 ∷ 119 ∷ 1 ∷ 120 ∷ 1 ∷ 121 ∷ 2 ∷ 125 ∷ 2 ∷ 127 ∷ 5 ∷ 137 ∷ 1 ∷ []
 
 -- polynomial 0 is the sheet, of two settings; 1 and 2 are the approved angles and currents: rows 4 and 5 list the pair (32, 6) twice
 abbrev columns-given : List ℕ
@@ -55,10 +55,10 @@ reading-nodes =
     5 ∷ 3 ∷ 0 ∷ 2147483648 ∷ 5 ∷ 1 ∷ 0 ∷ 2147483648 ∷ 5 ∷ 4 ∷ 0 ∷ 2147483648 ∷ 5 ∷ 2 ∷ 0 ∷ 2147483648 ∷ []
 
 -- the constraint; a lookup of two pairs; a cycle of three cells (the sheet's first setting, row 3 of the knee, the angle read at row 6)
--- and one of two (the sheet's second setting, row 5 of the knee)
+-- and one of two (the sheet's second setting, row 5 of the knee); the lookup's group
 abbrev roots-and-cycles : List ℕ
 roots-and-cycles =
-    14 ∷ 2 ∷ 15 ∷ 16 ∷ 17 ∷ 18 ∷ 3 ∷ 2 ∷ 0 ∷ 1 ∷ 5 ∷ 3 ∷ 3 ∷ 6 ∷ 0 ∷ 2 ∷ 5 ∷ 5 ∷ []
+    14 ∷ 2 ∷ 15 ∷ 16 ∷ 17 ∷ 18 ∷ 3 ∷ 2 ∷ 0 ∷ 1 ∷ 5 ∷ 3 ∷ 3 ∷ 6 ∷ 0 ∷ 2 ∷ 5 ∷ 5 ∷ 0 ∷ []
 
 abbrev circuit : List ℕ
 circuit = contents ++ (columns-given ++ (rounds ++ (seal-nodes ++ (reading-nodes ++ roots-and-cycles))))
