@@ -306,24 +306,26 @@ pub fn refused_by(way: usize, fits: impl Fn(&Case, u64) -> bool) -> Option<Case>
     })
 }
 
-/// The demo and the limits, built, and summed where they are accepted; every way
-/// to be refused; h alone.
-pub fn fixed() -> Vec<Case> {
-    let rng = &mut Rng::new(4);
-    let mut out = vec![];
-    for (number, log) in [(0, demo()), (0, two_readings())].into_iter().chain(limits::all()) {
-        if number == 0 || number == 17 {
-            let case = build_case(&log, rng);
-            assert_eq!(case.returned[0], number, "{log:?}");
-            out.push(case);
-            out.extend(row_sum_case(&log, rng));
+/// Logs with their numbers, built, and summed where they are accepted.
+fn numbered(logs: Vec<(u64, Log)>) -> impl Iterator<Item = Case> {
+    let mut rng = Rng::new(4);
+    logs.into_iter().flat_map(move |(number, log)| {
+        let rng = &mut rng;
+        let accepted = number == 0 || number == 17;
+        let case = if accepted {
+            build_case(&log, rng)
         } else {
-            let case = answer("build", build_lent(&log, unwritten(rng, 40), unwritten(rng, 40)));
-            assert_eq!(case.returned[0], number, "{:?}", log.sections);
-            out.push(case);
-        }
-    }
-    out.extend((0..WAYS.len()).map(|way| refused_by(way, |_, _| true).expect("a log for each way")));
-    out.extend(h_alone());
-    out
+            answer("build", build_lent(&log, unwritten(rng, 40), unwritten(rng, 40)))
+        };
+        assert_eq!(case.returned[0], number, "{:?}", log.sections);
+        let sum = if accepted { row_sum_case(&log, rng) } else { None };
+        [Some(case), sum].into_iter().flatten()
+    })
+}
+
+/// The demo, two readings of one table and the limits; every way to be refused; h alone; last the large circuits.
+pub fn fixed() -> impl Iterator<Item = Case> {
+    let small = vec![(0, demo()), (0, two_readings())].into_iter().chain(limits::all()).collect();
+    let refused = (0..WAYS.len()).map(|way| refused_by(way, |_, _| true).expect("a log for each way"));
+    numbered(small).chain(refused).chain(h_alone()).chain(numbered(limits::large()))
 }

@@ -209,7 +209,7 @@ fn numbered(groups: &[u64]) -> Log {
     with(1, |s| groups.iter().for_each(|group| s.lookup_in(*group, &[(Tree::Identity, Tree::Identity)])))
 }
 
-/// The limits, each with the number that the log must get.
+/// The limits one by one, each with the number that the log must get.
 pub fn all() -> Vec<(u64, Log)> {
     let mut out = vec![];
     let mut pair = |past: u64, log: &dyn Fn(u64) -> Log, limit: u64| {
@@ -273,10 +273,10 @@ pub fn all() -> Vec<(u64, Log)> {
     log.sections.bodies[LENGTHS][0] += 1;
     log.sections.bodies[CELLS].splice(0..0, [0, 7]);
     out.push((3, log));
-    out.push((0, whole()));
-    out.push((0, most_words()));
-    out.push((0, most_nodes()));
-    out.push((0, most_visits()));
-    out.push((0, eight_in_one()));
     out
+}
+
+/// Circuits of k = 10 at many limits at once.
+pub fn large() -> Vec<(u64, Log)> {
+    [whole(), most_words(), most_nodes(), most_visits(), eight_in_one()].map(|log| (0, log)).into()
 }

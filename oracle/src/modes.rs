@@ -33,7 +33,7 @@ pub fn main() {
         }
         "compare" => match option("--file") {
             Some(file) => compare(library, stored::read(&file).into_iter()),
-            None => compare(library, with_sizes(fixed().into_iter().chain(seeded))),
+            None => compare(library, with_sizes(fixed().chain(seeded))),
         },
         "expressions" => expressions::compare(library, seed, count),
         "sample" => print!("{}", stored::sample()),
