@@ -3,16 +3,16 @@ use mathlib.Core.Path.{_≡_, refl}
 use mathlib.Core.Bool.{true, false}
 use mathlib.Core.List.{List, [], _∷_}
 use mathlib.Core.Option.{Option, none, some}
-use Prim.Native.Nat.{ℕ, zero, suc, _-_, _^_}
+use Prim.Native.Nat.{ℕ, zero, suc, _-_, _*_, _^_}
 use lib.IntN.{pos, negsuc}
-use lib.ListN.{take, replicate}
+use lib.ListN.{length, getD, take, replicate}
 use Rattle.field.specs.Field.{𝔾, el, val}
 use Rattle.field.specs.Algebra.{product}
 use Rattle.field.specs.Inverse.{inverseOf}
 use Rattle.field.specs.declared.Inverse.{Inverse}
 use Rattle.bh.specs.Rows.{prevRow, order, lagrangeRow}
 use Rattle.lists.specs.Lists.{tabulate, firstNo}
-use Rattle.backend.specs.Questions.{q10, circuitQuestions, goodK}
+use Rattle.backend.specs.Questions.{groupNumbersGood, q10, circuitQuestions, goodK}
 use Rattle.preprocessor.specs.Compose.{constraintCut, zCut, CutsAlike, composedWords}
 use Rattle.preprocessor.specs.Permutation.{label}
 use Rattle.hyperplonk_spec.specs.Build.{checkBuild, buildOf, lentBuild}
@@ -20,8 +20,12 @@ use Rattle.hyperplonk_spec.specs.RowSum.{checkSum, lentSum}
 use Rattle.hyperplonk_spec.specs.Stages.{mOf}
 use Rattle.field.specs.Prime.{P}
 use Rattle.field.specs.Parse.{Among, parsed, parsedNumber}
-use Rattle.expression.specs.Expr.{Expr}
-use Rattle.backend.specs.Circuit.{Circuit, Cell, circuitOf}
+use Rattle.expression.specs.Expr.{Expr, at, degree}
+use Rattle.expression.specs.Flat.{flat}
+use Rattle.expression.specs.Same.{sameExpr}
+use Rattle.backend.specs.Circuit.{Circuit, Pair, Cell, circuitOf}
+use Rattle.backend.specs.Constraints.{groupWith}
+use Rattle.prover.specs.Lookup.{groupMultiplicity, groupHAt}
 use Rattle.examples.specs.Open.{everything}
 
 abbrev pub four : ℕ → ℕ → ℕ → ℕ → List ℕ
@@ -203,3 +207,65 @@ degree-1024 = refl
 pub degree-1025 : q10 (plainCircuit 1 none 1 (tower 1024 ∷ []) []) ≡ false
 unfolding everything tower
 degree-1025 = refl
+
+-- ---- Item 3 of document 02: "docs/ fixes the node order for larger ones": docs/DECISIONS.md has these words
+
+-- a lookup of width 1 of polynomial q in the table, polynomial 0
+abbrev pub reading : ℕ → List Pair
+reading q = record { input = at q; table = at 0 } ∷ []
+
+-- the constraint of two lookups in one group, with m 3 and h 4, β and γ being challenges 0 and 1
+abbrev pub twoReadings : Expr
+twoReadings = groupWith 0 3 4 (reading 1 ∷ reading 2 ∷ [])
+
+pub groupOfTwo : flat twoReadings 0
+    ≡ 5 ∷ 4 ∷ 0 ∷ 2147483648 ∷ 5 ∷ 1 ∷ 0 ∷ 2147483648 ∷ 6 ∷ 1 ∷ 0 ∷ 0 ∷ 8 ∷ 1 ∷ 2 ∷ 0 ∷ 9 ∷ 0 ∷ 3 ∷ 0 ∷ 5 ∷ 2 ∷ 0 ∷ 2147483648 ∷ 6 ∷ 1 ∷ 0 ∷ 0 ∷ 8 ∷ 5 ∷ 6 ∷ 0 ∷ 9 ∷ 4 ∷ 7 ∷ 0 ∷ 5 ∷ 0 ∷ 0 ∷ 2147483648 ∷ 6 ∷ 1 ∷ 0 ∷ 0 ∷ 8 ∷ 9 ∷ 10 ∷ 0 ∷ 9 ∷ 8 ∷ 11 ∷ 0 ∷ 5 ∷ 0 ∷ 0 ∷ 2147483648 ∷ 6 ∷ 1 ∷ 0 ∷ 0 ∷ 8 ∷ 13 ∷ 14 ∷ 0 ∷ 5 ∷ 2 ∷ 0 ∷ 2147483648 ∷ 6 ∷ 1 ∷ 0 ∷ 0 ∷ 8 ∷ 16 ∷ 17 ∷ 0 ∷ 5 ∷ 1 ∷ 0 ∷ 2147483648 ∷ 6 ∷ 1 ∷ 0 ∷ 0 ∷ 8 ∷ 19 ∷ 20 ∷ 0 ∷ 8 ∷ 18 ∷ 21 ∷ 0 ∷ 9 ∷ 15 ∷ 22 ∷ 0 ∷ 7 ∷ 23 ∷ 0 ∷ 0 ∷ 8 ∷ 12 ∷ 24 ∷ 0 ∷ 5 ∷ 3 ∷ 0 ∷ 2147483648 ∷ 5 ∷ 1 ∷ 0 ∷ 2147483648 ∷ 6 ∷ 1 ∷ 0 ∷ 0 ∷ 8 ∷ 27 ∷ 28 ∷ 0 ∷ 9 ∷ 26 ∷ 29 ∷ 0 ∷ 5 ∷ 2 ∷ 0 ∷ 2147483648 ∷ 6 ∷ 1 ∷ 0 ∷ 0 ∷ 8 ∷ 31 ∷ 32 ∷ 0 ∷ 9 ∷ 30 ∷ 33 ∷ 0 ∷ 8 ∷ 25 ∷ 34 ∷ 0 ∷ []
+unfolding everything
+groupOfTwo = refl
+
+pub groupOfTwo-degree : degree twoReadings ≡ 4
+unfolding everything
+groupOfTwo-degree = refl
+
+-- of three: 60 nodes
+pub groupOfThree : length (flat (groupWith 0 4 5 (reading 1 ∷ reading 2 ∷ reading 3 ∷ [])) 0) ≡ 60 * 4
+unfolding everything
+groupOfThree = refl
+
+-- table 5,7,7,9, inputs 7,7,5,9 and 9,9,7,5 in one group: m = 2,0,3,3, and h with γ = 1
+abbrev pub listed : List ℕ → ℕ → 𝔾 .F
+listed ws b = el (getD ws b 0)
+
+abbrev pub twoInputs : List (ℕ → 𝔾 .F)
+twoInputs = listed (four 7 7 5 9) ∷ listed (four 9 9 7 5) ∷ []
+
+pub groupCounts : tabulate (groupMultiplicity 𝔾 4 twoInputs (listed (four 5 7 7 9))) 4 ≡ four 2 0 3 3
+unfolding everything
+groupCounts = refl
+
+pub groupH : tabulate (λ b. val (groupHAt 𝔾 (el 1) twoInputs (listed (four 5 7 7 9)) (listed (four 2 0 3 3)) b)) 4
+    ≡ four 1998397274186579968 14296226653796302849 1537228672451215360 614891468980486144
+unfolding everything
+groupH = refl
+
+-- numbers 0, 0, 1 pass; 1; 0, 2; 0, 1, 0 do not
+pub numbers-pass : groupNumbersGood (0 ∷ 0 ∷ 1 ∷ []) ≡ true
+unfolding everything
+numbers-pass = refl
+
+pub numbers-one : groupNumbersGood (1 ∷ []) ≡ false
+unfolding everything
+numbers-one = refl
+
+pub numbers-left-out : groupNumbersGood (0 ∷ 2 ∷ []) ≡ false
+unfolding everything
+numbers-left-out = refl
+
+pub numbers-back : groupNumbersGood (0 ∷ 1 ∷ 0 ∷ []) ≡ false
+unfolding everything
+numbers-back = refl
+
+-- a Constant 0 and a Constant Scaled by 0 are not one tree
+pub zeros-differ : sameExpr (Expr.constant 0) (Expr.scaled (Expr.constant 0) 0) ≡ false
+unfolding everything
+zeros-differ = refl
