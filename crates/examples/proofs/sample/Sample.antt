@@ -13,7 +13,7 @@ use Rattle.field.specs.Field.{𝔾, val}
 use Rattle.lists.specs.Lists.{allOf, range, tabulate}
 use Rattle.expression.specs.Expr.{Expr}
 use Rattle.expression.specs.Value.{valueAt}
-use Rattle.backend.specs.Circuit.{Pair, rowsOf, numLookups}
+use Rattle.backend.specs.Circuit.{Pair, rowsOf, numGroups, groupsOf}
 use Rattle.preprocessor.specs.Compose.{CutsAlike, numZ}
 use Rattle.prover.specs.Log.{Log}
 use Rattle.prover.specs.Columns.{userEnvironment, lookupHAt, zAt}
@@ -239,20 +239,20 @@ pub counts : tabulate (mWord (log .circuit) (build .columns) 0) (rowsOf (log .ci
 unfolding everything
 counts = refl
 
-one-lookup : ltb 0 (numLookups (log .circuit)) ≡ true
+one-group : ltb 0 (numGroups (log .circuit)) ≡ true
 unfolding everything
-one-lookup = refl
+one-group = refl
 
 -- and no count is spoilt
 pub unspoilt : CountsUnspoilt log (build .columns) 0
 unfolding logOf
 unspoilt =
-    row-listed-twice circuit sheet witness challenges (replicate 80 9) (replicate 548 9) number-zero 0 (ltb-true _ _ one-lookup)
+    row-listed-twice circuit sheet witness challenges (replicate 80 9) (replicate 548 9) number-zero 0 (ltb-true _ _ one-group)
 
 -- h is not 0 at row 5, where the count of 3 stands
-pub h-moves : lookupHAt 𝔾 log lookup 5 ≢ 𝔾 .zero
+pub h-moves : lookupHAt 𝔾 log (getD (groupsOf (log .circuit)) 0 []) 5 ≢ 𝔾 .zero
 unfolding everything
-h-moves = apart (lookupHAt 𝔾 log lookup 5) (𝔾 .zero) refl
+h-moves = apart (lookupHAt 𝔾 log (getD (groupsOf (log .circuit)) 0 []) 5) (𝔾 .zero) refl
 
 -- each z column is neither 0 nor 1 at row 2
 moves-at-2 : allOf (λ i. not (same (zAt 𝔾 log i 2) (𝔾 .zero)) && not (same (zAt 𝔾 log i 2) (𝔾 .one))) (range (numZ (log .circuit))) ≡ true
