@@ -6,5 +6,4 @@ pub mod Lookup
 pub mod Cycles
 pub mod Running
 pub mod Copies
-pub mod Groups
 pub mod Homs
