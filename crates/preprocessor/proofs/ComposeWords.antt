@@ -1,5 +1,5 @@
 -- The constraints of the words that the code is handed, by their numbers. Proved.
-use mathlib.Core.Path.{_≡_, refl, sym, ap, ap₂, _∙_, subst}
+use mathlib.Core.Path.{_≡_, refl, sym, ap, ap₂, _∙_}
 use mathlib.Core.Bool.{Bool, true, false, cond}
 use mathlib.Core.List.{List, [], _∷_, _++_, map}
 use Prim.Native.Nat.{ℕ, zero, suc, _+_, _-_, _*_, _/_, _≤_, _<_, min}
@@ -9,22 +9,21 @@ use lib.Dec.{eqb}
 use lib.IntN.{pos}
 use lib.ListN.{length, getD, take, drop, length-append, length-map}
 use borrow.Author.Tests.{eq-eqb, ne-eqb}
-use Rattle.lists.specs.Lists.{tabulate, split, total, All}
+use Rattle.lists.specs.Lists.{tabulate, total, All}
 use Rattle.lists.proofs.Lists.{get-left, get-past, get-map, split-length}
 use Rattle.lists.proofs.Columns.{tabulate-length, get-tabulate, tabulate-cong, tabulate-of, map-tabulate}
 use Rattle.lists.proofs.All.{all-get}
 use Rattle.lists.proofs.Parts.{get-split, total-next, total-within}
 use Rattle.lists.proofs.Runs.{part-tabulate, total-first}
-use Rattle.expression.specs.Expr.{Expr, minus, at, distributePowers}
+use Rattle.expression.specs.Expr.{Expr, at, distributePowers}
 use Rattle.expression.specs.Nodes.{exprOf}
 use Rattle.expression.specs.Flat.{size}
 use Rattle.expression.specs.Walks.{weight}
-use Rattle.expression.specs.Written.{Pushed, ExprWritten}
 use Rattle.expression.proofs.Visits.{size-is}
 use Rattle.backend.specs.Circuit.{Pair, pairAt, pairsOf}
 use Rattle.backend.specs.Constraints.{inputsOf, tablesOf, sideOf, groupTree, groupWith}
 use Rattle.preprocessor.specs.Compose.{numberOfM, numberOfH, startTree, partTree, lookupTreeOf, permutationTrees, constraintTrees, zeroTree, outerTrees, composeTree}
-use Rattle.preprocessor.specs.ComposeWords.{Limits, Words, GroupIn, ComposeInput, IsNode, lookupsOf, groupsFromWords, sideExprs, sideTree, inputSide, tableSide, inputSides, groupFromWords, constraintsFromWords, numConstraints}
+use Rattle.preprocessor.specs.ComposeWords.{Words, GroupIn, IsNode, lookupsOf, groupsFromWords, sideExprs, sideTree, inputSide, tableSide, inputSides, groupFromWords, constraintsFromWords, numConstraints}
 use Rattle.preprocessor.specs.declared.CircuitParams.{CircuitParams}
 use Rattle.preprocessor.proofs.Lists.{nth}
 

@@ -18,21 +18,7 @@ use Rattle.expression.specs.Flat.{largestSize}
 use Rattle.expression.specs.Walks.{weight}
 use Rattle.backend.specs.Circuit.{Circuit}
 use Rattle.preprocessor.specs.Compose.{compose, numberOfM, numberOfH, lookupTreeOf, composeTree}
-use Rattle.preprocessor.specs.ComposeWords.{
-  Limits,
-  Words,
-  sideExprs,
-  sideTree,
-  inputSide,
-  tableSide,
-  inputSides,
-  groupFromWords,
-  groupsFromWords,
-  constraintsFromWords,
-  numConstraints,
-  permutationNodes,
-  DecodedFrom,
-}
+use Rattle.preprocessor.specs.ComposeWords.{Limits, sideExprs, sideTree, inputSide, tableSide, inputSides, groupFromWords, groupsFromWords, constraintsFromWords, numConstraints, permutationNodes, DecodedFrom}
 use Rattle.preprocessor.specs.Count.{nodesIn, listNodes, groupNodes}
 use Rattle.preprocessor.specs.declared.CircuitParams.{CircuitParams}
 use Rattle.preprocessor.proofs.Groups.{group-weight}

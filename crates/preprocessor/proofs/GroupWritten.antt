@@ -1,7 +1,7 @@
 -- The constraint of a group as its parts are written one behind the other, and the room that they take. Proved.
-use mathlib.Core.Path.{_≡_, refl, sym, ap, ap₂, _∙_, subst}
+use mathlib.Core.Path.{_≡_, refl, sym, ap, _∙_, subst}
 use mathlib.Core.List.{List, [], _∷_, _++_, map}
-use Prim.Native.Nat.{ℕ, zero, suc, _+_, _-_, _*_, _≤_, _<_}
+use Prim.Native.Nat.{ℕ, zero, suc, _+_, _-_, _≤_, _<_}
 use native.Mathlib.Decide.{decLt}
 use native.Mathlib.Numerals.{add-one}
 use native.Mathlib.Omega.{arith}
@@ -10,7 +10,6 @@ use Rattle.lists.specs.Lists.{tabulate}
 use Rattle.lists.proofs.Columns.{tabulate-length, tabulate-suc, tabulate-first, tabulate-cong, tabulate-of, get-tabulate, map-tabulate}
 use Rattle.expression.specs.Expr.{Expr, at, productFrom, productOf}
 use Rattle.expression.specs.Flat.{body, size}
-use Rattle.expression.specs.Walks.{weight}
 use Rattle.expression.specs.Written.{Pushed, ExprWritten}
 use Rattle.expression.proofs.Visits.{size-is}
 use Rattle.expression.proofs.Written.{written-as, written-factor, written-sum, written-product, written-minus}

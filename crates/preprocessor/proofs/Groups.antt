@@ -1,13 +1,13 @@
 -- How many nodes the constraint of a group takes, an Item counted as `item`. Proved.
-use mathlib.Core.Path.{_≡_, refl, sym, ap, ap₂, _∙_}
+use mathlib.Core.Path.{_≡_, refl, ap, _∙_}
 use mathlib.Core.List.{List, [], _∷_, map}
-use Prim.Native.Nat.{ℕ, zero, suc, _+_, _*_, _≤_, _<_}
+use Prim.Native.Nat.{ℕ, suc, _+_, _*_, _<_}
 use native.Mathlib.Nat.{suc-mul, mul-add}
 use native.Mathlib.Omega.{arith}
 use lib.ListN.{length, length-map}
-use Rattle.lists.specs.Lists.{tabulate, total, All}
+use Rattle.lists.specs.Lists.{total, All}
 use Rattle.lists.proofs.All.{all-mapped}
-use Rattle.expression.specs.Expr.{Expr, at, minus, productFrom, productOf}
+use Rattle.expression.specs.Expr.{Expr, at, productFrom, productOf}
 use Rattle.expression.specs.Walks.{weight}
 use Rattle.backend.specs.Constraints.{omitOne, sumFrom, sumOf, numeratorTree, groupTree}
 use Rattle.preprocessor.specs.Count.{nodesIn, groupNodes}

@@ -11,3 +11,4 @@ pub mod Nodes
 pub mod GroupWritten
 pub mod Counts
 pub mod Bound
+pub mod GroupOrder

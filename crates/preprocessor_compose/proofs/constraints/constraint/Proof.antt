@@ -1,4 +1,4 @@
-use Prim.Native.Nat.{suc, _+_, _*_, _-_}
+use Prim.Native.Nat.{suc, _+_, _-_}
 use Rattle.expression.proofs.Written as written
 use Rattle.expression.specs.Flat.{size}
 use Rattle.preprocessor.proofs.ComposeWords as trees

@@ -1,5 +1,5 @@
 use Rattle.lists.proofs.Runs as runs
-use Prim.Native.Nat.{ℕ, suc, _+_, _-_, _≤_, _<_, min}
+use Prim.Native.Nat.{ℕ, _+_, _-_, _≤_, _<_, min}
 use Rattle.expression.specs.Expr.{Expr}
 use Rattle.expression.specs.Flat.{largestSize}
 use Rattle.preprocessor.proofs.Counts as counts

@@ -1,4 +1,4 @@
-use Prim.Native.Nat.{ℕ, _+_, _-_, _*_, _≤_}
+use Prim.Native.Nat.{ℕ, _+_, _-_, _≤_}
 use Rattle.expression.specs.Expr.{Expr, productFrom}
 use Rattle.expression.specs.Flat.{body, size}
 use Rattle.expression.specs.Written.{ExprWritten}

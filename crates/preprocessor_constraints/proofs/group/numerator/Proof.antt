@@ -1,6 +1,5 @@
-use Prim.Native.Nat.{ℕ, _+_, _-_, _*_, _≤_}
+use Prim.Native.Nat.{_+_, _≤_}
 use Rattle.expression.proofs.Written as written
-use Rattle.expression.specs.Expr.{Expr}
 use Rattle.preprocessor.proofs.GroupWritten as groups
 use Rattle.preprocessor.specs.ComposeWords.{inputSide, tableSide}
 use borrow.Author.Needs.{needs}

@@ -1,4 +1,4 @@
-use Prim.Native.Nat.{ℕ, _+_, _-_, _*_, _≤_}
+use Prim.Native.Nat.{ℕ, _+_, _-_, _≤_}
 use Rattle.expression.proofs.Written as written
 use Rattle.expression.specs.Expr.{Expr, productOf}
 use Rattle.expression.specs.Flat.{size}
@@ -10,7 +10,7 @@ use Rattle.preprocessor.specs.ComposeWords.{inputSide}
 use borrow.Author.Needs.{needs}
 use lib.ListN.{length}
 use mathlib.Core.List.{List}
-use mathlib.Core.Path.{_≡_, refl, sym, ap, _∙_}
+use mathlib.Core.Path.{_≡_, refl, sym, ap}
 use native.Mathlib.Omega.{arith}
 use Rattle.preprocessor_constraints.proofs.group.product_besides.Statement.{statement}
 use Rattle.preprocessor_constraints.proofs.group.product_besides.Tie as tie

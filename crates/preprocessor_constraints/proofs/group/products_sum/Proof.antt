@@ -1,4 +1,4 @@
-use Prim.Native.Nat.{ℕ, _+_, _-_, _*_, _≤_}
+use Prim.Native.Nat.{ℕ, _+_, _-_, _≤_}
 use Rattle.backend.specs.Constraints.{omitOne, sumOf}
 use Rattle.expression.proofs.Written as written
 use Rattle.expression.specs.Expr.{Expr, productOf}
