@@ -41,7 +41,7 @@ module _ (ws instances witness challenges columns nodes : List ℕ) where
   first-is : firstNo first lent ≡ firstNo circuitQuestions ws
   first-is = first-of (λ (l : Lent). l .circuit) circuitQuestions lent
 
-  -- a no among 1 to 11
+  -- a no among 1 to 11 and 18
   pub circuit-no : (n : ℕ) → firstNo circuitQuestions ws ≡ suc n → checkBuild (lentBuild ws instances witness challenges columns nodes) ≡ suc n
   circuit-no n e = check-is ∙ first-refused first last lent n (first-is ∙ e)
 

@@ -4,8 +4,8 @@ use mathlib.Core.Bool.{Bool, true, _&&_}
 use mathlib.Core.List.{List, [], _∷_, _++_}
 use Prim.Native.Nat.{ℕ, _+_, _-_, _*_, _/_, _^_, _≤_, _<_, min}
 use native.Mathlib.Omega.{arith}
-use native.Mathlib.Nat.{mul-le-mul}
-use lib.ListN.{length, getD}
+use native.Mathlib.Nat.{mul-le-mul, sub-zero}
+use lib.ListN.{length, getD, take}
 use lib.Dec.{eqb, leb, ltb}
 use lib.Seq.{take-all}
 use borrow.Author.Tests.{le-leb, leb-true}
@@ -27,7 +27,7 @@ use Rattle.preprocessor.specs.Compose.{numZ, composedNodes, paramsOf}
 use Rattle.preprocessor.specs.ComposeWords.{Words, DecodedFrom}
 use Rattle.preprocessor.specs.declared.CircuitParams.{CircuitParams}
 use Rattle.hyperplonk_spec.specs.Build.{columnWords, q12, q13, q14}
-use Rattle.hyperplonk_prepare.specs.Prepared.{Accepted}
+use Rattle.hyperplonk_prepare.specs.Prepared.{Accepted, Prepared}
 use Rattle.hyperplonk_prepare.proofs.Accepted as known
 
 -- ---- over plain lists and numbers
@@ -92,6 +92,19 @@ module _ (ws : List ℕ) (a : Accepted ws) where
 
       pub decoded-from : DecodedFrom (circuitOf ws) v (copied (circuitOf ws)) nodes roots sizes widths pairs
       decoded-from = rw (e, x, y, s, z, q) (known.decoded ws a)
+
+  -- the copied columns and the sizes of the groups, as the first of lists
+  pub prepared : (names sizes : List ℕ) (n g : ℕ) (v : CircuitParams) → take n names ≡ copied (circuitOf ws)
+      → take g sizes ≡ groupSizes (circuitOf ws .groups)
+      → v ≡ paramsOf (circuitOf ws)
+      → Prepared ws (take (n - 0) names) (take (g - 0) sizes) v
+  prepared names sizes n g v c s e =
+      record {
+        accepted = a;
+        copied-are = ap (λ (m : ℕ). take m names) (sub-zero n) ∙ c;
+        sizes-are = ap (λ (m : ℕ). take m sizes) (sub-zero g) ∙ s;
+        params-are = e;
+      }
 
   -- ---- the numbers
   pub lookups-are : getD ws 13 0 ≡ numLookups (circuitOf ws)

@@ -76,7 +76,7 @@ module _ (ws instances witness challenges columns nodes : List ℕ) where
       go (Given.divided f h q) = let r = sym q ∙ n in omega arith
       go (Given.built f h q) = let r = sym q ∙ n in omega arith
 
-  -- ---- questions 1 to 11 are yes
+  -- ---- questions 1 to 11 and 18 are yes
   module _ (a : Accepted ws) where
     fourteen-is : q12 (circuitOf ws) instances witness challenges ≡ true → q13 instances witness challenges ≡ true
         → TooShort (circuitSizes (circuitOf ws)) columns nodes
@@ -136,7 +136,7 @@ module _ (ws : List ℕ) where
   pub sizes-refused : (r : ℕ) → r ≡ firstNo circuitQuestions ws → (r ≡ 0 → ⊥) → sizesOf ws ≡ noSizes r
   sizes-refused r e h = let s : r ≡ suc (r - 1) = omega arith in sizes-no (r - 1) (sym e ∙ s) ∙ ap noSizes (sym s)
 
-  -- where no number is told, questions 1 to 11 are yes
+  -- where no number is told, questions 1 to 11 and 18 are yes
   pub accepted-when : sizesOf ws .number ≡ 0 → Accepted ws
   accepted-when z = go (firstNo circuitQuestions ws) refl
     where
