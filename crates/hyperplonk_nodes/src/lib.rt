@@ -22,18 +22,29 @@ const WINDOW: usize = 2048;
 pub fn compose_nodes(
     circuit: &[u64],
     copied: &[u64],
+    sizes: &[u64],
     params: CircuitParams,
     from: usize,
     nodes: &mut [u64],
 ) -> usize
-    requires { ⌜ Prepared (now circuit) (now copied) params × (composedNodes (circuitOf (now circuit)) * 4 ≤ mostWords) ⌝ }
+    requires { ⌜ Prepared (now circuit) (now copied) (now sizes) params × (composedNodes (circuitOf (now circuit)) * 4 ≤ mostWords) ⌝ }
     ensures { λ r. ⌜ Composed from (circuitOf (now (circuit .entry))) (now (nodes .entry)) (now (nodes .exit)) r ⌝ }
 {
     let user = nodes_of(circuit);
     let roots = constraints_of(circuit);
     let widths = widths_of(circuit);
     let pairs = pairs_of(circuit);
-    compose(copied, user, roots, widths, pairs, nodes, from, params)
+    compose(
+        copied,
+        user,
+        roots,
+        sizes,
+        widths,
+        pairs,
+        nodes,
+        from,
+        params,
+    )
 }
 
 // Are the words the same?
@@ -66,29 +77,36 @@ fn window_end(at: usize, end: usize) -> usize
 fn same_window(
     circuit: &[u64],
     copied: &[u64],
+    sizes: &[u64],
     params: CircuitParams,
     nodes: &[u64],
     at: usize,
     end: usize,
 ) -> bool
-    requires { ⌜ Prepared (now circuit) (now copied) params × ((length (now nodes) ≡ composedNodes (circuitOf (now circuit)) * 4) × ((at ≤ end) × ((end ≤ length (now nodes)) × (end ≤ at + 2048)))) ⌝ }
+    requires { ⌜ Prepared (now circuit) (now copied) (now sizes) params × ((length (now nodes) ≡ composedNodes (circuitOf (now circuit)) * 4) × ((at ≤ end) × ((end ≤ length (now nodes)) × (end ≤ at + 2048)))) ⌝ }
     ensures { λ r. ⌜ r ≡ sameWords (take (end - at) (drop at (now (nodes .entry)))) (take (end - at) (drop at (composedWords (circuitOf (now (circuit .entry)))))) ⌝ }
 {
     let mut window = [0; WINDOW];
     let count = end - at;
-    compose_nodes(circuit, copied, params, at, &mut window);
+    compose_nodes(circuit, copied, sizes, params, at, &mut window);
     same_words(&nodes[at..end], &window[0..count])
 }
 
 // Are these the node words that building writes? They are composed window by window, and compared.
-pub fn same_nodes(circuit: &[u64], copied: &[u64], params: CircuitParams, nodes: &[u64]) -> bool
-    requires { ⌜ Prepared (now circuit) (now copied) params × (length (now nodes) ≡ composedNodes (circuitOf (now circuit)) * 4) ⌝ }
+pub fn same_nodes(
+    circuit: &[u64],
+    copied: &[u64],
+    sizes: &[u64],
+    params: CircuitParams,
+    nodes: &[u64],
+) -> bool
+    requires { ⌜ Prepared (now circuit) (now copied) (now sizes) params × (length (now nodes) ≡ composedNodes (circuitOf (now circuit)) * 4) ⌝ }
     ensures { λ r. ⌜ r ≡ sameWords (now (nodes .entry)) (composedWords (circuitOf (now (circuit .entry)))) ⌝ }
 {
     let mut at = 0;
     while at < nodes.len() {
         let end = window_end(at, nodes.len());
-        if !same_window(circuit, copied, params, nodes, at, end) {
+        if !same_window(circuit, copied, sizes, params, nodes, at, end) {
             return false;
         }
         at = end;

@@ -16,10 +16,10 @@ use Rattle.hyperplonk_nodes.proofs.same_window.Reads as same-window-rea
 use Rattle.hyperplonk_nodes.proofs.window_end.Reads as window-end-reads
 
 abbrev Inv-loop : tie.InvT-loop
-Inv-loop circuit copied v nodes at₀ at = (at ≤ length nodes) × (take at nodes ≡ take at (composedWords (circuitOf circuit)))
+Inv-loop circuit copied sizes v nodes at₀ at = (at ≤ length nodes) × (take at nodes ≡ take at (composedWords (circuitOf circuit)))
 
 abbrev μ-loop : tie.MeasureT-loop
-μ-loop circuit copied v nodes at₀ at = length nodes - at
+μ-loop circuit copied sizes v nodes at₀ at = length nodes - at
 
 loop-holds : tie.Need-loop-holds Inv-loop μ-loop
 loop-holds c = (omega arith, refl)
@@ -29,11 +29,11 @@ window-end-requires c κs = omega arith
 
 same-window-requires : tie.Need-same-window-requires Inv-loop μ-loop
 same-window-requires c κs =
-    (c .before .before .before .before .before .before .pre .0, (c .before .before .before .before .before .before .pre .1, (omega arith, (omega arith, omega arith))))
+    (c .before .before .before .before .before .before .before .pre .0, (c .before .before .before .before .before .before .before .pre .1, (omega arith, (omega arith, omega arith))))
 
 returns : tie.Need-returns Inv-loop μ-loop
 returns c =
-    sym (run-differs (c .before .before .before .before .before .before .before .before .args .nodes .now) (composedWords (circuitOf (c .before .before .before .before .before .before .before .before .args .circuit .now))) (c .before .before .before .before .loop .at) (c .before .before .window-end .result - c .before .before .before .before .loop .at)
+    sym (run-differs (c .before .before .before .before .before .before .before .before .before .args .nodes .now) (composedWords (circuitOf (c .before .before .before .before .before .before .before .before .before .args .circuit .now))) (c .before .before .before .before .loop .at) (c .before .before .window-end .result - c .before .before .before .before .loop .at)
     (sym (c .before .same-window .ensures) ∙ not-true (c .before .same-window .result) (c .if1 .taken)))
 
 loop-less : tie.Need-loop-less Inv-loop μ-loop
@@ -42,13 +42,13 @@ loop-less c = omega arith
 loop-again : tie.Need-loop-again Inv-loop μ-loop
 loop-again c = (
   omega arith,
-  up-to (c .before .before .before .before .before .before .before .before .args .nodes .now) (composedWords (circuitOf (c .before .before .before .before .before .before .before .before .args .circuit .now))) (c .before .before .before .before .loop .at) (c .before .before .window-end .result) (omega arith) (c .before .before .before .before .loop .inv .1)
+  up-to (c .before .before .before .before .before .before .before .before .before .args .nodes .now) (composedWords (circuitOf (c .before .before .before .before .before .before .before .before .before .args .circuit .now))) (c .before .before .before .before .loop .at) (c .before .before .window-end .result) (omega arith) (c .before .before .before .before .loop .inv .1)
       (sym (c .before .same-window .ensures) ∙ not-false (c .before .same-window .result) (c .if1 .left)),
 )
 
 returns-2 : tie.Need-returns-2 Inv-loop μ-loop
 returns-2 c =
-    sym (same-all (c .before .before .before .before .before .args .nodes .now) (composedWords (circuitOf (c .before .before .before .before .before .args .circuit .now))) (c .before .loop .at) (omega arith) (omega (arith, composed-length (circuitOf (c .before .before .before .before .before .args .circuit .now)))) (c .before .loop .inv .1))
+    sym (same-all (c .before .before .before .before .before .before .args .nodes .now) (composedWords (circuitOf (c .before .before .before .before .before .before .args .circuit .now))) (c .before .loop .at) (omega arith) (omega (arith, composed-length (circuitOf (c .before .before .before .before .before .before .args .circuit .now)))) (c .before .loop .inv .1))
 
 pub same-nodes-spec : {M : Type 1} → statement M
 same-nodes-spec =

@@ -44,7 +44,7 @@ same-words-requires c κs = search needs
 
 returns : tie.Need-returns
 returns c =
-    compared (c .same-words .result) _ (c .before .before .before .before .before .before .before .before .before .before .args .end - c .before .before .before .before .before .before .before .before .before .before .args .at) (omega arith) (omega arith) (c .before .before .before .before .before .compose-nodes .ensures) (c .same-words .ensures)
+    compared (c .same-words .result) _ (c .before .before .before .before .before .before .before .before .before .before .before .args .end - c .before .before .before .before .before .before .before .before .before .before .before .args .at) (omega arith) (omega arith) (c .before .before .before .before .before .compose-nodes .ensures) (c .same-words .ensures)
 
 pub same-window-spec : {M : Type 1} → statement M
 same-window-spec =
