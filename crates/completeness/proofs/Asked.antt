@@ -1,6 +1,7 @@
 -- What the building call's questions say, and that the row sum's are then yes.
-use mathlib.Core.Path.{_≡_, refl, sym, ap₂, _∙_}
-use mathlib.Core.Bool.{Bool, true, false, cond, _&&_}
+use mathlib.Core.Path.{_≡_, refl, sym, ap, ap₂, _∙_}
+use mathlib.Core.Logic.{_≢_}
+use mathlib.Core.Bool.{Bool, true, false, cond, not, _&&_, _||_}
 use mathlib.Core.List.{List, [], _∷_, _++_, map}
 use Prim.Native.Nat.{ℕ, _+_, _*_, _<_}
 use native.Mathlib.Omega.{arith}
@@ -9,7 +10,7 @@ use lib.Dec.{eqb}
 use borrow.Author.Tests.{eq-eqb, eqb-true, ltb-true, lt-ltb}
 use Rattle.field.specs.Prime.{P}
 use Rattle.lists.specs.Lists.{total, allOf, Question, questionOf, firstNo, All}
-use Rattle.lists.proofs.Tests.{all-each, and-left, and-right, same-words}
+use Rattle.lists.proofs.Tests.{false-true, all-true, all-each, and-left, and-right, same-words}
 use Rattle.lists.proofs.All.{all-from, all-join}
 use Rattle.lists.proofs.First.{first-yes, first-append, first-both, first-of, numbered-of}
 use Rattle.backend.specs.Circuit.{circuitOf, rowsOf, numWitness, numChallenges}
@@ -81,20 +82,33 @@ sum-yes ws instances witness challenges columns y α lent cl cs αs yl ys =
     ))
 
 -- ---- the numbers of questions 1 to 14
-first-below : {A : Type 0} (qs : List (Question A)) (x : A) (m : ℕ) → 0 < m → All (λ q. q .number < m) qs → firstNo qs x < m
+first-has : {A : Type 0} (Q : ℕ → Type 0) (qs : List (Question A)) (x : A) → Q 0 → All (λ q. Q (q .number)) qs → Q (firstNo qs x)
 unfolding firstNo
-first-below [] x m h a = h
-first-below (q ∷ qs) x m h a = go (q .test x) (first-below qs x m h (a .1))
+first-has Q [] x h a = h
+first-has Q (q ∷ qs) x h a = go (q .test x) (first-has Q qs x h (a .1))
   where
-    go : (t : Bool) → firstNo qs x < m → cond t (firstNo qs x) (q .number) < m
+    go : (t : Bool) → Q (firstNo qs x) → Q (cond t (firstNo qs x) (q .number))
     go true r = r
     go false r = a .0
 
-asked-numbers : All (λ (q : Question Lent). q .number < 15) buildQuestions
-unfolding buildQuestions circuitQuestions
-asked-numbers = omega arith
+-- is a number neither 15 nor 17?
+other : ℕ → Bool
+other n = not (eqb n 15 || eqb n 17)
 
--- they are below 15, so 15 and 17 are given only where all of these are yes
-pub asked-below : (l : Lent) → checkBuild l < 15
-unfolding checkBuild
-asked-below l = first-below buildQuestions l 15 (omega arith) asked-numbers
+other-numbers : allOf (λ (q : Question Lent). other (q .number)) buildQuestions ≡ true
+unfolding buildQuestions circuitQuestions allOf other
+other-numbers = refl
+
+asked-is : (l : Lent) → other (checkBuild l) ≡ true
+unfolding checkBuild other
+asked-is l =
+    first-has (λ n. other n ≡ true) buildQuestions l refl
+    (all-true (λ (q : Question Lent). other (q .number)) buildQuestions other-numbers)
+
+-- none is 15 or 17, so 15 and 17 are given only where all of these are yes
+pub asked-other : (l : Lent) → (checkBuild l ≢ 15) × (checkBuild l ≢ 17)
+unfolding other
+asked-other l = (λ e. not-this 15 refl e, λ e. not-this 17 refl e)
+  where
+    not-this : (n : ℕ) → other n ≡ false → checkBuild l ≢ n
+    not-this n h e = false-true (sym h ∙ sym (ap other e) ∙ asked-is l)

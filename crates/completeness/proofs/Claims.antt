@@ -7,6 +7,7 @@ use Rattle.hyperplonk_prepare.proofs.Bound as Bound
 use Rattle.hyperplonk_prepare.proofs.Foretold as Foretold
 use Rattle.completeness.specs.Claims.{Claims}
 use Rattle.completeness.proofs.Counts as Counts
+use Rattle.completeness.proofs.Groups as Groups
 use Rattle.completeness.proofs.Denominators as Denominators
 use Rattle.completeness.proofs.Cuts as Cuts
 use Rattle.completeness.proofs.Degrees as Degrees
@@ -42,6 +43,10 @@ claims =
       odds-limit = FewTurnedAway.odds-limit;
       row-listed-twice = RowListedTwice.row-listed-twice;
       zero-when = GoodLog.zero-when;
+      eighteen-when = Groups.eighteen-when;
+      groups-by-number = Groups.groups-by-number;
+      tables-agree = Groups.tables-agree;
+      group-of-one = Groups.group-of-one;
       reads-back = ReadsBack.reads-back;
       lookup-zero = ConstraintZero.lookup-zero;
       start-zero = ConstraintZero.start-zero;

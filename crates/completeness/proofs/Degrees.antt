@@ -13,7 +13,7 @@ use Rattle.lists.specs.Lists.{tabulate, range, maximum, All}
 use Rattle.lists.proofs.All.{all-get, all-join, all-left, all-right, all-tabulate}
 use Rattle.lists.proofs.Totals.{get-cut}
 use Rattle.expression.specs.Expr.{Expr, evaluate, degreeOps, degree, distributePowers, productFrom, productOf}
-use Rattle.backend.specs.Circuit.{Circuit, numChallenges, numLookups, numCopied, hNumber, zNumber}
+use Rattle.backend.specs.Circuit.{Circuit, numChallenges, numGroups, numCopied, hNumber, zNumber}
 use Rattle.backend.specs.Constraints.{lookupConstraint, lookupConstraints, maxDegree}
 use Rattle.backend.proofs.Degree.{powers-degree}
 use Rattle.preprocessor.specs.Compose.{numZ, constraintCut, identityFactor, permutationFactor, nextZ, startConstraint, partConstraint, permutationConstraints, composedConstraints, zeroCheck, composeTree, constraintTrees, identityTree, lookupTreeOf, nextTree, paramsOf, outerTrees, partTree, permutationTree, permutationTrees, startTree, zeroTree}
@@ -140,7 +140,7 @@ module _ (c : Circuit) where
 pub compose-degree : ComposeDegree
 unfolding composeTree outerTrees paramsOf
 compose-degree c =
-    powers-below (tabulate (λ j. Expr.poly (hNumber c j) (pos 0)) (numLookups c) ++ (zeroCheck c ∷ [])) (numChallenges c + 2) (maxDegree c + 1)
-    (all-join (λ e. degree e ≤ maxDegree c + 1) (tabulate (λ j. Expr.poly (hNumber c j) (pos 0)) (numLookups c)) (zeroCheck c ∷ [])
-    (all-tabulate (λ e. degree e ≤ maxDegree c + 1) (λ j. Expr.poly (hNumber c j) (pos 0)) (numLookups c) (λ j l. h-degree c j))
+    powers-below (tabulate (λ j. Expr.poly (hNumber c j) (pos 0)) (numGroups c) ++ (zeroCheck c ∷ [])) (numChallenges c + 2) (maxDegree c + 1)
+    (all-join (λ e. degree e ≤ maxDegree c + 1) (tabulate (λ j. Expr.poly (hNumber c j) (pos 0)) (numGroups c)) (zeroCheck c ∷ [])
+    (all-tabulate (λ e. degree e ≤ maxDegree c + 1) (λ j. Expr.poly (hNumber c j) (pos 0)) (numGroups c) (λ j l. h-degree c j))
     (check-degree c, tt))

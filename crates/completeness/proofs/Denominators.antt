@@ -1,24 +1,26 @@
--- What `zeroDenominator` says: there is a lookup and a row, or a copied column and a row but 0, where a denominator is zero; and else
+-- What `zeroDenominator` says: there is a group, a lookup of it or its table, and a row, or a copied column and a row but 0, where a denominator is zero; and else
 -- there is none. Over any field.
-use mathlib.Core.Path.{_≡_, refl, sym, ap, _∙_}
-use mathlib.Core.Logic.{_≢_, _⊎_, _↔_, inl, inr, ⊎-elim}
+use mathlib.Core.Path.{_≡_, refl, sym, ap, _∙_, subst}
+use mathlib.Core.Logic.{_⊎_, _↔_, inl, inr, ⊎-elim}
 use mathlib.Core.Bool.{Bool, true, false, _||_}
 use mathlib.Core.List.{List, []}
 use Prim.Native.Nat.{ℕ, zero, suc, _-_, _<_}
 use native.Mathlib.Omega.{arith}
-use lib.ListN.{length, getD}
+use lib.ListN.{length, getD, length-map}
 use Rattle.field.specs.Algebra.{Field}
 use Rattle.lists.specs.Lists.{tabulate, anyOf}
-use Rattle.lists.proofs.Tests.{false-true, by-test, any-at, any-append}
+use Rattle.lists.proofs.Lists.{get-map}
+use Rattle.lists.proofs.Tests.{false-true, by-test, any-at}
 use Rattle.lists.proofs.Searches.{any-stop}
 use Rattle.lists.proofs.Walks.{any-lists}
 use Rattle.lists.proofs.Some.{or-cases, some-at, some-tabulate}
-use Rattle.backend.specs.Circuit.{Pair, rowsOf, numCopied}
+use Rattle.backend.specs.Circuit.{Pair, rowsOf, numCopied, groupsOf}
 use Rattle.prover.specs.Lookup.{same}
 use Rattle.prover.specs.Log.{Log}
-use Rattle.prover.specs.Columns.{inputAt, tableAt, permutationFactorAt}
-use Rattle.prover.specs.Denominators.{someZero, lookupDenominators, factorDenominators, zeroDenominator}
-use Rattle.prover.proofs.Denominators.{is-zero, not-zero}
+use Rattle.prover.specs.Columns.{inputAt, groupInputs, groupTable, permutationFactorAt}
+use Rattle.prover.specs.Denominators.{someZero, groupDenominators, factorDenominators, zeroDenominator}
+use Rattle.prover.proofs.Denominators.{is-zero, nil-when}
+use Rattle.prover.proofs.Groups.{group-some}
 use Rattle.prover.proofs.NoneZero.{zero-parts}
 use Rattle.hyperplonk_spec.specs.Meaning.{NoneZero, SomeZero, ZeroInput, ZeroTable, ZeroFactor}
 
@@ -35,40 +37,6 @@ module _ (𝓕 : Field) where
   abbrev isNil : F → Bool
   isNil x = same 𝓕 x nil
 
-  nil-when : (x : F) → isNil x ≡ true → x ≡ nil
-  nil-when x e = go (𝓕 .decide x nil)
-    where
-      go : Dec (x ≡ nil) → x ≡ nil
-      go (yes p) = p
-      go (no n) = false-true (sym (not-zero 𝓕 x n) ∙ e)
-
-  -- of one lookup
-  module _ (rows : ℕ) (γ : F) (input table : ℕ → F) where
-    abbrev AtRow : (ℕ → F) → Type 0
-    AtRow f = (b : ℕ) × (b < rows) × (add γ (f b) ≡ nil)
-
-    lookup-some : someZero 𝓕 (lookupDenominators 𝓕 rows γ input table) ≡ true → AtRow input ⊎ AtRow table
-    unfolding someZero lookupDenominators
-    lookup-some e =
-        ⊎-elim (λ h. inl (row input h)) (λ h. inr (row table h))
-        (or-cases (anyOf isNil (tabulate (λ b. add γ (input b)) rows)) (anyOf isNil (tabulate (λ b. add γ (table b)) rows))
-        (sym (any-append isNil (tabulate (λ b. add γ (input b)) rows) (tabulate (λ b. add γ (table b)) rows)) ∙ e))
-      where
-        row : (f : ℕ → F) → anyOf isNil (tabulate (λ b. add γ (f b)) rows) ≡ true → AtRow f
-        row f h = let r = some-tabulate isNil (λ b. add γ (f b)) rows h in (r .0, r .1, nil-when (add γ (f (r .0))) (r .2))
-
-    some-lookup : AtRow input ⊎ AtRow table → someZero 𝓕 (lookupDenominators 𝓕 rows γ input table) ≡ true
-    unfolding someZero lookupDenominators
-    some-lookup s =
-        any-append isNil (tabulate (λ b. add γ (input b)) rows) (tabulate (λ b. add γ (table b)) rows)
-        ∙ ⊎-elim
-        (λ h. or-left (anyOf isNil (tabulate (λ b. add γ (input b)) rows)) (anyOf isNil (tabulate (λ b. add γ (table b)) rows)) (row input h))
-        (λ h. or-right (anyOf isNil (tabulate (λ b. add γ (input b)) rows)) (anyOf isNil (tabulate (λ b. add γ (table b)) rows)) (row table h))
-        s
-      where
-        row : (f : ℕ → F) → AtRow f → anyOf isNil (tabulate (λ b. add γ (f b)) rows) ≡ true
-        row f h = sym (any-stop isNil (λ b. add γ (f b)) rows (h .0) (is-zero 𝓕 (add γ (f (h .0))) (h .2)) (h .1))
-
   -- of the copied columns
   module _ (rows n : ℕ) (f : ℕ → ℕ → F) where
     abbrev AtFactor : Type 0
@@ -80,7 +48,7 @@ module _ (𝓕 : Field) where
         let r = some-tabulate (anyOf isNil) (λ i. tabulate (λ b. f i (suc b)) (rows - 1)) n
         (any-lists isNil (tabulate (λ i. tabulate (λ b. f i (suc b)) (rows - 1)) n) ∙ e) in
         let s = some-tabulate isNil (λ b. f (r .0) (suc b)) (rows - 1) (r .2) in
-        (r .0, r .1, (suc (s .0), (let l = s .1 in omega arith), (omega arith, nil-when (f (r .0) (suc (s .0))) (s .2))))
+        (r .0, r .1, (suc (s .0), (let l = s .1 in omega arith), (omega arith, nil-when 𝓕 (f (r .0) (suc (s .0))) (s .2))))
 
     some-factor : AtFactor → someZero 𝓕 (factorDenominators 𝓕 rows n f) ≡ true
     unfolding someZero factorDenominators
@@ -101,21 +69,55 @@ module _ (𝓕 : Field) where
     abbrev rows : ℕ
     rows = rowsOf (g .circuit)
 
-    abbrev of : List Pair → List F
-    of l = lookupDenominators 𝓕 rows (g .γ) (inputAt 𝓕 g l) (tableAt 𝓕 g l)
+    abbrev groups : List (List (List Pair))
+    groups = groupsOf (g .circuit)
+
+    abbrev of : List (List Pair) → List F
+    of group = groupDenominators 𝓕 rows (g .γ) (groupInputs 𝓕 g group) (groupTable 𝓕 g group)
 
     abbrev factors : List F
     factors = factorDenominators 𝓕 rows (numCopied (g .circuit)) (permutationFactorAt 𝓕 g)
 
+    -- of a group: there is a lookup of it and a row, or a row of its table
+    abbrev AtRow : (ℕ → F) → Type 0
+    AtRow f = (b : ℕ) × (b < rows) × (add (g .γ) (f b) ≡ nil)
+
+    abbrev AtLookup : List (List Pair) → Type 0
+    AtLookup group = (i : ℕ) × (i < length group) × AtRow (inputAt 𝓕 g (getD group i []))
+
+    input-is : (group : List (List Pair)) (i : ℕ) → i < length group
+        → getD (groupInputs 𝓕 g group) i (λ b. nil) ≡ inputAt 𝓕 g (getD group i [])
+    unfolding groupInputs
+    input-is group i l = get-map (inputAt 𝓕 g) group i [] (λ b. nil) l
+
+    inputs-length : (group : List (List Pair)) → length (groupInputs 𝓕 g group) ≡ length group
+    unfolding groupInputs
+    inputs-length group = length-map group (inputAt 𝓕 g)
+
+    group-when : (group : List (List Pair)) → (someZero 𝓕 (of group) ≡ true) ↔ (AtLookup group ⊎ AtRow (groupTable 𝓕 g group))
+    group-when group =
+        let w = group-some 𝓕 rows (g .γ) (groupInputs 𝓕 g group) (groupTable 𝓕 g group) (λ b. nil) in (
+          λ e. ⊎-elim (λ s. inl (there (s .0) (s .1) (s .2))) inr (w .0 e),
+          λ s. w .1 (⊎-elim (λ s. inl (back (s .0) (s .1) (s .2))) inr s),
+        )
+      where
+        there : (i : ℕ) → i < length (groupInputs 𝓕 g group) → AtRow (getD (groupInputs 𝓕 g group) i (λ b. nil)) → AtLookup group
+        there i l r =
+            let m : i < length group = let q = inputs-length group in omega arith in
+            (i, m, subst AtRow (input-is group i m) r)
+
+        back : (i : ℕ) → i < length group → AtRow (inputAt 𝓕 g (getD group i []))
+            → (i : ℕ) × (i < length (groupInputs 𝓕 g group)) × AtRow (getD (groupInputs 𝓕 g group) i (λ b. nil))
+        back i l r = (i, (let q = inputs-length group in omega arith), subst AtRow (sym (input-is group i l)) r)
+
     some-zero-of : zeroDenominator 𝓕 g ≡ true → SomeZero 𝓕 g
     some-zero-of e =
-        ⊎-elim lookup factor (or-cases (anyOf (λ l. someZero 𝓕 (of l)) (g .circuit .lookups)) (someZero 𝓕 factors) (sym (zero-parts 𝓕 g) ∙ e))
+        ⊎-elim grouped factor (or-cases (anyOf (λ group. someZero 𝓕 (of group)) groups) (someZero 𝓕 factors) (sym (zero-parts 𝓕 g) ∙ e))
       where
-        lookup : anyOf (λ l. someZero 𝓕 (of l)) (g .circuit .lookups) ≡ true → SomeZero 𝓕 g
-        lookup h =
-            let r = some-at (λ l. someZero 𝓕 (of l)) [] (g .circuit .lookups) h in
-            ⊎-elim (λ s. inl (r .0, r .1, s)) (λ s. inr (inl (r .0, r .1, s)))
-            (lookup-some rows (g .γ) (inputAt 𝓕 g (getD (g .circuit .lookups) (r .0) [])) (tableAt 𝓕 g (getD (g .circuit .lookups) (r .0) [])) (r .2))
+        grouped : anyOf (λ group. someZero 𝓕 (of group)) groups ≡ true → SomeZero 𝓕 g
+        grouped h =
+            let r = some-at (λ group. someZero 𝓕 (of group)) [] groups h in
+            ⊎-elim (λ s. inl (r .0, r .1, s)) (λ s. inr (inl (r .0, r .1, s))) (group-when (getD groups (r .0) []) .0 (r .2))
 
         factor : someZero 𝓕 factors ≡ true → SomeZero 𝓕 g
         factor h = inr (inr (factor-some rows (numCopied (g .circuit)) (permutationFactorAt 𝓕 g) h))
@@ -123,21 +125,21 @@ module _ (𝓕 : Field) where
     zero-of-some : SomeZero 𝓕 g → zeroDenominator 𝓕 g ≡ true
     zero-of-some s = zero-parts 𝓕 g ∙ ⊎-elim input (⊎-elim table factor) s
       where
-        lookups : (j : ℕ) → j < length (g .circuit .lookups) → someZero 𝓕 (of (getD (g .circuit .lookups) j [])) ≡ true
-            → (anyOf (λ l. someZero 𝓕 (of l)) (g .circuit .lookups) || someZero 𝓕 factors) ≡ true
-        lookups j l e =
-            or-left (anyOf (λ l. someZero 𝓕 (of l)) (g .circuit .lookups)) (someZero 𝓕 factors)
-            (any-at (λ l. someZero 𝓕 (of l)) [] (g .circuit .lookups) j l e)
+        grouped : (j : ℕ) → j < length groups → someZero 𝓕 (of (getD groups j [])) ≡ true
+            → (anyOf (λ group. someZero 𝓕 (of group)) groups || someZero 𝓕 factors) ≡ true
+        grouped j l e =
+            or-left (anyOf (λ group. someZero 𝓕 (of group)) groups) (someZero 𝓕 factors)
+            (any-at (λ group. someZero 𝓕 (of group)) [] groups j l e)
 
-        input : ZeroInput 𝓕 g → (anyOf (λ l. someZero 𝓕 (of l)) (g .circuit .lookups) || someZero 𝓕 factors) ≡ true
-        input z = lookups (z .0) (z .1) (some-lookup rows (g .γ) (inputAt 𝓕 g _) (tableAt 𝓕 g _) (inl (z .2)))
+        input : ZeroInput 𝓕 g → (anyOf (λ group. someZero 𝓕 (of group)) groups || someZero 𝓕 factors) ≡ true
+        input z = grouped (z .0) (z .1) (group-when (getD groups (z .0) []) .1 (inl (z .2)))
 
-        table : ZeroTable 𝓕 g → (anyOf (λ l. someZero 𝓕 (of l)) (g .circuit .lookups) || someZero 𝓕 factors) ≡ true
-        table z = lookups (z .0) (z .1) (some-lookup rows (g .γ) (inputAt 𝓕 g _) (tableAt 𝓕 g _) (inr (z .2)))
+        table : ZeroTable 𝓕 g → (anyOf (λ group. someZero 𝓕 (of group)) groups || someZero 𝓕 factors) ≡ true
+        table z = grouped (z .0) (z .1) (group-when (getD groups (z .0) []) .1 (inr (z .2)))
 
-        factor : ZeroFactor 𝓕 g → (anyOf (λ l. someZero 𝓕 (of l)) (g .circuit .lookups) || someZero 𝓕 factors) ≡ true
+        factor : ZeroFactor 𝓕 g → (anyOf (λ group. someZero 𝓕 (of group)) groups || someZero 𝓕 factors) ≡ true
         factor z =
-            or-right (anyOf (λ l. someZero 𝓕 (of l)) (g .circuit .lookups)) (someZero 𝓕 factors)
+            or-right (anyOf (λ group. someZero 𝓕 (of group)) groups) (someZero 𝓕 factors)
             (some-factor rows (numCopied (g .circuit)) (permutationFactorAt 𝓕 g) z)
 
     pub zero-denominator-when : (zeroDenominator 𝓕 g ≡ true) ↔ SomeZero 𝓕 g
@@ -146,7 +148,7 @@ module _ (𝓕 : Field) where
     none-of : zeroDenominator 𝓕 g ≡ false → NoneZero 𝓕 g
     none-of e =
         record {
-          input-denominators = λ j l b m z. no (inl (j, l, (b, m, z)));
+          input-denominators = λ j l i n b m z. no (inl (j, l, (i, n, (b, m, z))));
           table-denominators = λ j l b m z. no (inr (inl (j, l, (b, m, z))));
           factor-denominators = λ i l b m p z. no (inr (inr (i, l, (b, m, (p, z)))));
         }
@@ -159,7 +161,7 @@ module _ (𝓕 : Field) where
       where
         no : SomeZero 𝓕 g → ⊥
         no s =
-            ⊎-elim (λ z. n .input-denominators (z .0) (z .1) (z .2 .0) (z .2 .1) (z .2 .2))
+            ⊎-elim (λ z. n .input-denominators (z .0) (z .1) (z .2 .0) (z .2 .1) (z .2 .2 .0) (z .2 .2 .1) (z .2 .2 .2))
             (⊎-elim (λ z. n .table-denominators (z .0) (z .1) (z .2 .0) (z .2 .1) (z .2 .2)) (λ z. n .factor-denominators (z .0) (z .1) (z .2 .0) (z .2 .1) (z .2 .2 .0) (z .2 .2 .1)))
             s
 

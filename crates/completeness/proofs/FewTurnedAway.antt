@@ -20,15 +20,17 @@ use Rattle.lists.proofs.Some.{none-all}
 use Rattle.lists.proofs.Lists.{get-past, split-length}
 use Rattle.lists.proofs.Columns.{tabulate-length}
 use Rattle.lists.proofs.Searches.{count-le}
-use Rattle.backend.specs.Circuit.{Section, wordK, entries, bodyOf, pairAt, Circuit, circuitOf, rowsOf, numChallenges, numPoly, numLookups, numCopied, copied, copiedIn}
+use Rattle.backend.specs.Circuit.{Section, wordK, entries, bodyOf, pairAt, Circuit, circuitOf, rowsOf, numChallenges, numPoly, numLookups, numGroups, numCopied, copied, copiedIn}
 use Rattle.backend.specs.Questions.{largestK}
 use Rattle.backend.proofs.Sections.{body-length}
+use Rattle.backend.proofs.Answers.{numbers-few, numbers-good}
+use Rattle.backend.proofs.Groups.{groups-few}
 use Rattle.backend.proofs.Passed.{Yes, yes-all}
 use Rattle.prover.specs.Log.{Log}
 use Rattle.hyperplonk_spec.specs.Build.{logOf, checkBuild, buildOf, lentBuild}
 use Rattle.hyperplonk_spec.specs.Meaning.{NoneZero, Premises}
 use Rattle.hyperplonk_spec.specs.Insurer.{drawn, denominators, Good, Passes, Odds, FewTurnedAway, OddsLimit}
-use Rattle.completeness.proofs.Asked.{lending, asked-below}
+use Rattle.completeness.proofs.Asked.{lending, asked-other}
 use Rattle.hyperplonk_spec.proofs.Building.{refused-number}
 use Rattle.completeness.proofs.Denominators.{none-zero-when}
 use Rattle.completeness.proofs.DemandThree.{seventeen}
@@ -105,9 +107,8 @@ module _ (ws instances witness user : List ℕ) (β : ℕ) where
       go : (n : ℕ) → checkBuild (lentBuild ws instances witness (words γ) columns nodes) ≡ n → All (λ u. γ ≢ u) list → ⊥
       go zero q a = not-17 γ a columns nodes q e
       go (suc n) q a =
-          let r = sym (refused-number ws instances witness (words γ) columns nodes n q) ∙ e in
-          let b = asked-below (lentBuild ws instances witness (words γ) columns nodes) in
-          omega arith
+          asked-other (lentBuild ws instances witness (words γ) columns nodes) .1
+          (q ∙ sym (refused-number ws instances witness (words γ) columns nodes n q) ∙ e)
 
 pub few-turned-away : FewTurnedAway
 few-turned-away ws instances witness user β =
@@ -128,6 +129,13 @@ module _ (ws : List ℕ) (y : Yes ws) where
       let a = split-length (bodyOf ws Section.widths) (tabulate (pairAt (bodyOf ws Section.nodes) (bodyOf ws Section.pairs)) (entries ws Section.pairs)) in
       let b = body-length ws (y .laid) Section.widths in
       let d = y .laid .few-widths in
+      omega arith
+
+  few-groups : numGroups c ≤ 8
+  unfolding numGroups circuitOf
+  few-groups =
+      let a = groups-few (bodyOf ws Section.groups) (numbers-good ws (y .laid) (y .eighteen)) in
+      let b = numbers-few ws (y .laid) in
       omega arith
 
   few-copied : numCopied c ≤ numPoly c
@@ -151,5 +159,5 @@ module _ (ws : List ℕ) (y : Yes ws) where
 pub odds-limit : OddsLimit
 odds-limit ws e =
     let y = yes-all ws e in
-    mul-le-mul {n₁ = rowsOf (circuitOf ws)} {m₁ = 2 * numLookups (circuitOf ws) + numCopied (circuitOf ws)} {n₂ = 2 ^ largestK} {m₂ = 2 * 8 + (8 + 32 + 32)} (few-rows ws y)
-    (let a = few-lookups ws y in let b = few-copied ws y in let d = few-polys ws y in omega arith)
+    mul-le-mul {n₁ = rowsOf (circuitOf ws)} {m₁ = numLookups (circuitOf ws) + numGroups (circuitOf ws) + numCopied (circuitOf ws)} {n₂ = 2 ^ largestK} {m₂ = 8 + 8 + (8 + 32 + 32)} (few-rows ws y)
+    (let a = few-lookups ws y in let h = few-groups ws y in let b = few-copied ws y in let d = few-polys ws y in omega arith)

@@ -10,20 +10,26 @@ use Rattle.field.specs.Algebra.{Field}
 use Rattle.field.specs.Field.{𝔾}
 use Rattle.lists.specs.Lists.{All}
 use Rattle.lists.proofs.Tests.{true-all, false-true}
-use Rattle.lists.proofs.All.{all-from}
+use Rattle.lists.proofs.All.{all-from, all-get, all-split, all-both, all-mapped}
+use Rattle.identities.specs.Counts.{AllStand}
 use Rattle.expression.specs.Value.{valueAt}
-use Rattle.backend.specs.Circuit.{Pair, rowsOf}
+use Rattle.backend.specs.Circuit.{Pair, rowsOf, groupSizes, groupsOf}
 use Rattle.backend.specs.Constraints.{inputsOf, tablesOf}
-use Rattle.prover.specs.Lookup.{covered}
+use Rattle.backend.specs.Questions.{q18}
+use Rattle.backend.proofs.Passed.{yes-all}
+use Rattle.prover.specs.Lookup.{covered, groupCovered}
 use Rattle.prover.specs.Log.{Log}
-use Rattle.prover.specs.Columns.{powerSum, instancePolys, preprocessPolys, witnessPolys, givenPolys, userEnvironment, compressedAt, inputAt, tableAt, allCovered}
+use Rattle.prover.specs.Columns.{powerSum, instancePolys, preprocessPolys, witnessPolys, givenPolys, userEnvironment, compressedAt, inputAt, tableAt, groupInputs, groupTable, allCovered}
+use Rattle.prover.proofs.Multiplicity.{stand-covered}
 use Rattle.hyperplonk_spec.specs.Build.{Output, logOf, checkBuild, buildOf, lentBuild}
 use Rattle.hyperplonk_spec.specs.declared.Built.{Built}
 use Rattle.hyperplonk_spec.specs.Meaning.{HasCounts, NoneZero, SomeZero, Premises}
 use Rattle.hyperplonk_spec.specs.Demand.{Demand3}
 use Rattle.hyperplonk_spec.specs.Insurer.{noPair, drawn, ReadingsStand, ReadingsCovered, Passes, GoodLog, ZeroWhen}
 use Rattle.hyperplonk_spec.proofs.Building.{Given, given, zero-yes, zero-number}
-use Rattle.completeness.proofs.Counts.{stand-covered, covered-when}
+use Rattle.completeness.proofs.Asked.{lending}
+use Rattle.completeness.proofs.Groups.{tables-agree}
+use Rattle.completeness.proofs.Counts.{covered-when}
 use Rattle.completeness.proofs.Denominators.{none-zero-when}
 use Rattle.completeness.proofs.DemandThree.{demand-three}
 
@@ -43,16 +49,49 @@ module _ (𝓕 : Field) where
       go [] h = refl
       go (p ∷ ps) h = ap₂ _∷_ (h .0) (go ps (h .1))
 
-  pub stand-all : (g : Log 𝓕) → ReadingsStand 𝓕 g → allCovered 𝓕 g ≡ true
-  unfolding allCovered
-  stand-all g s =
-      true-all (λ l. covered 𝓕 (rowsOf (g .circuit)) (inputAt 𝓕 g l) (tableAt 𝓕 g l)) (g .circuit .lookups)
-      (all-from (λ l. covered 𝓕 (rowsOf (g .circuit)) (inputAt 𝓕 g l) (tableAt 𝓕 g l) ≡ true) (g .circuit .lookups) []
-      (λ j m.
-      stand-covered 𝓕 (rowsOf (g .circuit)) (inputAt 𝓕 g _) (tableAt 𝓕 g _)
-      (λ b n.
-      let w = s j m b n in
-      (w .0, w .1, compressed-alike g (getD (g .circuit .lookups) j []) b (w .0) (all-from _ (getD (g .circuit .lookups) j []) noPair (w .2))))))
+  module _ (g : Log 𝓕) where
+    abbrev rows : ℕ
+    rows = rowsOf (g .circuit)
+
+    abbrev groups : List (List (List Pair))
+    groups = groupsOf (g .circuit)
+
+    -- each compressed input stands in its lookup's compressed table
+    abbrev StandsIn : List Pair → Type 0
+    StandsIn l = AllStand rows rows (inputAt 𝓕 g l) (tableAt 𝓕 g l)
+
+    stand-each : ReadingsStand 𝓕 g → All StandsIn (g .circuit .lookups)
+    stand-each s =
+        all-from StandsIn (g .circuit .lookups) []
+        (λ j m b n.
+        let w = s j m b n in
+        (w .0, w .1, compressed-alike g (getD (g .circuit .lookups) j []) b (w .0) (all-from _ (getD (g .circuit .lookups) j []) noPair (w .2))))
+
+    stand-groups : ReadingsStand 𝓕 g → All (All StandsIn) groups
+    unfolding groupsOf
+    stand-groups s = all-split StandsIn (groupSizes (g .circuit .groups)) (g .circuit .lookups) (stand-each s)
+
+    -- so in its group's
+    group-covered : (group : List (List Pair)) → All StandsIn group → All (λ l. (b : ℕ) → tableAt 𝓕 g l b ≡ groupTable 𝓕 g group b) group
+        → groupCovered 𝓕 rows (groupInputs 𝓕 g group) (groupTable 𝓕 g group) ≡ true
+    unfolding groupCovered groupInputs
+    group-covered group a t =
+        true-all (λ input. covered 𝓕 rows input (groupTable 𝓕 g group)) (map (inputAt 𝓕 g) group)
+        (all-mapped (λ l. StandsIn l × ((b : ℕ) → tableAt 𝓕 g l b ≡ groupTable 𝓕 g group b)) (λ input. covered 𝓕 rows input (groupTable 𝓕 g group) ≡ true) (inputAt 𝓕 g)
+        (λ l h.
+        stand-covered 𝓕 rows (inputAt 𝓕 g l) (groupTable 𝓕 g group)
+        (λ b n. let w = h .0 b n in (w .0, w .1, sym (h .1 (w .0)) ∙ w .2)))
+        group
+        (all-both StandsIn (λ l. (b : ℕ) → tableAt 𝓕 g l b ≡ groupTable 𝓕 g group b) group a t))
+
+    pub stand-all : q18 (g .circuit) ≡ true → ReadingsStand 𝓕 g → allCovered 𝓕 g ≡ true
+    unfolding allCovered
+    stand-all e s =
+        true-all (λ group. groupCovered 𝓕 rows (groupInputs 𝓕 g group) (groupTable 𝓕 g group)) groups
+        (all-from (λ group. groupCovered 𝓕 rows (groupInputs 𝓕 g group) (groupTable 𝓕 g group) ≡ true) groups []
+        (λ j m.
+        group-covered (getD groups j []) (all-get (All StandsIn) groups (stand-groups s) j [] m)
+        (all-from (λ l. (b : ℕ) → tableAt 𝓕 g l b ≡ groupTable 𝓕 g (getD groups j []) b) (getD groups j []) [] (tables-agree 𝓕 g e j m))))
 
   -- β and γ are not in it
   stand-drawn : (g : Log 𝓕) → ReadingsStand 𝓕 g → (β γ : F) → ReadingsStand 𝓕 (drawn 𝓕 g β γ)
@@ -60,7 +99,7 @@ module _ (𝓕 : Field) where
   stand-drawn g s β γ = s
 
 pub readings-covered : ReadingsCovered
-readings-covered 𝓕 g s β γ = stand-all 𝓕 (drawn 𝓕 g β γ) (stand-drawn 𝓕 g s β γ)
+readings-covered 𝓕 g e s β γ = stand-all 𝓕 (drawn 𝓕 g β γ) e (stand-drawn 𝓕 g s β γ)
 
 -- ---- the building call
 module _ (ws instances witness challenges columns nodes : List ℕ) where
@@ -80,11 +119,16 @@ module _ (ws instances witness challenges columns nodes : List ℕ) where
   )
 
   module _ (a : checkBuild (lentBuild ws instances witness challenges columns nodes) ≡ 0) (s : ReadingsStand 𝔾 log) where
+    -- 18 is among the questions
+    covered-all : allCovered 𝔾 log ≡ true
+    unfolding logOf
+    covered-all = stand-all 𝔾 log (yes-all ws (lending ws instances witness challenges columns nodes a .circuit-yes) .eighteen) s
+
     zero-or-17 : (out .answer .number ≡ 0) ⊎ (out .answer .number ≡ 17)
     zero-or-17 = go (given ws instances witness challenges columns nodes a)
       where
         go : Given ws instances witness challenges columns nodes → (out .answer .number ≡ 0) ⊎ (out .answer .number ≡ 17)
-        go (Given.uncovered f q) = false-true (sym f ∙ stand-all 𝔾 log s)
+        go (Given.uncovered f q) = false-true (sym f ∙ covered-all)
         go (Given.divided f h q) = inr q
         go (Given.built f h q) = inl q
 
@@ -95,7 +139,7 @@ module _ (ws instances witness challenges columns nodes : List ℕ) where
     d = demand-three ws instances witness challenges columns nodes a
 
     seventeen-when : (out .answer .number ≡ 17) ↔ SomeZero 𝔾 log
-    seventeen-when = (λ e. d .seventeen .0 e .1, λ z. d .seventeen .1 (covered-when 𝔾 log .0 (stand-all 𝔾 log s), z))
+    seventeen-when = (λ e. d .seventeen .0 e .1, λ z. d .seventeen .1 (covered-when 𝔾 log .0 (covered-all), z))
 
     pub passes-by : Premises 𝔾 log → out .answer .number ≢ 17 → Passes ws instances witness challenges columns nodes
     passes-by p n =

@@ -1,4 +1,5 @@
 pub mod Passed
+pub mod Groups
 pub mod WellFormed
 pub mod Counts
 pub mod Denominators

@@ -28,7 +28,7 @@ use Rattle.identities.proofs.Fields.{muls, prod-nonzero}
 use Rattle.identities.proofs.Products.{product-upTo}
 use Rattle.expression.specs.Expr.{Expr, evaluate}
 use Rattle.expression.specs.Value.{Environment, polyOf, valueOps, valueAt}
-use Rattle.backend.specs.Circuit.{Circuit, rowsOf, numChallenges, numPoly, numLookups, copied, numCopied, permNumber, zNumber}
+use Rattle.backend.specs.Circuit.{Circuit, rowsOf, numChallenges, numPoly, numGroups, copied, numCopied, permNumber, zNumber}
 use Rattle.backend.specs.Constraints.{maxDegree}
 use Rattle.preprocessor.specs.Compose.{numZ, constraintCut, identityFactor, permutationFactor, startConstraint, partConstraint, identityTree, paramsOf, permutationTree}
 use Rattle.prover.specs.Log.{Log}
@@ -75,12 +75,12 @@ module _ (𝓕 : Field) where
                     ap (λ (p : ℕ → F). p b) (same (map z (range (numZ (g .circuit)))) (map (zAt 𝓕 g) (range (numZ (g .circuit)))) q l);
               };
           reads-z = λ z i b l.
-              let L : ℕ = numLookups (g .circuit) in
+              let G : ℕ = numGroups (g .circuit) in
               ap (λ (p : ℕ → F). p b)
-              (get-past (givenPolys 𝓕 g) _ (zNumber (g .circuit) i) (numCopied (g .circuit) + (L + (L + i))) (λ r. nil) (let e = given-length 𝓕 g in omega arith)
-              ∙ get-past (permutationPolys 𝓕 g) _ (numCopied (g .circuit) + (L + (L + i))) (L + (L + i)) (λ r. nil) (let e = permutations-length 𝓕 g in omega arith)
-              ∙ get-past (mPolys 𝓕 g) _ (L + (L + i)) (L + i) (λ r. nil) (let e = m-length 𝓕 g in omega arith)
-              ∙ get-past (hPolys 𝓕 g) _ (L + i) i (λ r. nil) (let e = h-length 𝓕 g in omega arith)
+              (get-past (givenPolys 𝓕 g) _ (zNumber (g .circuit) i) (numCopied (g .circuit) + (G + (G + i))) (λ r. nil) (let e = given-length 𝓕 g in omega arith)
+              ∙ get-past (permutationPolys 𝓕 g) _ (numCopied (g .circuit) + (G + (G + i))) (G + (G + i)) (λ r. nil) (let e = permutations-length 𝓕 g in omega arith)
+              ∙ get-past (mPolys 𝓕 g) _ (G + (G + i)) (G + i) (λ r. nil) (let e = m-length 𝓕 g in omega arith)
+              ∙ get-past (hPolys 𝓕 g) _ (G + i) i (λ r. nil) (let e = h-length 𝓕 g in omega arith)
               ∙ get-map z (range (numZ (g .circuit))) i 0 (λ r. nil) (let e = below-length (numZ (g .circuit)) in omega arith)
               ∙ ap z (below-get (numZ (g .circuit)) i 0 l));
           own-z = refl;

@@ -3,13 +3,13 @@ use mathlib.Core.Path.{_≡_, sym, ap, ap₂, _∙_, subst, refl}
 use mathlib.Core.List.{List, [], _∷_, _++_}
 use Prim.Native.Nat.{ℕ, zero, _+_, _*_, _<_}
 use native.Mathlib.Omega.{arith}
-use lib.ListN.{length, getD}
+use lib.ListN.{getD}
 use Rattle.field.specs.Algebra.{Field}
 use Rattle.bh.specs.Rows.{rotated, iter}
 use Rattle.lists.specs.Lists.{range, All}
 use Rattle.lists.proofs.Lists.{get-left, get-past, get-map}
 use Rattle.lists.proofs.Columns.{below-length, below-get}
-use Rattle.lists.proofs.All.{all-get, all-tabulate, all-filter, all-mapped, map-same}
+use Rattle.lists.proofs.All.{all-get, all-getD, all-split, all-tabulate, all-filter, all-mapped, map-same}
 use Rattle.expression.specs.Expr.{Expr, evaluate, distributePowers}
 use Rattle.expression.specs.Value.{polyOf, valueOps, valueAt}
 use Rattle.expression.proofs.Agree.{agree-value}
@@ -19,7 +19,9 @@ use Rattle.backend.specs.Circuit.{
   rowsOf,
   numChallenges,
   numPoly,
-  numLookups,
+  groupSizes,
+  numGroups,
+  groupsOf,
   copied,
   copiedIn,
   numCopied,
@@ -29,10 +31,11 @@ use Rattle.backend.specs.Circuit.{
   zNumber,
 }
 use Rattle.backend.specs.Constraints.{betaOf, inputsOf, tablesOf}
+use Rattle.backend.proofs.Degree.{groups-length}
 use Rattle.backend.proofs.Passed.{yes-all}
 use Rattle.preprocessor.specs.Compose.{numZ, identityTree, paramsOf, permutationTree}
 use Rattle.prover.specs.Log.{Log}
-use Rattle.prover.specs.Columns.{powerSum, givenPolys, userEnvironment, compressedAt, inputAt, tableAt, mAt, lookupHAt, permutationAt, copiedAt, identityFactorAt, permutationFactorAt, zAt, permutationPolys, mPolys, hPolys, zPolys, allPolys, composedEnvironment}
+use Rattle.prover.specs.Columns.{powerSum, givenPolys, userEnvironment, compressedAt, inputAt, tableAt, groupTable, mAt, lookupHAt, permutationAt, copiedAt, identityFactorAt, permutationFactorAt, zAt, permutationPolys, mPolys, hPolys, zPolys, allPolys, composedEnvironment}
 use Rattle.prover.proofs.Lengths.{given-length, permutations-length, m-length, h-length}
 use Rattle.hyperplonk_spec.proofs.Embeds.{embeds-add}
 use Rattle.hyperplonk_spec.specs.Meaning.{Admitted}
@@ -67,34 +70,34 @@ module _ (𝓕 : Field) where
         ∙ get-map (permutationAt 𝓕 g) (range (numCopied (g .circuit))) i 0 (λ r. nil) (let e = below-length (numCopied (g .circuit)) in omega arith)
         ∙ ap (permutationAt 𝓕 g) (below-get (numCopied (g .circuit)) i 0 l))
 
-    pub poly-m : (j b : ℕ) → j < numLookups (g .circuit) → polyOf 𝓕 (allPolys 𝓕 g) (mNumber (g .circuit) j) b ≡ mAt 𝓕 g (getD (g .circuit .lookups) j []) b
+    pub poly-m : (j b : ℕ) → j < numGroups (g .circuit) → polyOf 𝓕 (allPolys 𝓕 g) (mNumber (g .circuit) j) b ≡ mAt 𝓕 g (getD (groupsOf (g .circuit)) j []) b
     unfolding allPolys mPolys
     poly-m j b l =
         ap (λ (p : ℕ → F). p b)
         (get-past (givenPolys 𝓕 g) _ (mNumber (g .circuit) j) (numCopied (g .circuit) + j) (λ r. nil) (let e = given-length 𝓕 g in omega arith)
         ∙ get-past (permutationPolys 𝓕 g) _ (numCopied (g .circuit) + j) j (λ r. nil) (let e = permutations-length 𝓕 g in omega arith)
         ∙ get-left (mPolys 𝓕 g) _ j (λ r. nil) (let e = m-length 𝓕 g in omega arith)
-        ∙ get-map (mAt 𝓕 g) (g .circuit .lookups) j [] (λ r. nil) l)
+        ∙ get-map (mAt 𝓕 g) (groupsOf (g .circuit)) j [] (λ r. nil) (let e = groups-length (g .circuit) in omega arith))
 
-    pub poly-h : (j b : ℕ) → j < numLookups (g .circuit) → polyOf 𝓕 (allPolys 𝓕 g) (hNumber (g .circuit) j) b ≡ lookupHAt 𝓕 g (getD (g .circuit .lookups) j []) b
+    pub poly-h : (j b : ℕ) → j < numGroups (g .circuit) → polyOf 𝓕 (allPolys 𝓕 g) (hNumber (g .circuit) j) b ≡ lookupHAt 𝓕 g (getD (groupsOf (g .circuit)) j []) b
     unfolding allPolys hPolys
     poly-h j b l =
         ap (λ (p : ℕ → F). p b)
-        (get-past (givenPolys 𝓕 g) _ (hNumber (g .circuit) j) (numCopied (g .circuit) + (numLookups (g .circuit) + j)) (λ r. nil) (let e = given-length 𝓕 g in omega arith)
-        ∙ get-past (permutationPolys 𝓕 g) _ (numCopied (g .circuit) + (numLookups (g .circuit) + j)) (numLookups (g .circuit) + j) (λ r. nil) (let e = permutations-length 𝓕 g in omega arith)
-        ∙ get-past (mPolys 𝓕 g) _ (numLookups (g .circuit) + j) j (λ r. nil) (let e = m-length 𝓕 g in omega arith)
+        (get-past (givenPolys 𝓕 g) _ (hNumber (g .circuit) j) (numCopied (g .circuit) + (numGroups (g .circuit) + j)) (λ r. nil) (let e = given-length 𝓕 g in omega arith)
+        ∙ get-past (permutationPolys 𝓕 g) _ (numCopied (g .circuit) + (numGroups (g .circuit) + j)) (numGroups (g .circuit) + j) (λ r. nil) (let e = permutations-length 𝓕 g in omega arith)
+        ∙ get-past (mPolys 𝓕 g) _ (numGroups (g .circuit) + j) j (λ r. nil) (let e = m-length 𝓕 g in omega arith)
         ∙ get-left (hPolys 𝓕 g) _ j (λ r. nil) (let e = h-length 𝓕 g in omega arith)
-        ∙ get-map (lookupHAt 𝓕 g) (g .circuit .lookups) j [] (λ r. nil) l)
+        ∙ get-map (lookupHAt 𝓕 g) (groupsOf (g .circuit)) j [] (λ r. nil) (let e = groups-length (g .circuit) in omega arith))
 
     pub poly-z : (i b : ℕ) → i < numZ (g .circuit) → polyOf 𝓕 (allPolys 𝓕 g) (zNumber (g .circuit) i) b ≡ zAt 𝓕 g i b
     unfolding allPolys zPolys
     poly-z i b l =
-        let L : ℕ = numLookups (g .circuit) in
+        let G : ℕ = numGroups (g .circuit) in
         ap (λ (p : ℕ → F). p b)
-        (get-past (givenPolys 𝓕 g) _ (zNumber (g .circuit) i) (numCopied (g .circuit) + (L + (L + i))) (λ r. nil) (let e = given-length 𝓕 g in omega arith)
-        ∙ get-past (permutationPolys 𝓕 g) _ (numCopied (g .circuit) + (L + (L + i))) (L + (L + i)) (λ r. nil) (let e = permutations-length 𝓕 g in omega arith)
-        ∙ get-past (mPolys 𝓕 g) _ (L + (L + i)) (L + i) (λ r. nil) (let e = m-length 𝓕 g in omega arith)
-        ∙ get-past (hPolys 𝓕 g) _ (L + i) i (λ r. nil) (let e = h-length 𝓕 g in omega arith)
+        (get-past (givenPolys 𝓕 g) _ (zNumber (g .circuit) i) (numCopied (g .circuit) + (G + (G + i))) (λ r. nil) (let e = given-length 𝓕 g in omega arith)
+        ∙ get-past (permutationPolys 𝓕 g) _ (numCopied (g .circuit) + (G + (G + i))) (G + (G + i)) (λ r. nil) (let e = permutations-length 𝓕 g in omega arith)
+        ∙ get-past (mPolys 𝓕 g) _ (G + (G + i)) (G + i) (λ r. nil) (let e = m-length 𝓕 g in omega arith)
+        ∙ get-past (hPolys 𝓕 g) _ (G + i) i (λ r. nil) (let e = h-length 𝓕 g in omega arith)
         ∙ get-map (zAt 𝓕 g) (range (numZ (g .circuit))) i 0 (λ r. nil) (let e = below-length (numZ (g .circuit)) in omega arith)
         ∙ ap (zAt 𝓕 g) (below-get (numZ (g .circuit)) i 0 l))
 
@@ -152,20 +155,29 @@ module _ (𝓕 : Field) where
             ∙ ap₂ (powerSum 𝓕) beta-value
             (map-same InScope (λ e. valueAt 𝓕 (composedEnvironment 𝓕 g α y) e b) (λ e. valueAt 𝓕 (userEnvironment 𝓕 g) e b) (λ e h. user-value e h b) es h)
 
-        pairs-in : (j : ℕ) → j < length (g .circuit .lookups) → All (λ (p : Pair). InScope (p .input) × InScope (p .table)) (getD (g .circuit .lookups) j [])
-        pairs-in j l = all-get (All (λ (p : Pair). InScope (p .input) × InScope (p .table))) (g .circuit .lookups) lookups-in j [] l
+        abbrev PairsIn : List Pair → Type 0
+        PairsIn l = All (λ (p : Pair). InScope (p .input) × InScope (p .table)) l
+
+        pairs-in : (j i : ℕ) → PairsIn (getD (getD (groupsOf (g .circuit)) j []) i [])
+        unfolding groupsOf
+        pairs-in j i =
+            all-getD PairsIn (getD (groupsOf (g .circuit)) j []) i [] tt
+            (all-getD (All PairsIn) (groupsOf (g .circuit)) j [] tt
+            (all-split PairsIn (groupSizes (g .circuit .groups)) (g .circuit .lookups) lookups-in))
 
         pub reads : ReadAs 𝓕 g α y
-        unfolding composedEnvironment inputIn tableIn inputAt tableAt identityTree paramsOf permutationTree identityFactorAt permutationFactorAt valueAt valueOps evaluate rotated iter
+        unfolding composedEnvironment inputIn tableIn inputAt tableAt groupTable identityTree paramsOf permutationTree identityFactorAt permutationFactorAt valueAt valueOps evaluate rotated iter
         reads =
             record {
-              input = λ j l b m.
-                  compressed-value (inputsOf (getD (g .circuit .lookups) j []))
-                  (all-mapped (λ (p : Pair). InScope (p .input) × InScope (p .table)) InScope (λ (p : Pair). p .input) (λ p q. q .0) (getD (g .circuit .lookups) j []) (pairs-in j l))
+              input = λ j l i n b m.
+                  compressed-value (inputsOf (getD (getD (groupsOf (g .circuit)) j []) i []))
+                  (all-mapped (λ (p : Pair). InScope (p .input) × InScope (p .table)) InScope (λ (p : Pair). p .input) (λ p q. q .0)
+                  (getD (getD (groupsOf (g .circuit)) j []) i []) (pairs-in j i))
                   b;
               table = λ j l b m.
-                  compressed-value (tablesOf (getD (g .circuit .lookups) j []))
-                  (all-mapped (λ (p : Pair). InScope (p .input) × InScope (p .table)) InScope (λ (p : Pair). p .table) (λ p q. q .1) (getD (g .circuit .lookups) j []) (pairs-in j l))
+                  compressed-value (tablesOf (getD (getD (groupsOf (g .circuit)) j []) 0 []))
+                  (all-mapped (λ (p : Pair). InScope (p .input) × InScope (p .table)) InScope (λ (p : Pair). p .table) (λ p q. q .1)
+                  (getD (getD (groupsOf (g .circuit)) j []) 0 []) (pairs-in j 0))
                   b;
               m = λ j b l. poly-m j b l;
               h = λ j b l. poly-h j b l;

@@ -11,7 +11,7 @@ use Rattle.lists.proofs.Lists.{get-left, get-past}
 use Rattle.expression.specs.Expr.{Expr}
 use Rattle.expression.specs.Value.{polyOf, valueAt}
 use Rattle.expression.proofs.SameRows.{Same, same-refl, same-append, same-column, same-at, values-agree}
-use Rattle.backend.specs.Circuit.{circuitOf, rowsOf, numInstance, numChallenges, numCopied, numLookups}
+use Rattle.backend.specs.Circuit.{circuitOf, rowsOf, numInstance, numChallenges, numCopied, numLookups, numGroups}
 use Rattle.multilinear.specs.EqXY.{eqAt}
 use Rattle.preprocessor.specs.Compose.{numZ}
 use Rattle.prover.specs.Log.{Log}
@@ -25,7 +25,7 @@ module _ (g : Log 𝔾) where
   abbrev rest : List (ℕ → 𝔾 .F)
   rest = mPolys 𝔾 g ++ (hPolys 𝔾 g ++ zPolys 𝔾 g)
 
-  rest-length : length rest ≡ numLookups (g .circuit) * 2 + numZ (g .circuit)
+  rest-length : length rest ≡ numGroups (g .circuit) * 2 + numZ (g .circuit)
   rest-length =
       length-append (mPolys 𝔾 g) (hPolys 𝔾 g ++ zPolys 𝔾 g)
       ∙ (let a = length-append (hPolys 𝔾 g) (zPolys 𝔾 g) in
@@ -62,13 +62,13 @@ module _ (g : Log 𝔾) where
 
   same-rest : Same 𝔾 (rowsOf (g .circuit))
       (tabulate (λ i. lentColumn (g .circuit) columns (numInstance (g .circuit) + numCopied (g .circuit) + numLookups (g .circuit) * 2 + i))
-      (numLookups (g .circuit) * 2 + numZ (g .circuit)))
+      (numGroups (g .circuit) * 2 + numZ (g .circuit)))
       rest
   unfolding writtenPolys
   same-rest =
       same-column 𝔾 (rowsOf (g .circuit))
       (λ i. lentColumn (g .circuit) columns (numInstance (g .circuit) + numCopied (g .circuit) + numLookups (g .circuit) * 2 + i))
-      (numLookups (g .circuit) * 2 + numZ (g .circuit))
+      (numGroups (g .circuit) * 2 + numZ (g .circuit))
       rest
       (sym rest-length)
       (λ i l b m.

@@ -15,7 +15,7 @@ use Rattle.lists.specs.Lists.{range, tabulate, concat}
 use Rattle.lists.proofs.Lists.{get-left, get-past, get-map}
 use Rattle.lists.proofs.Columns.{below-length, below-get}
 use Rattle.expression.specs.Value.{polyOf}
-use Rattle.backend.specs.Circuit.{Circuit, circuitOf, rowsOf, numInstance, numCopied, numLookups}
+use Rattle.backend.specs.Circuit.{Circuit, circuitOf, rowsOf, numInstance, numCopied, numLookups, numGroups}
 use Rattle.preprocessor.specs.Permutation.{firstLabel, label}
 use Rattle.preprocessor.specs.Compose.{numZ, zCut}
 use Rattle.prover.specs.Log.{Log}
@@ -61,14 +61,14 @@ module _ (g : Log 𝔾) where
       ∙ ap (permutationAt 𝔾 g) (below-get (numCopied (g .circuit)) i 0 l))
 
   written-z : (i b : ℕ) → i < numZ (g .circuit)
-      → polyOf 𝔾 (writtenPolys 𝔾 g) (numInstance (g .circuit) + numCopied (g .circuit) + numLookups (g .circuit) * 4 + i) b ≡ zAt 𝔾 g i b
+      → polyOf 𝔾 (writtenPolys 𝔾 g) (numInstance (g .circuit) + numCopied (g .circuit) + numLookups (g .circuit) * 2 + numGroups (g .circuit) * 2 + i) b ≡ zAt 𝔾 g i b
   unfolding writtenPolys zPolys
   written-z i b l =
       ap (λ (p : ℕ → 𝔾 .F). p b)
-      (get-past (instancePolys 𝔾 g) _ _ (numCopied (g .circuit) + (numLookups (g .circuit) * 4 + i)) (λ r. 𝔾 .zero) (let q = instances-length 𝔾 g in omega arith)
-      ∙ get-past (permutationPolys 𝔾 g) _ _ (numLookups (g .circuit) * 4 + i) (λ r. 𝔾 .zero) (let q = permutations-length 𝔾 g in omega arith)
-      ∙ get-past (compressedPolys 𝔾 g) _ _ (numLookups (g .circuit) * 2 + i) (λ r. 𝔾 .zero) (let q = compressed-length 𝔾 g in omega arith)
-      ∙ get-past (mPolys 𝔾 g) _ _ (numLookups (g .circuit) + i) (λ r. 𝔾 .zero) (let q = m-length 𝔾 g in omega arith)
+      (get-past (instancePolys 𝔾 g) _ _ (numCopied (g .circuit) + (numLookups (g .circuit) * 2 + (numGroups (g .circuit) * 2 + i))) (λ r. 𝔾 .zero) (let q = instances-length 𝔾 g in omega arith)
+      ∙ get-past (permutationPolys 𝔾 g) _ _ (numLookups (g .circuit) * 2 + (numGroups (g .circuit) * 2 + i)) (λ r. 𝔾 .zero) (let q = permutations-length 𝔾 g in omega arith)
+      ∙ get-past (compressedPolys 𝔾 g) _ _ (numGroups (g .circuit) * 2 + i) (λ r. 𝔾 .zero) (let q = compressed-length 𝔾 g in omega arith)
+      ∙ get-past (mPolys 𝔾 g) _ _ (numGroups (g .circuit) + i) (λ r. 𝔾 .zero) (let q = m-length 𝔾 g in omega arith)
       ∙ get-past (hPolys 𝔾 g) _ _ i (λ r. 𝔾 .zero) (let q = h-length 𝔾 g in omega arith)
       ∙ get-map (zAt 𝔾 g) (range (numZ (g .circuit))) i 0 (λ r. 𝔾 .zero) (let q = below-length (numZ (g .circuit)) in omega arith)
       ∙ ap (zAt 𝔾 g) (below-get (numZ (g .circuit)) i 0 l))
@@ -116,7 +116,7 @@ module _ (ws instances witness challenges columns nodes : List ℕ) (z : buildOf
   z-word : (i b : ℕ) → i < numZ c → b < rowsOf c → zWord c left i b ≡ val (zAt 𝔾 log i b)
   unfolding logOf
   z-word i b l m =
-      word-is (numInstance c + numCopied c + numLookups c * 4 + i) b (let q = written-length 𝔾 log in omega arith) m
+      word-is (numInstance c + numCopied c + numLookups c * 2 + numGroups c * 2 + i) b (let q = written-length 𝔾 log in omega arith) m
       ∙ ap val (written-z log i b l)
 
   two-rows : 2 ≤ rowsOf c

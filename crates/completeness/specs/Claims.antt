@@ -32,6 +32,7 @@ use Rattle.hyperplonk_spec.specs.Composed.{
   ComposeValue,
   Reads,
 }
+use Rattle.hyperplonk_spec.specs.Groups.{EighteenWhen, GroupsByNumber, TablesAgree, GroupOfOne}
 use Rattle.hyperplonk_spec.specs.Papers.{
   PartsOfZ,
   SameTotals,
@@ -64,11 +65,12 @@ use Rattle.hyperplonk_spec.specs.RunningProduct.{RunningProduct}
 use Rattle.hyperplonk_spec.specs.Sizes.{sizesOf, Foretells, CircuitForest, VisitedValue, VisitsSame, VisitsWritten}
 use Rattle.completeness.specs.Scope.{Scoped}
 
--- "Then 15 is given exactly when, for some lookup, no column of whole counts turns the compressed table into the compressed inputs"
+-- "Then 15 is given exactly when, for some lookup, no column of whole counts turns the compressed table into the compressed inputs": for
+-- some group, into its inputs
 abbrev pub RefusedWhen : Type 1
 RefusedWhen = (𝓕 : Field) (g : Log 𝓕) → (allCovered 𝓕 g ≡ false) ↔ NoCounts 𝓕 g
 
--- "a denominator of document 01 is zero": there is a lookup and a row, or a copied column and a row but 0
+-- "a denominator of document 01 is zero": there is a group, a lookup of it or its table, and a row, or a copied column and a row but 0
 abbrev pub ZeroDenominatorWhen : Type 1
 ZeroDenominatorWhen = (𝓕 : Field) (g : Log 𝓕) → (zeroDenominator 𝓕 g ≡ true) ↔ SomeZero 𝓕 g
 
@@ -113,6 +115,11 @@ pub record Claims : Type 1 where
   pub odds-limit : OddsLimit
   pub row-listed-twice : RowListedTwice
   pub zero-when : ZeroWhen
+  -- groups of lookups: when 18 is yes, which lookups a group has, that its tables are one, and that a group of one is as before
+  pub eighteen-when : EighteenWhen
+  pub groups-by-number : GroupsByNumber
+  pub tables-agree : TablesAgree
+  pub group-of-one : GroupOfOne
   -- what the composed constraints say, over any field and any columns, and what they read of a log
   pub reads-back : ReadsBack
   pub lookup-zero : (𝓕 : Field) (s : Environment 𝓕) (c : Circuit) → LookupZero 𝓕 s c

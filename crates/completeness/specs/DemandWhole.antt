@@ -18,7 +18,7 @@ use Rattle.hyperplonk_spec.specs.Build.{Lent, logOf, wordsOf, columnWords, chec
 use Rattle.hyperplonk_spec.specs.Meaning.{
   Each,
   EachRow,
-  EachLookup,
+  EachGroup,
   NoCounts,
   HasCounts,
   SomeZero,
@@ -55,15 +55,16 @@ module _ (lent : Lent) (y : List ℕ) (left : Left) where
     pub constraints-zero : (α : 𝔾 .F) (ys : ℕ → 𝔾 .F)
         → Each (Expr.constant 0) (composedConstraints circuit)
         (λ e. EachRow 𝔾 log (λ b. valueAt 𝔾 (composedEnvironment 𝔾 log α ys) e b ≡ 𝔾 .zero))
-    -- "each h sums to 0, each m sums to 2^k"
-    pub h-sums : EachLookup 𝔾 log (λ l. sumRows 𝔾 (rowsOf circuit) (lookupHAt 𝔾 log l) ≡ 𝔾 .zero)
-    pub m-sums : EachLookup 𝔾 log (λ l. sumCounts (rowsOf circuit) (countAt 𝔾 log l) ≡ rowsOf circuit)
+    -- "each h sums to 0, each m sums to 2^k"; Item 3 of document 02: "Where demand 3 has m sum to 2^k, a group of s lookups has s × 2^k"
+    pub h-sums : EachGroup 𝔾 log (λ group. sumRows 𝔾 (rowsOf circuit) (lookupHAt 𝔾 log group) ≡ 𝔾 .zero)
+    pub m-sums : EachGroup 𝔾 log (λ group. sumCounts (rowsOf circuit) (countAt 𝔾 log group) ≡ length group * rowsOf circuit)
     -- "and for every alpha and every y the composed expression sums to 0"
     pub composed-sum : (α : 𝔾 .F) (ys : ℕ → 𝔾 .F)
         → sumRows 𝔾 (rowsOf circuit) (valueAt 𝔾 (composedEnvironment 𝔾 log α ys) (compose circuit)) ≡ 𝔾 .zero
 
   pub record Demanded : Type 0 where
-    -- "Then 15 is given exactly when, for some lookup, no column of whole counts turns the compressed table into the compressed inputs."
+    -- "Then 15 is given exactly when, for some lookup, no column of whole counts turns the compressed table into the compressed inputs.":
+    -- for some group, into its inputs
     pub fifteen : (left .answer .number ≡ 15) ↔ NoCounts 𝔾 log
     -- "Number 17, asked after 15, is given exactly if a denominator of document 01 is zero"
     pub seventeen : (left .answer .number ≡ 17) ↔ (HasCounts 𝔾 log × SomeZero 𝔾 log)
