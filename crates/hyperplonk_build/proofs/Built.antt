@@ -1,5 +1,5 @@
 -- What the building call returns and leaves, from what its parts do.
-use mathlib.Core.Path.{_≡_, refl, sym, ap, ap₂, _∙_, subst}
+use mathlib.Core.Path.{_≡_, refl, sym, ap, ap₂, _∙_}
 use mathlib.Core.Bool.{Bool, true, false, cond}
 use mathlib.Core.List.{List}
 use Prim.Native.Nat.{ℕ, suc, _-_, _*_, _≤_}
@@ -14,7 +14,6 @@ use Rattle.lists.proofs.Over.{writeAt-writePrefix}
 use Rattle.backend.specs.Circuit.{circuitOf, rowsOf, copied, numCopied}
 use Rattle.preprocessor.specs.Compose.{numZ, composedWords, composedNodes}
 use Rattle.preprocessor.specs.ComposeWords.{Composed}
-use Rattle.preprocessor.specs.declared.CircuitParams.{CircuitParams}
 use Rattle.preprocessor.proofs.Composed.{composed-over}
 use Rattle.prover.specs.Log.{Log}
 use Rattle.prover.specs.Columns.{allCovered, writtenPolys}
@@ -23,7 +22,6 @@ use Rattle.prover.specs.Words.{wordsOf}
 use Rattle.hyperplonk_spec.specs.Build.{Output, logOf, columnWords, q14, checkBuild, refused, made, zeroed, buildLog, buildOf, lentBuild}
 use Rattle.hyperplonk_spec.specs.declared.Built.{Built}
 use Rattle.hyperplonk_spec.proofs.Building.{refused-by}
-use Rattle.hyperplonk_prepare.specs.Prepared.{Prepared}
 use Rattle.hyperplonk_columns.specs.Outcome.{columnsOutcome, columnsNumber, columnsLeft}
 use Rattle.hyperplonk_columns.specs.declared.ColumnsOutcome.{ColumnsOutcome}
 
@@ -151,7 +149,3 @@ module _ (ws instances witness challenges columns nodes : List ℕ) where
 -- the copied columns are as many as their list is long
 pub count-is : (ws names : List ℕ) (n : ℕ) → n ≤ length names → take n names ≡ copied (circuitOf ws) → n ≡ numCopied (circuitOf ws)
 count-is ws names n h e = sym (length-take n names ∙ omega arith) ∙ ap length e
-
--- the part of the names from the first on
-pub first-names : (ws names : List ℕ) (n : ℕ) (v : CircuitParams) → Prepared ws (take n names) v → Prepared ws (take (n - 0) names) v
-first-names ws names n v p = subst (λ (m : ℕ). Prepared ws (take m names) v) {x = n} {y = n - 0} (omega arith) p

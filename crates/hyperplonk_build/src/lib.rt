@@ -6,6 +6,7 @@ use hyperplonk_columns::write_columns;
 use hyperplonk_nodes::compose_nodes;
 use hyperplonk_prepare::circuit_params;
 use hyperplonk_prepare::copied_of;
+use hyperplonk_prepare::group_sizes_of;
 use hyperplonk_prepare::inputs::question_12;
 use hyperplonk_prepare::inputs::question_13;
 use hyperplonk_prepare::needed::column_words;
@@ -42,9 +43,10 @@ fn build_checked<'a>(
     columns: &mut [u64],
     nodes: &mut [u64],
     copied: &[u64],
+    sizes: &[u64],
     params: CircuitParams,
 ) -> Built
-    requires { ⌜ Prepared (now circuit) (now copied) params × (q12 (circuitOf (now circuit)) (now instance) (now witness) (now challenges) ≡ true) × (q14 (circuitOf (now circuit)) (now columns) (now nodes) ≡ true) ⌝ }
+    requires { ⌜ Prepared (now circuit) (now copied) (now sizes) params × (q12 (circuitOf (now circuit)) (now instance) (now witness) (now challenges) ≡ true) × (q14 (circuitOf (now circuit)) (now columns) (now nodes) ≡ true) ⌝ }
     ensures { λ r. ⌜ record { answer = r; columns = now (columns .exit); nodes = now (nodes .exit) } ≡ buildLog (logOf (now (circuit .entry)) (now (instance .entry)) (now (witness .entry)) (now (challenges .entry))) (now (columns .entry)) (now (nodes .entry)) ⌝ }
 {
     let outcome = write_columns(
@@ -54,6 +56,7 @@ fn build_checked<'a>(
         challenges,
         columns,
         copied,
+        sizes,
         params,
     );
     let number = columns_number(outcome);
@@ -61,7 +64,7 @@ fn build_checked<'a>(
         return refused(number);
     }
     let words = column_words(circuit, params);
-    let count = compose_nodes(circuit, copied, params, 0, nodes);
+    let count = compose_nodes(circuit, copied, sizes, params, 0, nodes);
     Built {
         number: 0,
         column_words: words,
@@ -89,6 +92,9 @@ fn build_named<'a>(
     if !question_14(circuit, params, columns.len(), nodes.len()) {
         return refused(14);
     }
+    let groups = group_sizes_of(circuit);
+    let group_count = groups.count;
+    let sizes = groups.of;
     build_checked(
         circuit,
         instance,
@@ -97,6 +103,7 @@ fn build_named<'a>(
         columns,
         nodes,
         &all[0..count],
+        &sizes[0..group_count],
         params,
     )
 }

@@ -10,14 +10,14 @@ use Rattle.hyperplonk_build.proofs.build_checked.Tie as tie
 
 -- the places before
 abbrev start : tie.After-write-columns → tie.Start
-start c = c .before .before .before .before .before .before .before .before .before
+start c = c .before .before .before .before .before .before .before .before .before .before
 
 abbrev wrote : tie.After-columns-number → tie.After-write-columns
 wrote c = c .before .before .before
 
 write-columns-requires : tie.Need-write-columns-requires
 write-columns-requires c κs =
-    let s = c .before .before .before .before .before .before .before .before in
+    let s = c .before .before .before .before .before .before .before .before .before in
     let a = s .args in
     (s .pre .0, s .pre .1, columns-room (a .circuit .now) (a .instance .now) (a .witness .now) (a .challenges .now) (a .columns .now) (a .nodes .now) (s .pre .2))
 
