@@ -12,15 +12,13 @@ use Rattle.field.specs.Field.{val}
 use Rattle.lists.specs.Lists.{questionOf, firstNo}
 use Rattle.lists.proofs.First.{first-next, first-number, first-append, first-refused, first-of, numbered-of}
 use Rattle.expression.specs.declared.poly.Layout.{Layout}
-use Rattle.backend.specs.Circuit.{wordK, circuitOf, copied}
+use Rattle.backend.specs.Circuit.{wordK, circuitOf}
 use Rattle.backend.specs.Questions.{circuitQuestions}
 use Rattle.backend.proofs.Answers.{says-no, says-yes}
-use Rattle.preprocessor.specs.Compose.{paramsOf}
-use Rattle.preprocessor.specs.declared.CircuitParams.{CircuitParams}
 use Rattle.hyperplonk_spec.specs.RowSum.{q16, LentSum, sumQuestions, checkSum, sumOf, rowSumOf, lentSum}
 use Rattle.hyperplonk_spec.specs.declared.RowSum.{RowSum}
 use Rattle.backend.proofs.Passed.{numbered}
-use Rattle.hyperplonk_prepare.specs.Prepared.{Accepted, Prepared}
+use Rattle.hyperplonk_prepare.specs.Prepared.{Accepted}
 use Rattle.hyperplonk_prepare.proofs.Accepted as known
 use Rattle.hyperplonk_row_sum.specs.Sum.{sumLayout, Summable}
 use Rattle.hyperplonk_row_sum.proofs.Sixteen.{sixteen-yes}
@@ -104,8 +102,3 @@ module _ (ws witness columns nodes challenges y : List ℕ) where
 -- the copied columns, as the first of an array
 pub count-is : (of : List ℕ) (count : ℕ) (names : List ℕ) → count ≤ length of → take count of ≡ names → count ≡ length names
 count-is of count names h e = sym (length-take-le count of h) ∙ ap (λ (xs : List ℕ). length xs) e
-
-pub prepared : (ws of : List ℕ) (count : ℕ) (v : CircuitParams) → Accepted ws → take count of ≡ copied (circuitOf ws) → v ≡ paramsOf (circuitOf ws)
-    → Prepared ws (take (count - 0) of) v
-prepared ws of count v a e n =
-    record { accepted = a; copied-are = ap (λ (m : ℕ). take m of) (let q : count - 0 ≡ count = omega arith in q) ∙ e; params-are = n }

@@ -18,7 +18,7 @@ use Rattle.expression.specs.declared.value.Point.{Point}
 use Rattle.expression.proofs.Within.{anything, within-anything}
 use Rattle.expression.proofs.Agree.{agree-value}
 use Rattle.multilinear.specs.EqXY.{eqAt}
-use Rattle.backend.specs.Circuit.{Section, circuitOf, wordK, entries, startOf, numInstance, numPreprocess, numWitness, numCopied, numLookups}
+use Rattle.backend.specs.Circuit.{Section, circuitOf, wordK, entries, startOf, numInstance, numPreprocess, numWitness, numCopied, numLookups, numGroups}
 use Rattle.preprocessor.specs.Compose.{numZ}
 use Rattle.prover.specs.Columns.{preprocessPolys, witnessPolys}
 use Rattle.prover.proofs.Lent.{preprocess-word}
@@ -76,10 +76,10 @@ module _ (ws witness columns : List ℕ) (accepted : Accepted ws) where
   unfolding circuitOf
   permutation-same = ap (λ (m : ℕ). tabulate (λ i. columnAt (m + i)) (numCopied (circuitOf ws))) instances-are
 
-  rest-same : tabulate (λ i. columnAt (entries ws Section.instances + numCopied (circuitOf ws) + numLookups (circuitOf ws) * 2 + i)) (numLookups (circuitOf ws) * 2 + numZ (circuitOf ws))
-      ≡ tabulate (λ i b. el (getD columns ((n + numCopied (circuitOf ws) + numLookups (circuitOf ws) * 2 + i) * 2 ^ circuitOf ws .k + b) 0)) (numLookups (circuitOf ws) * 2 + numZ (circuitOf ws))
+  rest-same : tabulate (λ i. columnAt (entries ws Section.instances + numCopied (circuitOf ws) + numLookups (circuitOf ws) * 2 + i)) (numGroups (circuitOf ws) * 2 + numZ (circuitOf ws))
+      ≡ tabulate (λ i b. el (getD columns ((n + numCopied (circuitOf ws) + numLookups (circuitOf ws) * 2 + i) * 2 ^ circuitOf ws .k + b) 0)) (numGroups (circuitOf ws) * 2 + numZ (circuitOf ws))
   unfolding circuitOf
-  rest-same = ap (λ (m : ℕ). tabulate (λ i. columnAt (m + numCopied (circuitOf ws) + numLookups (circuitOf ws) * 2 + i)) (numLookups (circuitOf ws) * 2 + numZ (circuitOf ws))) instances-are
+  rest-same = ap (λ (m : ℕ). tabulate (λ i. columnAt (m + numCopied (circuitOf ws) + numLookups (circuitOf ws) * 2 + i)) (numGroups (circuitOf ws) * 2 + numZ (circuitOf ws))) instances-are
 
   pub sum-polys : Same 𝔾 rows (polysOf (sumLayout ws) ws witness columns) (lentPolys ws witness columns)
   unfolding polysOf sumLayout lentPolys

@@ -130,14 +130,15 @@ module _ (ws : List ℕ) (a : Accepted ws) (v : CircuitParams) (e : v ≡ params
   unfolding paramsOf
   polys-are = polys ws (numWitness (circuitOf ws)) (known.laid-of ws a) refl ∙ sym (ap (λ (v : CircuitParams). v .«num_poly») e)
 
-  pub numbers-few : (v .«num_permutation_polys» ≤ 72) × (v .«num_lookups» ≤ 8) × (v .«num_chunks» ≤ 72) × (v .«num_challenges» ≤ 16)
+  pub numbers-few : (v .«num_permutation_polys» ≤ 72) × (v .«num_lookups» ≤ 8) × (v .«num_chunks» ≤ 72) × (v .«num_challenges» ≤ 16) × (v .«num_groups» ≤ 8)
   unfolding paramsOf
   numbers-few =
       let n = known.few-copied ws a in
       let j = known.few-lookups ws a in
+      let g = known.fewer-groups ws a in
       let z = known.few-z ws a in
       let u = known.few-user ws a in
-      rw e (omega arith, omega arith, omega arith, omega arith)
+      rw e (omega arith, omega arith, omega arith, omega arith, omega arith)
 
   pub layout-made : _≡_ {A = Layout}
       (record {
@@ -148,7 +149,7 @@ module _ (ws : List ℕ) (a : Accepted ws) (v : CircuitParams) (e : v ≡ params
         witness = v .«num_poly» - getD ws 3 0 - getD ws 5 0;
         permutations = v .«num_permutation_polys»;
         skipped = v .«num_lookups» * 2;
-        rest = v .«num_lookups» * 2 + v .«num_chunks»;
+        rest = v .«num_groups» * 2 + v .«num_chunks»;
       })
       (sumLayout ws)
   unfolding sumLayout paramsOf

@@ -33,6 +33,7 @@ unfolding sumLayout
 sum-layout-small ws a =
     let n = known.few-copied ws a in
     let j = known.few-lookups ws a in
+    let g = known.fewer-groups ws a in
     let z = known.few-z ws a in
     let laid = known.laid-of ws a in
     record {

@@ -7,7 +7,7 @@ use lib.ListN.{length}
 use lib.Dec.{eqb}
 use Rattle.lists.specs.Lists.{allOf}
 use Rattle.expression.specs.declared.poly.Layout.{Layout}
-use Rattle.backend.specs.Circuit.{Section, Circuit, circuitOf, wordK, entries, startOf, rowsOf, numWitness, numChallenges, numCopied, numLookups}
+use Rattle.backend.specs.Circuit.{Section, Circuit, circuitOf, wordK, entries, startOf, rowsOf, numWitness, numChallenges, numCopied, numLookups, numGroups}
 use Rattle.backend.specs.Questions.{small}
 use Rattle.preprocessor.specs.Compose.{numZ, composedNodes}
 use Rattle.hyperplonk_spec.specs.Build.{columnWords}
@@ -25,7 +25,7 @@ lentSmall witness columns challenges y =
     allOf small witness && allOf small columns && allOf small challenges && allOf small y
 
 -- "Polynomial numbers run instance, preprocess, witness, permutation, m, h, z"; in the column words the compressed columns, two for
--- each lookup, stand between the permutation columns and m
+-- each lookup, stand between the permutation columns and m, which is, like h, one for each group
 unfoldable pub sumLayout : List ℕ → Layout
 sumLayout ws =
     record {
@@ -36,7 +36,7 @@ sumLayout ws =
       witness = numWitness (circuitOf ws);
       permutations = numCopied (circuitOf ws);
       skipped = numLookups (circuitOf ws) * 2;
-      rest = numLookups (circuitOf ws) * 2 + numZ (circuitOf ws);
+      rest = numGroups (circuitOf ws) * 2 + numZ (circuitOf ws);
     }
 
 -- accepted circuit words and their layout, as many nodes as building writes, and k values

@@ -15,6 +15,7 @@ use field::goldilocks::Goldilocks;
 use hyperplonk_nodes::same_nodes;
 use hyperplonk_prepare::circuit_params;
 use hyperplonk_prepare::copied_of;
+use hyperplonk_prepare::group_sizes_of;
 use hyperplonk_prepare::needed::column_words;
 use hyperplonk_prepare::needed::composed_nodes;
 use hyperplonk_spec::RowSum;
@@ -47,7 +48,7 @@ fn sum_layout(circuit: &[u64], params: CircuitParams) -> Layout
         witness: params.num_poly - instances - preprocess,
         permutations: params.num_permutation_polys,
         skipped: params.num_lookups * 2,
-        rest: params.num_lookups * 2 + params.num_chunks,
+        rest: params.num_groups * 2 + params.num_chunks,
     }
 }
 
@@ -95,9 +96,10 @@ fn question_16(
     challenges: &[u64],
     y: &[u64],
     copied: &[u64],
+    sizes: &[u64],
     params: CircuitParams,
 ) -> bool
-    requires { ⌜ Prepared (now circuit) (now copied) params ⌝ }
+    requires { ⌜ Prepared (now circuit) (now copied) (now sizes) params ⌝ }
     ensures { λ r. ⌜ r ≡ q16 (circuitOf (now (circuit .entry))) (now (witness .entry)) (now (columns .entry)) (now (nodes .entry)) (now (challenges .entry)) (now (y .entry)) ⌝ }
 {
     if !lengths_right(
@@ -111,7 +113,7 @@ fn question_16(
     ) {
         return false;
     }
-    if !same_nodes(circuit, copied, params, nodes) {
+    if !same_nodes(circuit, copied, sizes, params, nodes) {
         return false;
     }
     values_small(witness, columns, challenges, y)
@@ -160,7 +162,7 @@ fn sum_rows<'a>(
     sum
 }
 
-// The row sum of circuit words for which questions 1 to 11 are yes.
+// The row sum of circuit words for which questions 1 to 11 and 18 are yes.
 fn sum_prepared<'a>(
     circuit: &'a [u64],
     witness: &'a [u64],
@@ -169,9 +171,10 @@ fn sum_prepared<'a>(
     challenges: &'a [u64],
     y: &[u64],
     copied: &[u64],
+    sizes: &[u64],
     params: CircuitParams,
 ) -> RowSum
-    requires { ⌜ Prepared (now circuit) (now copied) params ⌝ }
+    requires { ⌜ Prepared (now circuit) (now copied) (now sizes) params ⌝ }
     ensures { λ r. ⌜ r ≡ rowSumOf (lentSum (now (circuit .entry)) (now (witness .entry)) (now (columns .entry)) (now (nodes .entry)) (now (challenges .entry)) (now (y .entry))) ⌝ }
 {
     if !question_16(
@@ -182,6 +185,7 @@ fn sum_prepared<'a>(
         challenges,
         y,
         copied,
+        sizes,
         params,
     ) {
         return RowSum { number: 16, sum: 0 };
@@ -211,6 +215,9 @@ fn sum_named<'a>(
 {
     let all = &of[..];
     let params = circuit_params(circuit, count);
+    let groups = group_sizes_of(circuit);
+    let group_count = groups.count;
+    let sizes = groups.of;
     sum_prepared(
         circuit,
         witness,
@@ -219,6 +226,7 @@ fn sum_named<'a>(
         challenges,
         y,
         &all[0..count],
+        &sizes[0..group_count],
         params,
     )
 }

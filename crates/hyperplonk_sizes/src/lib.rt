@@ -23,7 +23,7 @@ fn refused(number: u64) -> Sizes
     }
 }
 
-// The numbers of circuit words for which questions 1 to 11 are yes, given how many columns are copied.
+// The numbers of circuit words for which questions 1 to 11 and 18 are yes, given how many columns are copied.
 fn accepted(circuit: &[u64], copied: usize) -> Sizes
     requires { ⌜ Accepted (now circuit) × (copied ≡ numCopied (circuitOf (now circuit))) ⌝ }
     ensures { λ r. ⌜ r ≡ circuitSizes (circuitOf (now (circuit .entry))) ⌝ }

@@ -10,17 +10,17 @@ lengths-right-requires c κs = search needs
 
 returns : tie.Need-returns
 returns c =
-    let a = c .before .before .before .before .before .before .before .before .before .args in
+    let a = c .before .before .before .before .before .before .before .before .before .before .args in
     lengths-no (circuitOf (a .circuit .now)) (a .witness .now) (a .columns .now) (a .nodes .now) (a .challenges .now) (a .y .now) _ (c .before .lengths-right .ensures) (c .if1 .taken)
 
 same-nodes-requires : tie.Need-same-nodes-requires
 same-nodes-requires c κs =
-    let a = c .before .before .before .before .before .before .before .before .before .args in
-    (c .before .before .before .before .before .before .before .before .before .pre, nodes-many (circuitOf (a .circuit .now)) (a .witness .now) (a .columns .now) (a .nodes .now) (a .challenges .now) (a .y .now) _ (c .before .lengths-right .ensures) (c .if1 .left))
+    let a = c .before .before .before .before .before .before .before .before .before .before .args in
+    (c .before .before .before .before .before .before .before .before .before .before .pre, nodes-many (circuitOf (a .circuit .now)) (a .witness .now) (a .columns .now) (a .nodes .now) (a .challenges .now) (a .y .now) _ (c .before .lengths-right .ensures) (c .if1 .left))
 
 returns-2 : tie.Need-returns-2
 returns-2 c =
-    let a = c .before .before .before .before .before .before .before .before .before .before .before .args in
+    let a = c .before .before .before .before .before .before .before .before .before .before .before .before .args in
     nodes-no (circuitOf (a .circuit .now)) (a .witness .now) (a .columns .now) (a .nodes .now) (a .challenges .now) (a .y .now) _ (c .before .same-nodes .ensures) (c .if2 .taken)
 
 values-small-requires : tie.Need-values-small-requires
@@ -28,7 +28,7 @@ values-small-requires c κs = search needs
 
 returns-3 : tie.Need-returns-3
 returns-3 c =
-    let a = c .before .before .before .before .before .before .before .before .before .before .before .before .args in
+    let a = c .before .before .before .before .before .before .before .before .before .before .before .before .before .args in
     rest-is (circuitOf (a .circuit .now)) (a .witness .now) (a .columns .now) (a .nodes .now) (a .challenges .now) (a .y .now) _ _ _ (c .before .before .before .before .lengths-right .ensures) (c .before .before .before .if1 .left) (c .before .before .same-nodes .ensures)
     (c .before .if2 .left)
     (c .values-small .ensures)

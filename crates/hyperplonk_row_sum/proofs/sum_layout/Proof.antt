@@ -24,10 +24,10 @@ mul-t12 : tie.Need-mul-t12
 mul-t12 c = omega (arith, numbers-few (c .before .before .before .before .before .args .circuit .now) (c .before .before .before .before .before .pre .0) (c .before .before .before .before .before .args .params) (c .before .before .before .before .before .pre .1) .1)
 
 mul-t13 : tie.Need-mul-t13
-mul-t13 c = omega (arith, numbers-few (c .before .before .before .before .before .before .args .circuit .now) (c .before .before .before .before .before .before .pre .0) (c .before .before .before .before .before .before .args .params) (c .before .before .before .before .before .before .pre .1) .1)
+mul-t13 c = omega (arith, numbers-few (c .before .before .before .before .before .before .args .circuit .now) (c .before .before .before .before .before .before .pre .0) (c .before .before .before .before .before .before .args .params) (c .before .before .before .before .before .before .pre .1) .4)
 
 add-t14 : tie.Need-add-t14
-add-t14 c = omega (arith, numbers-few (c .before .before .before .before .before .before .before .args .circuit .now) (c .before .before .before .before .before .before .before .pre .0) (c .before .before .before .before .before .before .before .args .params) (c .before .before .before .before .before .before .before .pre .1) .1, numbers-few (c .before .before .before .before .before .before .before .args .circuit .now) (c .before .before .before .before .before .before .before .pre .0) (c .before .before .before .before .before .before .before .args .params) (c .before .before .before .before .before .before .before .pre .1) .2)
+add-t14 c = let f = numbers-few (c .before .before .before .before .before .before .before .args .circuit .now) (c .before .before .before .before .before .before .before .pre .0) (c .before .before .before .before .before .before .before .args .params) (c .before .before .before .before .before .before .before .pre .1) in omega (arith, f .2, f .4)
 
 returns : tie.Need-returns
 returns c = layout-made (c .before .before .before .before .before .before .before .args .circuit .now) (c .before .before .before .before .before .before .before .pre .0) (c .before .before .before .before .before .before .before .args .params) (c .before .before .before .before .before .before .before .pre .1)
