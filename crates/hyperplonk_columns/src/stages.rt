@@ -1,4 +1,5 @@
-// The stages that read sections of circuit words for which questions 1 to 11 are yes: each writes its columns in the one column buffer.
+// The stages that read sections of circuit words for which questions 1 to 11 and 18 are yes: each writes its columns in the one column
+// buffer.
 use backend_sections::bodies::num_user;
 use backend_sections::bodies::num_witness;
 use backend_sections::bodies::rows;
