@@ -3,6 +3,7 @@ use backend_sections::contents::CELL_COUNT;
 use backend_sections::contents::CELL_START;
 use backend_sections::contents::CONSTRAINT_COUNT;
 use backend_sections::contents::CONSTRAINT_START;
+use backend_sections::contents::GROUP_START;
 use backend_sections::contents::INSTANCE_COUNT;
 use backend_sections::contents::K_WORD;
 use backend_sections::contents::LENGTH_COUNT;
@@ -14,10 +15,12 @@ use backend_sections::contents::PAIR_START;
 use backend_sections::contents::PREPROCESS_COUNT;
 use backend_sections::contents::ROUND_COUNT;
 use backend_sections::contents::ROUND_START;
+use backend_sections::contents::WIDTH_COUNT;
+use backend_sections::contents::WIDTH_START;
 use lists::word_at;
 
 // The place after the last section's.
-pub const NO_SECTION: usize = 9;
+pub const NO_SECTION: usize = 10;
 
 // No place.
 pub const NONE: usize = 18446744073709551615;
@@ -27,7 +30,7 @@ pub fn after(at: usize, words: usize) -> usize {
     std::num::wrapping_add_usize(at, words)
 }
 
-// Starts and counts, and the sums that questions 7 to 11 go by.
+// Starts and counts, and the sums that questions 7 to 11 and 18 go by.
 pub struct Bounds {
     pub k: u64,
     pub rows: u64,
@@ -39,12 +42,15 @@ pub struct Bounds {
     pub nodes: u64,
     pub constraints_start: usize,
     pub constraints: u64,
+    pub widths_start: usize,
+    pub lookups: u64,
     pub pairs_start: usize,
     pub pair_words: u64,
     pub lengths_start: usize,
     pub lengths: u64,
     pub cells_start: usize,
     pub cells: u64,
+    pub groups_start: usize,
 }
 
 // A count, and no more than there are words.
@@ -104,11 +110,14 @@ pub fn bounds_of(circuit: &[u64]) -> Bounds {
         nodes: word_at(circuit, NODE_COUNT),
         constraints_start: word_at(circuit, CONSTRAINT_START) as usize,
         constraints: word_at(circuit, CONSTRAINT_COUNT),
+        widths_start: word_at(circuit, WIDTH_START) as usize,
+        lookups: word_at(circuit, WIDTH_COUNT),
         pairs_start: word_at(circuit, PAIR_START) as usize,
         pair_words: word_at(circuit, PAIR_COUNT) << 1,
         lengths_start: word_at(circuit, LENGTH_START) as usize,
         lengths: word_at(circuit, LENGTH_COUNT),
         cells_start: word_at(circuit, CELL_START) as usize,
         cells: word_at(circuit, CELL_COUNT),
+        groups_start: word_at(circuit, GROUP_START) as usize,
     }
 }

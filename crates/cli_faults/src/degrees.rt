@@ -2,12 +2,15 @@
 use crate::bounds::Bounds;
 use crate::bounds::NONE;
 use crate::bounds::after;
+use crate::groups::first_of;
+use crate::groups::lookup_start;
+use crate::groups::lookups_in;
+use crate::groups::width_of;
 use backend_sections::contents::STATED_WORD;
-use backend_sections::contents::WIDTH_START;
 use lists::word_at;
 
-// The degree of a lookup, where that of a root is known only to be above 1024.
-pub const ABOVE: u64 = 2050;
+// The degree of a group, where that of a root is known only to be above 1024: more than 1 and nine times 1024.
+pub const ABOVE: u64 = 9218;
 
 // The degree of a root, up to 1025; 0 where there is no such node.
 pub fn degree_of(circuit: &[u64], b: Bounds, root: u64) -> u64 {
@@ -51,27 +54,40 @@ fn side_degree(circuit: &[u64], b: Bounds, start: usize, width: u64) -> u64 {
     most
 }
 
-// The degree of a lookup's constraint, whose pairs are `width` from a place on.
-pub fn lookup_degree(circuit: &[u64], b: Bounds, at: usize, width: u64) -> u64 {
-    let inputs = side_degree(circuit, b, at, width);
-    let tables = side_degree(circuit, b, after(at, 1), width);
-    if (1024 < inputs) | (1024 < tables) {
+// The largest degree of a lookup's inputs (side 0) or tables (side 1), up to 1025.
+fn lookup_degree(circuit: &[u64], b: Bounds, i: u64, side: usize) -> u64 {
+    let start = after(lookup_start(circuit, b, i), side);
+    side_degree(circuit, b, start, width_of(circuit, b, i))
+}
+
+// The sum, ABOVE where one of the two is more than 1024 or ABOVE.
+fn degrees_sum(sum: u64, degree: u64) -> u64 {
+    if (sum == ABOVE) | (1024 < degree) {
         return ABOVE;
     }
-    std::num::wrapping_add_u64(std::num::wrapping_add_u64(inputs, tables), 1)
+    std::num::wrapping_add_u64(sum, degree)
 }
 
-// Where the pairs of lookup i begin.
-pub fn lookup_start(circuit: &[u64], b: Bounds, i: u64) -> usize {
-    let pairs = crate::bounds::sum_of(circuit, word_at(circuit, WIDTH_START) as usize, 1, i);
-    after(b.pairs_start, (pairs << 1) as usize)
+// The degree of the constraint of the group that begins with lookup `first`: 1, those of the inputs and that of the table.
+pub fn group_degree(circuit: &[u64], b: Bounds, first: u64) -> u64 {
+    let lookups = lookups_in(circuit, b, first);
+    let mut sum = degrees_sum(1, lookup_degree(circuit, b, first, 1));
+    let mut n: u64 = 0;
+    while n < lookups {
+        let i = std::num::wrapping_add_u64(first, n);
+        sum = degrees_sum(sum, lookup_degree(circuit, b, i, 0));
+        n += 1;
+    }
+    sum
 }
 
-// The place of the first pair of a lookup whose degree is too large; i is the lookup's number and `at` that of its width.
-pub(crate) fn lookup_fault(circuit: &[u64], b: Bounds, at: usize, i: u64) -> usize {
-    let start = lookup_start(circuit, b, i);
-    if 1024 < lookup_degree(circuit, b, start, word_at(circuit, at)) {
-        return start;
+// The place of the first pair of a group whose degree is too large; i is the number of its first lookup. NONE for another lookup.
+pub(crate) fn group_fault(circuit: &[u64], b: Bounds, i: u64) -> usize {
+    if first_of(circuit, b, i) != i {
+        return NONE;
+    }
+    if 1024 < group_degree(circuit, b, i) {
+        return lookup_start(circuit, b, i);
     }
     NONE
 }

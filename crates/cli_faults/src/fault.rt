@@ -8,7 +8,9 @@ use crate::bounds::bounds_of;
 use crate::bounds::sum_of;
 use crate::cells::cell_fault;
 use crate::degrees::degree_fault;
-use crate::degrees::lookup_fault;
+use crate::degrees::group_fault;
+use crate::groups::number_fault;
+use crate::groups::table_fault;
 use crate::names::once_fault;
 use crate::nodes::RIGHT;
 use crate::nodes::layout_fault;
@@ -20,6 +22,7 @@ use backend_sections::contents::CELLS;
 use backend_sections::contents::CONSTRAINT_COUNT;
 use backend_sections::contents::FIRST_COUNT;
 use backend_sections::contents::FIRST_START;
+use backend_sections::contents::GROUP_COUNT;
 use backend_sections::contents::INSTANCE_COUNT;
 use backend_sections::contents::INSTANCE_START;
 use backend_sections::contents::K_WORD;
@@ -65,11 +68,15 @@ const ZERO: u64 = 10;
 
 const DEGREE: u64 = 11;
 
-const LOOKUP: u64 = 12;
+const GROUP: u64 = 12;
 
 const CELL: u64 = 13;
 
-// The limit of a count of the contents; word 1 is the maximum degree + 1, and the pairs have none.
+const NUMBER: u64 = 14;
+
+const TABLE: u64 = 15;
+
+// The limit of a count of the contents; word 1 is the maximum degree + 1, and the pairs and the group numbers have none.
 pub fn limit_of(at: usize) -> u64 {
     match at {
         STATED_WORD => 33,
@@ -133,8 +140,10 @@ fn entry_fault(circuit: &[u64], what: u64, b: Bounds, at: usize, j: u64) -> usiz
         RANGE => range_fault(circuit, b, at),
         ZERO => there(at, first == 0),
         DEGREE => degree_fault(circuit, b, at),
-        LOOKUP => lookup_fault(circuit, b, at, j),
-        _ => cell_fault(circuit, b, at, j),
+        GROUP => group_fault(circuit, b, j),
+        CELL => cell_fault(circuit, b, at, j),
+        NUMBER => number_fault(circuit, at, j),
+        _ => table_fault(circuit, b, at, j),
     }
 }
 
@@ -190,20 +199,13 @@ fn fault_3(circuit: &[u64], b: Bounds) -> usize {
     let rounds = word_at(circuit, ROUND_START) as usize;
     let witness = passes(circuit, rounds, 2, b.rounds, 32);
     let user = passes(circuit, after(rounds, 1), 2, b.rounds, 16);
-    let widths = search(
-        circuit,
-        WIDTH,
-        b,
-        word_at(circuit, WIDTH_START) as usize,
-        1,
-        word_at(circuit, WIDTH_COUNT),
-    );
+    let widths = search(circuit, WIDTH, b, b.widths_start, 1, b.lookups);
     let lengths = passes(circuit, b.lengths_start, 1, b.lengths, 4096);
     or_else(lower(witness, user), or_else(widths, lengths))
 }
 
 // The words of a section, by its place in the contents.
-fn words_in(k: u64, s: usize, count: u64) -> u64 {
+pub(crate) fn words_in(k: u64, s: usize, count: u64) -> u64 {
     match s {
         PREPROCESS => if k < 64 { count << k } else { 0 },
         ROUNDS => count << 1,
@@ -214,10 +216,10 @@ fn words_in(k: u64, s: usize, count: u64) -> u64 {
     }
 }
 
-// Where section s begins by the counts of those before it; the ninth, which is none, where the contents end.
+// Where section s begins by the counts of those before it; the tenth, which is none, where the contents end.
 pub fn begins(circuit: &[u64], s: usize) -> u64 {
     let k = word_at(circuit, K_WORD);
-    let mut right: u64 = 20;
+    let mut right: u64 = 22;
     let mut at = FIRST_COUNT;
     let mut i: usize = 0;
     while i < s {
@@ -251,6 +253,14 @@ fn pairs_fault(circuit: &[u64]) -> usize {
     )
 }
 
+// The group numbers, which are as many as the lookups.
+fn groups_fault(circuit: &[u64]) -> usize {
+    there(
+        GROUP_COUNT,
+        word_at(circuit, GROUP_COUNT) != word_at(circuit, WIDTH_COUNT),
+    )
+}
+
 // The sum of the lookup widths.
 pub fn widths_sum(circuit: &[u64]) -> u64 {
     sum_of(
@@ -264,9 +274,10 @@ pub fn widths_sum(circuit: &[u64]) -> u64 {
 // 4 at the contents, then at the bodies: a count that is not the sum of the widths or of the lengths. NONE where the contents
 // do not end where the words do.
 fn fault_4(circuit: &[u64]) -> usize {
-    let start = lower(start_fault(circuit), pairs_fault(circuit));
-    if start != NONE {
-        return start;
+    let counts = or_else(pairs_fault(circuit), groups_fault(circuit));
+    let contents = lower(start_fault(circuit), counts);
+    if contents != NONE {
+        return contents;
     }
     if begins(circuit, NO_SECTION) != circuit.len() as u64 {
         return NONE;
@@ -326,25 +337,26 @@ fn fault_7(circuit: &[u64], b: Bounds) -> usize {
 
 // A width of 0, else the count of constraints, which is 0 as the two after it.
 fn fault_9(circuit: &[u64], b: Bounds) -> usize {
-    let width = search(
-        circuit,
-        ZERO,
-        b,
-        word_at(circuit, WIDTH_START) as usize,
-        1,
-        word_at(circuit, WIDTH_COUNT),
-    );
+    let width = search(circuit, ZERO, b, b.widths_start, 1, b.lookups);
     or_else(width, CONSTRAINT_COUNT)
 }
 
-// A constraint's root, else the first pair of a lookup.
+// A group number, else a width or a table of a lookup.
+fn fault_18(circuit: &[u64], b: Bounds) -> usize {
+    let number = search(circuit, NUMBER, b, b.groups_start, 1, b.lookups);
+    or_else(
+        number,
+        search(circuit, TABLE, b, b.widths_start, 1, b.lookups),
+    )
+}
+
+// A constraint's root, else the first pair of a group.
 fn fault_10(circuit: &[u64], b: Bounds) -> usize {
     let user = search(circuit, DEGREE, b, b.constraints_start, 1, b.constraints);
     if user != NONE {
         return user;
     }
-    let widths = word_at(circuit, WIDTH_START) as usize;
-    search(circuit, LOOKUP, b, widths, 1, word_at(circuit, WIDTH_COUNT))
+    search(circuit, GROUP, b, b.widths_start, 1, b.lookups)
 }
 
 fn fault_11(circuit: &[u64], b: Bounds) -> usize {
@@ -366,6 +378,7 @@ pub fn place_of(circuit: &[u64], question: u64) -> usize {
         9 => fault_9(circuit, b),
         10 => fault_10(circuit, b),
         11 => fault_11(circuit, b),
+        18 => fault_18(circuit, b),
         _ => NONE,
     }
 }

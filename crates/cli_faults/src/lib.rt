@@ -4,5 +4,7 @@ pub mod bounds;
 pub mod cells;
 pub mod degrees;
 pub mod fault;
+pub mod groups;
 pub mod names;
 pub mod nodes;
+pub mod older;

@@ -1,4 +1,4 @@
-// The questions in document 01's words.
+// The questions in document 01's words, and 17 and 18, which document 02 adds.
 use cli_texts::say;
 
 // Which question was answered no.
@@ -16,7 +16,7 @@ pub fn answered_no(number: u64) {
 
 fn first(number: u64) {
     match number {
-        1 => say::error(b"Are there 20 words or more?"),
+        1 => say::error(b"Are there 22 words or more?"),
         2 => say::error(b"Is k from 1 to 10?"),
         3 => say::error(b"Is each count and sum in its limit?"),
         _ => say::error(b"Do starts, counts and total length agree?"),
@@ -54,6 +54,9 @@ fn last(number: u64) {
         13 => say::error(b"Are they all below p (instance, witness and challenge words)?"),
         14 => say::error(b"Have both output buffers at least the words needed?"),
         15 => say::error(b"Does each compressed input equal some compressed table row?"),
+        18 => say::error(
+            b"Is the first group number 0 and each next the same or one more, and have the tables of one group the same width and the same trees?",
+        ),
         17 => say::error(
             b"Is every denominator other than zero? They are gamma + input and gamma + table on all rows, and the inverted factors on every row but 0.",
         ),

@@ -4,6 +4,8 @@ use backend_sections::contents::CONSTRAINT_START;
 use backend_sections::contents::NODE_START;
 use cli_faults::bounds::NONE;
 use cli_faults::fault::place_of;
+use cli_faults::older::is_older;
+use cli_reasons::groups;
 use cli_reasons::late;
 use cli_reasons::layout;
 use cli_reasons::section::section_name;
@@ -36,7 +38,7 @@ fn node_of(circuit: &[u64], at: u64) {
 }
 
 // A word's number, and its line where that can be told.
-fn stands(place: usize) {
+pub(crate) fn stands(place: usize) {
     say::error_count(b"word ", place as u64);
     let line = files::line_of(CIRCUIT, place);
     if line != 0 {
@@ -80,6 +82,7 @@ fn why(circuit: &[u64], no: u64, place: usize) {
         8 => late::range_why(circuit, place),
         9 => late::width_why(circuit, place),
         10 => late::degree_why(circuit, place),
+        18 => groups::group_why(circuit, place),
         _ => late::cell_why(circuit, place),
     }
     if no == 11 {
@@ -92,11 +95,21 @@ fn length(circuit: &[u64], no: u64) {
     files::name(CIRCUIT);
     if no == 1 {
         say::error_count(b": there are ", circuit.len() as u64);
-        say::error(b" words, at least 20 are needed\n");
+        say::error(b" words, at least 22 are needed\n");
     } else {
         starts::length_why(circuit);
     }
     files::line_ends(CIRCUIT);
+}
+
+// Says so of words that have the layout from before groups.
+fn hint(circuit: &[u64]) {
+    if is_older(circuit) {
+        files::name(CIRCUIT);
+        say::error(b": these words have the layout from before groups; hyperplonk_cli regroup ");
+        files::name(CIRCUIT);
+        say::error(b" rewrites them\n");
+    }
 }
 
 // Says all of it.
@@ -105,8 +118,9 @@ pub fn refusal(circuit: &[u64], no: u64) {
     let place = place_of(circuit, no);
     if place == NONE {
         length(circuit, no);
-        return;
+    } else {
+        offending(circuit, no, place);
+        why(circuit, no, place);
     }
-    offending(circuit, no, place);
-    why(circuit, no, place);
+    hint(circuit);
 }

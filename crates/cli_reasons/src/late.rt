@@ -1,19 +1,18 @@
-// What is said of questions 5, 6 and 8 to 11.
+// What is said of questions 5, 6, 8, 9, 10 and 11.
+use crate::groups::lookup_at;
 use backend_sections::contents::CONSTRAINT_COUNT;
 use backend_sections::contents::INSTANCE_START;
 use backend_sections::contents::PREPROCESS_START;
 use backend_sections::contents::ROUND_START;
 use backend_sections::contents::STATED_WORD;
-use backend_sections::contents::WIDTH_START;
 use cli_faults::bounds::Bounds;
 use cli_faults::bounds::NONE;
-use cli_faults::bounds::after;
 use cli_faults::bounds::bounds_of;
 use cli_faults::cells::stood;
 use cli_faults::degrees::ABOVE;
 use cli_faults::degrees::degree_of;
-use cli_faults::degrees::lookup_degree;
-use cli_faults::degrees::lookup_start;
+use cli_faults::degrees::group_degree;
+use cli_faults::groups::lookups_in;
 use cli_texts::say;
 use expression::kind::POLYNOMIAL;
 use expression::node::SIGNED_OFFSET;
@@ -135,7 +134,8 @@ pub fn width_why(circuit: &[u64], place: usize) {
         say::error(b"there is no constraint, no lookup and no cycle, at least one is asked\n");
         return;
     }
-    say::error_count(b"lookup ", behind(place, word_at(circuit, WIDTH_START)));
+    let b = bounds_of(circuit);
+    say::error_count(b"lookup ", behind(place, b.widths_start as u64));
     say::error(b" has width 0, at least 1 is asked\n");
 }
 
@@ -148,25 +148,17 @@ fn degree(n: u64, known: u64) {
     }
 }
 
-// The number of the lookup whose pairs begin at a place.
-fn lookup_at(circuit: &[u64], b: Bounds, place: usize) -> u64 {
-    let mut i: u64 = 0;
-    while i < 8 {
-        if lookup_start(circuit, b, i) == place {
-            return i;
-        }
-        i += 1;
+// A group of too large a degree: a lookup alone, or several.
+fn group_why(circuit: &[u64], b: Bounds, place: usize) {
+    let first = lookup_at(circuit, b, place);
+    let lookups = lookups_in(circuit, b, first);
+    if lookups == 1 {
+        say::error_count(b"lookup ", first);
+    } else {
+        say::error_count(b"the group of lookups ", first);
+        say::error_count(b" to ", last(std::num::wrapping_add_u64(first, lookups)));
     }
-    8
-}
-
-// A lookup of too large a degree.
-fn lookup_why(circuit: &[u64], b: Bounds, place: usize) {
-    let i = lookup_at(circuit, b, place);
-    let at = after(word_at(circuit, WIDTH_START) as usize, i as usize);
-    let n = lookup_degree(circuit, b, place, word_at(circuit, at));
-    say::error_count(b"lookup ", i);
-    degree(n, last(ABOVE));
+    degree(group_degree(circuit, b, first), last(ABOVE));
     say::error(b", at most 1024\n");
 }
 
@@ -175,7 +167,7 @@ pub fn degree_why(circuit: &[u64], place: usize) {
     let b = bounds_of(circuit);
     let stated = word_at(circuit, STATED_WORD);
     if b.pairs_start <= place {
-        lookup_why(circuit, b, place);
+        group_why(circuit, b, place);
         return;
     }
     let j = std::num::wrapping_sub_usize(place, b.constraints_start);

@@ -1,5 +1,6 @@
 // The section that a word of the circuit stands in, and its name.
 use backend_sections::contents::CELLS;
+use backend_sections::contents::GROUPS;
 use backend_sections::contents::INSTANCES;
 use backend_sections::contents::LENGTHS;
 use backend_sections::contents::NEXT_START;
@@ -15,19 +16,19 @@ use lists::word_at;
 
 // The section that a word past the contents stands in, by the starts; none for a word of the contents.
 pub fn section_of(circuit: &[u64], at: u64) -> usize {
-    if at < 20 {
+    if at < 22 {
         return NO_SECTION;
     }
     let mut next = NEXT_START;
     let mut s: usize = 0;
-    while s < CELLS {
+    while s < GROUPS {
         if at < word_at(circuit, next) {
             return s;
         }
         next = after(next, 2);
         s += 1;
     }
-    CELLS
+    GROUPS
 }
 
 // Its name.
@@ -55,6 +56,7 @@ fn late_name(s: usize) {
         PAIRS => say::error(b"the lookup pairs"),
         LENGTHS => say::error(b"the cycle lengths"),
         CELLS => say::error(b"the cells"),
+        GROUPS => say::error(b"the group numbers"),
         _ => say::error(b"the table of contents"),
     }
 }

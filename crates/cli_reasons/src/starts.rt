@@ -5,6 +5,7 @@ use backend_sections::contents::CELL_COUNT;
 use backend_sections::contents::CONSTRAINT_COUNT;
 use backend_sections::contents::CONSTRAINT_START;
 use backend_sections::contents::FIRST_START;
+use backend_sections::contents::GROUP_COUNT;
 use backend_sections::contents::INSTANCE_COUNT;
 use backend_sections::contents::K_WORD;
 use backend_sections::contents::LENGTH_COUNT;
@@ -136,6 +137,15 @@ pub fn start_why(circuit: &[u64], place: usize) {
         let b = bounds_of(circuit);
         let sum = sum_of(circuit, b.lengths_start, 1, b.lengths);
         say::error_two(b"cells: ", b.cells, b", the cycle lengths sum to ", sum);
+        return;
+    }
+    if place == GROUP_COUNT {
+        say::error_two(
+            b"group numbers: ",
+            word_at(circuit, place),
+            b", one to each lookup is asked, and the lookups are ",
+            word_at(circuit, WIDTH_COUNT),
+        );
         return;
     }
     let s = std::num::wrapping_sub_usize(place, FIRST_START) / 2;

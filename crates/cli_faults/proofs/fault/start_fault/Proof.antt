@@ -8,7 +8,7 @@ abbrev Inv-loop : tie.InvT-loop
 Inv-loop circuit at₀ s₀ at s = Unit {0}
 
 abbrev μ-loop : tie.MeasureT-loop
-μ-loop circuit at₀ s₀ at s = 9 - s
+μ-loop circuit at₀ s₀ at s = 10 - s
 
 loop-holds : tie.Need-loop-holds Inv-loop μ-loop
 loop-holds c = search needs

@@ -8,7 +8,7 @@ abbrev Inv-loop : tie.InvT-loop
 Inv-loop circuit at next₀ s₀ next s = Unit {0}
 
 abbrev μ-loop : tie.MeasureT-loop
-μ-loop circuit at next₀ s₀ next s = 8 - s
+μ-loop circuit at next₀ s₀ next s = 9 - s
 
 returns : tie.Need-returns Inv-loop μ-loop
 returns c = search needs

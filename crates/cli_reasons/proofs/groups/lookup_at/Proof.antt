@@ -1,17 +1,20 @@
 -- `lookup_at` is safe and ends. The measure is the lookups left.
 use Prim.Native.Nat.{_-_}
 use borrow.Author.Needs.{needs}
-use Rattle.cli_reasons.proofs.late.lookup_at.Statement.{statement}
-use Rattle.cli_reasons.proofs.late.lookup_at.Tie as tie
+use Rattle.cli_reasons.proofs.groups.lookup_at.Statement.{statement}
+use Rattle.cli_reasons.proofs.groups.lookup_at.Tie as tie
 
 abbrev Inv-loop : tie.InvT-loop
 Inv-loop circuit b place i₀ i = Unit {0}
 
 abbrev μ-loop : tie.MeasureT-loop
-μ-loop circuit b place i₀ i = 8 - i
+μ-loop circuit b place i₀ i = 7 - i
 
 loop-holds : tie.Need-loop-holds Inv-loop μ-loop
 loop-holds c = search needs
+
+wrapping-add-u64-requires : tie.Need-wrapping-add-u64-requires Inv-loop μ-loop
+wrapping-add-u64-requires c κs = search needs
 
 lookup-start-requires : tie.Need-lookup-start-requires Inv-loop μ-loop
 lookup-start-requires c κs = search needs
@@ -38,6 +41,7 @@ lookup-at-spec =
     Inv-loop
     μ-loop
     loop-holds
+    wrapping-add-u64-requires
     lookup-start-requires
     returns
     add-i
