@@ -1,7 +1,6 @@
 // What circuit words have and ask for, in words; and for refused ones which question was answered no, and where.
 use crate::cuts;
 use crate::cuts::cuts_of;
-use crate::shape::HALF;
 use crate::shape::Shape;
 use crate::shape::shape_of;
 use backend::MAX_POLYS;
@@ -28,6 +27,25 @@ fn copied(s: Shape) {
     say::out(b"\n");
 }
 
+fn groups(s: Shape) {
+    let sizes = s.sizes;
+    let count = s.groups;
+    say::out(b"groups of lookups: ");
+    say::number(count as u64);
+    if count > 0 {
+        say::out(b", lookups in each:");
+    }
+    let mut i: usize = 0;
+    while i < count {
+        if i < 8 {
+            say::out(b" ");
+            say::number(sizes[i]);
+        }
+        i += 1;
+    }
+    say::out(b"\n");
+}
+
 // Whether the copied columns are cut alike, and the stack that build and check need.
 fn cut_and_stack(s: Shape) {
     let c = cuts_of(s);
@@ -36,7 +54,7 @@ fn cut_and_stack(s: Shape) {
     } else {
         say::out(b"both cuts of the copied columns are alike\n");
     }
-    if s.column_words <= HALF {
+    if s.half {
         say::out(b"stack needed: 2 MiB\n");
     } else {
         say::out(b"stack needed: 3 MiB\n");
@@ -45,6 +63,7 @@ fn cut_and_stack(s: Shape) {
 
 // What an accepted circuit asks for.
 fn needs(s: Shape) {
+    groups(s);
     say::line(b"D: ", std::num::wrapping_add_u64(s.part as u64, 1));
     say::line(b"N: ", s.parts as u64);
     copied(s);
@@ -64,7 +83,7 @@ pub fn explain(circuit: &[u64]) {
     if s.no == 0 {
         needs(s);
         cut_and_stack(s);
-        say::out(b"questions 1 to 11 are answered yes\n");
+        say::out(b"questions 1 to 11 and 18 are answered yes\n");
     } else {
         refusal(circuit, s.no);
     }

@@ -4,6 +4,7 @@ pub mod cuts;
 pub mod explain;
 mod files;
 pub mod output;
+pub mod regroup;
 pub mod shape;
 pub mod verdict;
 mod write_out;

@@ -1,7 +1,8 @@
-// What circuit words have and ask for, once questions 1 to 11 have been put to them; what they ask for is told by `sizes`.
+// What circuit words have and ask for, once questions 1 to 11 and 18 have been put to them; what they ask for is told by `sizes`.
 use backend::MAX_POLYS;
 use hyperplonk_prepare::circuit_params;
 use hyperplonk_prepare::copied_of;
+use hyperplonk_prepare::group_sizes_of;
 use hyperplonk_sizes::sizes;
 use hyperplonk_spec::Sizes;
 ghost use mathlib.Core.Path.{_≡_};
@@ -11,17 +12,22 @@ ghost use lib.ListN.{take};
 ghost use Rattle.backend.specs.Circuit.{circuitOf, copied, maxPolys};
 ghost use Rattle.hyperplonk_prepare.specs.Prepared.{Accepted};
 
-// The column words up to which the smaller rooms of the program do.
-pub const HALF: usize = 98304;
+// The column words and the nodes up to which the smaller rooms of the program do.
+const HALF: usize = 98304;
 
-// The number of the first no, 0 for none; the rest is 0 for refused circuit words. `of` has the copied columns' polynomials;
-// `part` is D - 1, and `parts` is N.
+const HALF_NODES: usize = 4190;
+
+// The number of the first no, 0 for none; the rest is 0 for refused circuit words. `of` has the copied columns' polynomials, and
+// `sizes` how many lookups each group has; `part` is D - 1, `parts` is N,
+// and `half` says that the smaller rooms do.
 pub struct Shape {
     pub no: u64,
     pub instances: usize,
     pub copied: usize,
     pub of: [u64; MAX_POLYS],
     pub lookups: usize,
+    pub groups: usize,
+    pub sizes: [u64; 8],
     pub polys: usize,
     pub user: usize,
     pub rows: usize,
@@ -30,6 +36,7 @@ pub struct Shape {
     pub column_words: usize,
     pub nodes: u64,
     pub visits: u64,
+    pub half: bool,
 }
 
 fn refused(no: u64) -> Shape {
@@ -39,6 +46,8 @@ fn refused(no: u64) -> Shape {
         copied: 0,
         of: [0; MAX_POLYS],
         lookups: 0,
+        groups: 0,
+        sizes: [0; 8],
         polys: 0,
         user: 0,
         rows: 0,
@@ -47,6 +56,7 @@ fn refused(no: u64) -> Shape {
         column_words: 0,
         nodes: 0,
         visits: 0,
+        half: true,
     }
 }
 
@@ -54,13 +64,17 @@ fn accepted(circuit: &[u64], count: usize, of: [u64; MAX_POLYS], told: Sizes) ->
     requires { ⌜ Accepted (now circuit) × ((count ≤ maxPolys) × (take count of ≡ copied (circuitOf (now circuit)))) ⌝ }
 {
     let params = circuit_params(circuit, count);
+    let grouped = group_sizes_of(circuit);
     let instances = lists::word_at(circuit, 3);
+    let sizes = grouped.of;
     Shape {
         no: 0,
         instances: instances as usize,
         copied: count,
         of: of,
         lookups: params.num_lookups,
+        groups: grouped.count,
+        sizes: sizes,
         polys: params.num_poly,
         user: params.num_challenges,
         rows: params.rows,
@@ -69,6 +83,7 @@ fn accepted(circuit: &[u64], count: usize, of: [u64; MAX_POLYS], told: Sizes) ->
         column_words: told.column_words,
         nodes: told.nodes as u64,
         visits: told.visits as u64,
+        half: (told.column_words <= HALF) & (told.nodes <= HALF_NODES),
     }
 }
 

@@ -11,8 +11,8 @@ fn title(fd: i32, name: &[u8], n: u64) -> bool {
     named & numbered & ended
 }
 
-// Which column it is, of those of the lookups and z: compressed input and table per lookup, m, h, z.
-fn lookup_title(fd: i32, c: usize, lookups: usize) -> bool {
+// Which column it is, of those of the lookups and z: compressed input and table per lookup, m and h per group, z.
+fn lookup_title(fd: i32, c: usize, lookups: usize, groups: usize) -> bool {
     if c / 2 < lookups {
         if c % 2 == 0 {
             return title(fd, b"# compressed input of lookup ", (c / 2) as u64);
@@ -20,14 +20,14 @@ fn lookup_title(fd: i32, c: usize, lookups: usize) -> bool {
         return title(fd, b"# compressed table of lookup ", (c / 2) as u64);
     }
     let m = c - lookups - lookups;
-    if m < lookups {
-        return title(fd, b"# m of lookup ", m as u64);
+    if m < groups {
+        return title(fd, b"# m of group ", m as u64);
     }
-    let h = m - lookups;
-    if h < lookups {
-        return title(fd, b"# h of lookup ", h as u64);
+    let h = m - groups;
+    if h < groups {
+        return title(fd, b"# h of group ", h as u64);
     }
-    title(fd, b"# z column ", (h - lookups) as u64)
+    title(fd, b"# z column ", (h - groups) as u64)
 }
 
 // Which column it is: instance, permutation, then the others.
@@ -43,7 +43,7 @@ fn column_title(fd: i32, c: usize, s: Shape) -> bool {
         }
         return false;
     }
-    lookup_title(fd, p - s.copied, s.lookups)
+    lookup_title(fd, p - s.copied, s.lookups, s.groups)
 }
 
 // Writes each column with its title.

@@ -15,11 +15,11 @@ use Rattle.expression.specs.Reader.{LayoutSmall}
 use Rattle.expression.specs.Point.{PointInOrder}
 use Rattle.expression.specs.declared.poly.Layout.{Layout}
 use Rattle.expression.specs.declared.value.Point.{Point}
-use Rattle.backend.specs.Circuit.{circuitOf, wordK, numLookups, copied, numCopied}
+use Rattle.backend.specs.Circuit.{Section, bodyOf, circuitOf, wordK, numLookups, copied, numCopied}
 use Rattle.hyperplonk_prepare.specs.Prepared.{Accepted, layoutFromWords}
 use Rattle.hyperplonk_prepare.proofs.Accepted.{k-pos, k-few, few-lookups, few-copied, widths-are, widths-length, given}
 use Rattle.hyperplonk_columns.specs.Stages.{lentBeta, lentGamma}
-use Rattle.cli_search.specs.Ground.{GroundSmall, Grounded}
+use Rattle.cli_search.specs.Ground.{GroundSmall, Grounded, firstOf}
 use Rattle.cli_search.specs.Missing.{MissingIn, Missing}
 use Rattle.prover_z.specs.Factors.{denominatorInWords}
 use Rattle.cli_search.specs.Zero.{ZeroSide, ZeroOf, ZeroIn, ZeroAt}
@@ -32,6 +32,10 @@ count-is of count names h e = sym (length-take-le count of h) ∙ ap (λ (xs : L
 -- the part of the names from the first on
 pub first-names : (of : List ℕ) (count : ℕ) (names : List ℕ) → take count of ≡ names → take (count - 0) of ≡ names
 first-names of count names e = subst (λ (n : ℕ). take n of ≡ names) {x = count} {y = count - 0} (omega arith) e
+
+pub groups-are : (ws groups : List ℕ) → groups ≡ bodyOf ws Section.groups → groups ≡ circuitOf ws .groups
+unfolding circuitOf
+groups-are ws groups e = e
 
 module _ (ws : List ℕ) (a : Accepted ws) where
   pub lookups-are : getD ws 13 0 ≡ numLookups (circuitOf ws)
@@ -71,24 +75,27 @@ module _ (ws : List ℕ) (a : Accepted ws) where
 
 -- what is found by the numbers, by the words that are lent
 module _ (ws challenges : List ℕ) (g : Ground) (r : Grounded ws challenges g) (columns : List ℕ) where
-  pub missing-lent : (lookup row n b : ℕ) → n ≡ lookup → b ≡ row → MissingIn (g .layout) (g .lookups) (g .copied) columns lookup row
+  pub missing-lent : (groups : List ℕ) → groups ≡ circuitOf ws .groups → (lookup row n b : ℕ) → n ≡ lookup → b ≡ row
+      → MissingIn (g .layout) (g .lookups) (g .copied) groups columns lookup row
       → Missing ws columns n b
-  missing-lent lookup row n b e q m =
+  missing-lent groups eg lookup row n b e q m =
       subst (λ (b : ℕ). Missing ws columns n b) (sym q)
       (subst (λ (n : ℕ). Missing ws columns n row) (sym e)
-      (subst (λ (n : ℕ). MissingIn (layoutFromWords ws) (numLookups (circuitOf ws)) n columns lookup row) (r .copied)
-      (subst (λ (n : ℕ). MissingIn (layoutFromWords ws) n (g .copied) columns lookup row) (r .lookups)
-      (subst (λ (l : Layout). MissingIn l (g .lookups) (g .copied) columns lookup row) (r .layout) m))))
+      (subst (λ (xs : List ℕ). MissingIn (layoutFromWords ws) (numLookups (circuitOf ws)) (numCopied (circuitOf ws)) xs columns lookup row) eg
+      (subst (λ (n : ℕ). MissingIn (layoutFromWords ws) (numLookups (circuitOf ws)) n groups columns lookup row) (r .copied)
+      (subst (λ (n : ℕ). MissingIn (layoutFromWords ws) n (g .copied) groups columns lookup row) (r .lookups)
+      (subst (λ (l : Layout). MissingIn l (g .lookups) (g .copied) groups columns lookup row) (r .layout) m)))))
 
-  pub zero-lent : (witness names : List ℕ) → names ≡ copied (circuitOf ws) → (of : Column) (row : ℕ)
-      → ZeroIn (g .layout) ws witness columns names (g .lookups) (elem (g .beta)) (elem (g .gamma)) of row
+  pub zero-lent : (witness names groups : List ℕ) → names ≡ copied (circuitOf ws) → groups ≡ circuitOf ws .groups → (of : Column) (row : ℕ)
+      → ZeroIn (g .layout) ws witness columns names groups (g .lookups) (elem (g .beta)) (elem (g .gamma)) of row
       → ZeroAt ws witness challenges columns of row
-  zero-lent witness names e of row z =
-      subst (λ (γ : 𝔾 .F). ZeroIn (layoutFromWords ws) ws witness columns (copied (circuitOf ws)) (numLookups (circuitOf ws)) (lentBeta ws challenges) γ of row) (r .gamma)
-      (subst (λ (β : 𝔾 .F). ZeroIn (layoutFromWords ws) ws witness columns (copied (circuitOf ws)) (numLookups (circuitOf ws)) β (elem (g .gamma)) of row) (r .beta)
-      (subst (λ (n : ℕ). ZeroIn (layoutFromWords ws) ws witness columns (copied (circuitOf ws)) n (elem (g .beta)) (elem (g .gamma)) of row) (r .lookups)
-      (subst (λ (xs : List ℕ). ZeroIn (layoutFromWords ws) ws witness columns xs (g .lookups) (elem (g .beta)) (elem (g .gamma)) of row) e
-      (subst (λ (l : Layout). ZeroIn l ws witness columns names (g .lookups) (elem (g .beta)) (elem (g .gamma)) of row) (r .layout) z))))
+  zero-lent witness names groups e eg of row z =
+      subst (λ (γ : 𝔾 .F). ZeroIn (layoutFromWords ws) ws witness columns (copied (circuitOf ws)) (circuitOf ws .groups) (numLookups (circuitOf ws)) (lentBeta ws challenges) γ of row) (r .gamma)
+      (subst (λ (β : 𝔾 .F). ZeroIn (layoutFromWords ws) ws witness columns (copied (circuitOf ws)) (circuitOf ws .groups) (numLookups (circuitOf ws)) β (elem (g .gamma)) of row) (r .beta)
+      (subst (λ (n : ℕ). ZeroIn (layoutFromWords ws) ws witness columns (copied (circuitOf ws)) (circuitOf ws .groups) n (elem (g .beta)) (elem (g .gamma)) of row) (r .lookups)
+      (subst (λ (xs : List ℕ). ZeroIn (layoutFromWords ws) ws witness columns (copied (circuitOf ws)) xs (g .lookups) (elem (g .beta)) (elem (g .gamma)) of row) eg
+      (subst (λ (xs : List ℕ). ZeroIn (layoutFromWords ws) ws witness columns xs groups (g .lookups) (elem (g .beta)) (elem (g .gamma)) of row) e
+      (subst (λ (l : Layout). ZeroIn l ws witness columns names groups (g .lookups) (elem (g .beta)) (elem (g .gamma)) of row) (r .layout) z)))))
 
 pub zero-says : (x : 𝔾 .F) → isZero x ≡ true → x ≡ 𝔾 .zero
 unfolding decide
@@ -99,16 +106,16 @@ zero-says x e = go (𝔾 .decide x (𝔾 .zero)) e
     go (no n) q = absurd (true≢false (sym q))
 
 -- by the column that a test was for
-module _ (l : Layout) (circuit witness columns names : List ℕ) (lookups : ℕ) (β γ : 𝔾 .F) (of : Column) (n row : ℕ) where
+module _ (l : Layout) (circuit witness columns names groups : List ℕ) (lookups : ℕ) (β γ : 𝔾 .F) (of : Column) (n row : ℕ) where
   abbrev Zero : Column → Type 0
-  Zero d = ZeroOf l circuit witness columns names lookups β γ d row
+  Zero d = ZeroOf l circuit witness columns names groups lookups β γ d row
 
   module _ (copied : ℕ) (e : copied ≡ length names) where
     pub of-input : of ≡ Column.Input n → ZeroSide l lookups copied columns γ 0 n row → Zero of
     of-input q z = subst Zero (sym q) (subst (λ (m : ℕ). ZeroSide l lookups m columns γ 0 n row) e z)
 
-    pub of-table : of ≡ Column.Table n → ZeroSide l lookups copied columns γ 1 n row → Zero of
-    of-table q z = subst Zero (sym q) (subst (λ (m : ℕ). ZeroSide l lookups m columns γ 1 n row) e z)
+    pub of-table : of ≡ Column.Table n → (firstOf groups n ≡ n) × ZeroSide l lookups copied columns γ 1 n row → Zero of
+    of-table q z = subst Zero (sym q) (z .0, subst (λ (m : ℕ). ZeroSide l lookups m columns γ 1 n row) e (z .1))
 
   pub of-copied : of ≡ Column.Copied n
       → (n < length names) × (0 < row) × (denominatorInWords l circuit witness columns names β γ row n ≡ 𝔾 .zero)

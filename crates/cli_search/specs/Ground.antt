@@ -3,6 +3,8 @@ use mathlib.Core.Path.{_≡_}
 use mathlib.Core.List.{List}
 use Prim.Native.Nat.{ℕ, _+_, _*_, _≤_}
 use lib.ListN.{getD, take}
+use lib.Dec.{ltb}
+use Rattle.lists.specs.Lists.{countOf}
 use Rattle.field.specs.Element.{elem}
 use Rattle.expression.specs.Reader.{LayoutSmall}
 use Rattle.expression.specs.declared.poly.Layout.{Layout}
@@ -20,6 +22,11 @@ wordBehind l columns n row = getD columns ((l .instances + n) * l .rows + row) 0
 -- that of a lookup's compressed input (side 0) or compressed table (side 1), where so many columns are copied
 abbrev pub sideWord : Layout → ℕ → List ℕ → ℕ → ℕ → ℕ → ℕ
 sideWord l copied columns side lookup row = wordBehind l columns (copied + lookup * 2 + side) row
+
+-- "one group number per lookup, first 0, each next the same or one more"; the group's table is its first lookup's: the first lookup of
+-- the group that a lookup is of, before which as many stand as have a lower number
+abbrev pub firstOf : List ℕ → ℕ → ℕ
+firstOf groups lookup = countOf (λ g. ltb g (getD groups lookup 0)) groups
 
 -- the numbers are those of the circuit words, and the last two challenges those that are lent
 pub record Grounded (circuit challenges : List ℕ) (g : Ground) : Type 0 where

@@ -10,7 +10,7 @@ use Rattle.backend.specs.Circuit.{circuitOf, wordK, numLookups, copied}
 use Rattle.prover_z.specs.Factors.{denominatorInWords}
 use Rattle.hyperplonk_prepare.specs.Prepared.{layoutFromWords}
 use Rattle.hyperplonk_columns.specs.Stages.{lentBeta, lentGamma}
-use Rattle.cli_search.specs.Ground.{sideWord}
+use Rattle.cli_search.specs.Ground.{sideWord, firstOf}
 use Rattle.cli_search.specs.declared.Column.{Column}
 use Rattle.cli_search.specs.declared.denominators.ZeroDenominator.{ZeroDenominator}
 
@@ -19,11 +19,11 @@ abbrev pub ZeroSide : Layout → ℕ → ℕ → List ℕ → 𝔾 .F → ℕ �
 ZeroSide l lookups copied columns γ side lookup row =
     (lookup < lookups) × (𝔾 .add γ (el (sideWord l copied columns side lookup row)) ≡ 𝔾 .zero)
 
-module _ (l : Layout) (circuit witness columns names : List ℕ) (lookups : ℕ) (β γ : 𝔾 .F) where
-  -- of copied column i "value + β×permutation label + γ", at a row but 0; the label stands in its permutation column
+module _ (l : Layout) (circuit witness columns names groups : List ℕ) (lookups : ℕ) (β γ : 𝔾 .F) where
+  -- of a group's table, by the group's first lookup; of copied column i "value + β×permutation label + γ", at a row but 0; the label stands in its permutation column
   abbrev pub ZeroOf : Column → ℕ → Type 0
   ZeroOf (Column.Input lookup) row = ZeroSide l lookups (length names) columns γ 0 lookup row
-  ZeroOf (Column.Table lookup) row = ZeroSide l lookups (length names) columns γ 1 lookup row
+  ZeroOf (Column.Table lookup) row = (firstOf groups lookup ≡ lookup) × ZeroSide l lookups (length names) columns γ 1 lookup row
   ZeroOf (Column.Copied i) row = (i < length names) × (0 < row) × (denominatorInWords l circuit witness columns names β γ row i ≡ 𝔾 .zero)
 
   abbrev pub ZeroIn : Column → ℕ → Type 0
@@ -32,7 +32,8 @@ module _ (l : Layout) (circuit witness columns names : List ℕ) (lookups : ℕ)
 -- the denominator of a column at a row is zero, by the words that are lent and the columns that stand in the buffer
 abbrev pub ZeroAt : List ℕ → List ℕ → List ℕ → List ℕ → Column → ℕ → Type 0
 ZeroAt circuit witness challenges columns =
-    ZeroIn (layoutFromWords circuit) circuit witness columns (copied (circuitOf circuit)) (numLookups (circuitOf circuit))
+    ZeroIn (layoutFromWords circuit) circuit witness columns (copied (circuitOf circuit)) (circuitOf circuit .groups)
+    (numLookups (circuitOf circuit))
     (lentBeta circuit challenges)
     (lentGamma circuit challenges)
 

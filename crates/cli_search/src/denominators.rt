@@ -1,5 +1,5 @@
 // Which denominators question 17 finds zero: how many there are, and of the first which it is, the row, and its place in the row
-// order. They are gamma + input and gamma + table of each lookup on all rows, and the factor value + beta * label + gamma of each
+// order. They are gamma + input of each lookup and gamma + table of each group on all rows, and the factor value + beta * label + gamma of each
 // copied column on every row but 0, with the label of its permutation column.
 use crate::Column;
 use crate::filled::Ground;
@@ -7,10 +7,12 @@ use crate::filled::behind;
 use crate::filled::fill;
 use crate::filled::ground_of;
 use crate::filled::side_word;
+use crate::groups::first_of;
 use crate::seen::Seen;
 use crate::seen::noted;
 use crate::seen::nothing;
 use backend::MAX_POLYS;
+use backend_sections::reader::groups_of;
 use bh::rotations::place_of;
 use expression_nodes::poly::given_at;
 use field::goldilocks::Goldilocks;
@@ -25,7 +27,7 @@ ghost use Rattle.field.specs.Element.{elem};
 ghost use Rattle.backend.specs.Circuit.{circuitOf, copied as copiedOf, maxPolys};
 ghost use Rattle.prover_z.specs.Factors.{denominatorInWords};
 ghost use Rattle.hyperplonk_prepare.specs.Prepared.{Accepted};
-ghost use Rattle.cli_search.specs.Ground.{GroundSmall};
+ghost use Rattle.cli_search.specs.Ground.{GroundSmall, firstOf};
 ghost use Rattle.cli_search.specs.Zero.{ZeroSide, ZeroIn, polyNamed, ZeroNamed};
 
 // `count` is how many there are in all; the rest is of the first, and 0 where there is none. `poly` is the polynomial's number of a
@@ -60,6 +62,17 @@ fn is_zero_side(columns: &[u64], g: Ground, side: usize, lookup: usize, row: usi
     }
     let word = side_word(columns, g, lookup, side, row);
     g.gamma.add(Goldilocks::from_u64(word)).is_zero()
+}
+
+// Is gamma + the word of a group's compressed table zero, the group being that of which the lookup is the first?
+fn is_zero_table(columns: &[u64], groups: &[u64], g: Ground, lookup: usize, row: usize) -> bool
+    requires { ⌜ GroundSmall g × (row < g .layout .rows) ⌝ }
+    ensures { λ r. ⌜ (r ≡ true → (firstOf (now (groups .entry)) lookup ≡ lookup) × ZeroSide (g .layout) (g .lookups) (g .copied) (now (columns .entry)) (elem (g .gamma)) 1 lookup row) ⌝ }
+{
+    if first_of(groups, lookup) != lookup {
+        return false;
+    }
+    is_zero_side(columns, g, 1, lookup, row)
 }
 
 // The factor of copied column i at a row.
@@ -108,19 +121,20 @@ fn is_zero<'a>(
     witness: &'a [u64],
     columns: &'a [u64],
     names: &'a [u64],
+    groups: &'a [u64],
     g: Ground,
     of: Column,
     row: usize,
 ) -> bool
     requires { ⌜ GroundSmall g × (g .copied ≡ length (now names)) ⌝ }
-    ensures { λ r. ⌜ (r ≡ true → ZeroIn (g .layout) (now (circuit .entry)) (now (witness .entry)) (now (columns .entry)) (now (names .entry)) (g .lookups) (elem (g .beta)) (elem (g .gamma)) of row) ⌝ }
+    ensures { λ r. ⌜ (r ≡ true → ZeroIn (g .layout) (now (circuit .entry)) (now (witness .entry)) (now (columns .entry)) (now (names .entry)) (now (groups .entry)) (g .lookups) (elem (g .beta)) (elem (g .gamma)) of row) ⌝ }
 {
     if row >= g.layout.rows {
         return false;
     }
     match of {
         Column::Input(lookup) => is_zero_side(columns, g, 0, lookup, row),
-        Column::Table(lookup) => is_zero_side(columns, g, 1, lookup, row),
+        Column::Table(lookup) => is_zero_table(columns, groups, g, lookup, row),
         Column::Copied(i) => is_zero_factor(circuit, witness, columns, names, g, i, row),
     }
 }
@@ -130,6 +144,7 @@ fn see<'a>(
     witness: &'a [u64],
     columns: &'a [u64],
     names: &'a [u64],
+    groups: &'a [u64],
     g: Ground,
     seen: Seen,
     of: Column,
@@ -137,18 +152,19 @@ fn see<'a>(
 ) -> Seen
     requires { ⌜ GroundSmall g × (g .copied ≡ length (now names)) ⌝ }
 {
-    if is_zero(circuit, witness, columns, names, g, of, row) {
+    if is_zero(circuit, witness, columns, names, groups, g, of, row) {
         return noted(seen, of, row);
     }
     seen
 }
 
-// Those of one lookup, by rising row, the input before the table.
+// Those of one lookup, by rising row, the input before the table, which is seen at the group's first lookup.
 fn see_lookup<'a>(
     circuit: &'a [u64],
     witness: &'a [u64],
     columns: &'a [u64],
     names: &'a [u64],
+    groups: &'a [u64],
     g: Ground,
     before: Seen,
     lookup: usize,
@@ -159,9 +175,29 @@ fn see_lookup<'a>(
     let mut row: usize = 0;
     while row < g.layout.rows {
         let input = Column::Input(lookup);
-        seen = see(circuit, witness, columns, names, g, seen, input, row);
+        seen = see(
+            circuit,
+            witness,
+            columns,
+            names,
+            groups,
+            g,
+            seen,
+            input,
+            row,
+        );
         let table = Column::Table(lookup);
-        seen = see(circuit, witness, columns, names, g, seen, table, row);
+        seen = see(
+            circuit,
+            witness,
+            columns,
+            names,
+            groups,
+            g,
+            seen,
+            table,
+            row,
+        );
         row += 1;
     }
     seen
@@ -173,6 +209,7 @@ fn see_copied<'a>(
     witness: &'a [u64],
     columns: &'a [u64],
     names: &'a [u64],
+    groups: &'a [u64],
     g: Ground,
     before: Seen,
     i: usize,
@@ -183,7 +220,7 @@ fn see_copied<'a>(
     let mut row: usize = 1;
     while row < g.layout.rows {
         let of = Column::Copied(i);
-        seen = see(circuit, witness, columns, names, g, seen, of, row);
+        seen = see(circuit, witness, columns, names, groups, g, seen, of, row);
         row += 1;
     }
     seen
@@ -195,6 +232,7 @@ fn see_all<'a>(
     witness: &'a [u64],
     columns: &'a [u64],
     names: &'a [u64],
+    groups: &'a [u64],
     g: Ground,
 ) -> Seen
     requires { ⌜ GroundSmall g × (g .copied ≡ length (now names)) ⌝ }
@@ -202,12 +240,12 @@ fn see_all<'a>(
     let mut seen = nothing();
     let mut lookup: usize = 0;
     while lookup < g.lookups {
-        seen = see_lookup(circuit, witness, columns, names, g, seen, lookup);
+        seen = see_lookup(circuit, witness, columns, names, groups, g, seen, lookup);
         lookup += 1;
     }
     let mut i: usize = 0;
     while i < g.copied {
-        seen = see_copied(circuit, witness, columns, names, g, seen, i);
+        seen = see_copied(circuit, witness, columns, names, groups, g, seen, i);
         i += 1;
     }
     seen
@@ -236,10 +274,11 @@ fn first<'a>(
     ensures { λ r. ⌜ (r .count ≢ 0 → ZeroNamed (now (circuit .entry)) (now (witness .entry)) (now (challenges .entry)) (now (columns .entry)) r) ⌝ }
 {
     let g = ground_of(circuit, challenges, names.len());
-    let seen = see_all(circuit, witness, columns, names, g);
+    let groups = groups_of(circuit);
+    let seen = see_all(circuit, witness, columns, names, groups, g);
     let of = seen.of;
     let row = seen.row;
-    if !is_zero(circuit, witness, columns, names, g, of, row) {
+    if !is_zero(circuit, witness, columns, names, groups, g, of, row) {
         return none();
     }
     let poly = poly_of(names, of);

@@ -5,6 +5,7 @@ use crate::filled::Ground;
 use crate::filled::fill;
 use crate::filled::ground_of;
 use crate::filled::side_word;
+use crate::groups::first_of;
 use crate::seen::Seen;
 use crate::seen::noted;
 use crate::seen::nothing;
@@ -12,6 +13,7 @@ use backend_sections::contents::CONSTRAINT_START;
 use backend_sections::contents::NODE_START;
 use backend_sections::contents::PAIR_START;
 use backend_sections::contents::WIDTH_START;
+use backend_sections::reader::groups_of;
 use bh::rotations::place_of;
 use expression::poly::Layout;
 use expression::value::Point;
@@ -71,10 +73,10 @@ fn is_listed(columns: &[u64], g: Ground, lookup: usize, value: u64) -> bool
     false
 }
 
-// Does the compressed input of a lookup at a row equal no word of its compressed table? No where there is no such lookup or row.
-fn is_missing(columns: &[u64], g: Ground, lookup: usize, row: usize) -> bool
+// Does the compressed input of a lookup at a row equal no word of its group's compressed table? No where there is no such lookup or row.
+fn is_missing(columns: &[u64], groups: &[u64], g: Ground, lookup: usize, row: usize) -> bool
     requires { ⌜ GroundSmall g ⌝ }
-    ensures { λ r. ⌜ (r ≡ true → MissingIn (g .layout) (g .lookups) (g .copied) (now (columns .entry)) lookup row) ⌝ }
+    ensures { λ r. ⌜ (r ≡ true → MissingIn (g .layout) (g .lookups) (g .copied) (now (groups .entry)) (now (columns .entry)) lookup row) ⌝ }
 {
     if lookup >= g.lookups {
         return false;
@@ -82,40 +84,44 @@ fn is_missing(columns: &[u64], g: Ground, lookup: usize, row: usize) -> bool
     if row >= g.layout.rows {
         return false;
     }
+    let first = first_of(groups, lookup);
+    if first >= g.lookups {
+        return false;
+    }
     let x = side_word(columns, g, lookup, 0, row);
-    !is_listed(columns, g, lookup, x)
+    !is_listed(columns, g, first, x)
 }
 
-fn see(columns: &[u64], g: Ground, seen: Seen, lookup: usize, row: usize) -> Seen
+fn see(columns: &[u64], groups: &[u64], g: Ground, seen: Seen, lookup: usize, row: usize) -> Seen
     requires { ⌜ GroundSmall g ⌝ }
 {
-    if is_missing(columns, g, lookup, row) {
+    if is_missing(columns, groups, g, lookup, row) {
         return noted(seen, Column::Input(lookup), row);
     }
     seen
 }
 
 // The readings of one lookup, by rising row.
-fn see_lookup(columns: &[u64], g: Ground, before: Seen, lookup: usize) -> Seen
+fn see_lookup(columns: &[u64], groups: &[u64], g: Ground, before: Seen, lookup: usize) -> Seen
     requires { ⌜ GroundSmall g ⌝ }
 {
     let mut seen = before;
     let mut row: usize = 0;
     while row < g.layout.rows {
-        seen = see(columns, g, seen, lookup, row);
+        seen = see(columns, groups, g, seen, lookup, row);
         row += 1;
     }
     seen
 }
 
 // Those of all lookups.
-fn see_all(columns: &[u64], g: Ground) -> Seen
+fn see_all(columns: &[u64], groups: &[u64], g: Ground) -> Seen
     requires { ⌜ GroundSmall g ⌝ }
 {
     let mut seen = nothing();
     let mut lookup: usize = 0;
     while lookup < g.lookups {
-        seen = see_lookup(columns, g, seen, lookup);
+        seen = see_lookup(columns, groups, g, seen, lookup);
         lookup += 1;
     }
     seen
@@ -249,13 +255,14 @@ fn first<'a>(
     ensures { λ r. ⌜ (r .count ≢ 0 → Missing (now (circuit .entry)) (now (columns .entry)) (r .lookup) (r .row)) ⌝ }
 {
     let g = ground_of(circuit, challenges, copied);
-    let seen = see_all(columns, g);
+    let groups = groups_of(circuit);
+    let seen = see_all(columns, groups, g);
     let of = seen.of;
     let row = seen.row;
     let Column::Input(lookup) = of else {
         return none();
     };
-    if !is_missing(columns, g, lookup, row) {
+    if !is_missing(columns, groups, g, lookup, row) {
         return none();
     }
     let place = place_of(row, g.k);
@@ -278,7 +285,7 @@ fn first<'a>(
 }
 
 // Of words for which build answered 15. The columns before m are written to the column buffer. A reading that is named stands in no
-// row of its table.
+// row of its group's table.
 pub fn find<'a>(
     circuit: &'a [u64],
     instance: &[u64],

@@ -7,11 +7,11 @@ use cli_report::shape::shape_of;
 use cli_report::verdict::verdict;
 use lists::word_at;
 
-// Polynomials: 0 the approved table, 1 the readings, 2 the sheet's settings, 3 the knee's. The lookup is polynomial 1 in 0; the
-// cycles are (2, row 1), (3, row 3) and (2, row 2), (3, row 5).
+// Polynomials: 0 the approved table, 1 the readings, 2 the sheet's settings, 3 the knee's. The lookup is polynomial 1 in 0, a
+// group of its own; the cycles are (2, row 1), (3, row 3) and (2, row 2), (3, row 5).
 fn fill_circuit(words: &mut [u64]) {
     decimal::read(
-        b"3 0 20 0 20 1 28 1 30 2 38 0 38 1 39 1 41 2 43 4 57 58 59 60 60 61 62 63 3 0 5 1 0 2147483648 5 0 0 2147483648 1 0 1 2 2 2 1 3 3 2 2 3 5",
+        b"3 0 22 0 22 1 30 1 32 2 40 0 40 1 41 1 43 2 45 4 53 1 57 58 59 60 60 61 62 63 3 0 5 1 0 2147483648 5 0 0 2147483648 1 0 1 2 2 2 1 3 3 2 2 3 5 0",
         words,
     );
 }
@@ -38,7 +38,7 @@ const Z: usize = 48;
 // A row: its number, the table, the reading, the settings, m, h and z.
 fn show_row<'a>(circuit: &'a [u64], witness: &'a [u64], columns: &'a [u64], row: usize) {
     say::padded(row as u64, 3);
-    say::padded(word_at(circuit, after(20, row)), 10);
+    say::padded(word_at(circuit, after(22, row)), 10);
     say::padded(word_at(witness, row), 9);
     say::padded(word_at(witness, after(8, row)), 7);
     say::padded(word_at(witness, after(16, row)), 6);
@@ -157,7 +157,7 @@ fn run_changed<'a>(circuit: &'a [u64], at: usize, value: u64) {
 }
 
 pub fn run() {
-    let mut circuit = [0u64; 51];
+    let mut circuit = [0u64; 54];
     fill_circuit(&mut circuit);
     say::out(b"A log of 8 rows: k is 3.\n");
     run_changed(&circuit, 24, 0);

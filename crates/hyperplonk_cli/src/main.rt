@@ -1,6 +1,6 @@
 // The command-line program, for the bench: it builds the columns and nodes of a log over files, runs the row sum on what was
-// built, gives its verdict, and says in words what a circuit has, or why it is refused. With no argument it runs on a small log
-// of its own. A message goes to standard error; run, beside src/, makes an exit status of it.
+// built, gives its verdict, says in words what a circuit has, or why it is refused, and rewrites a circuit from before groups. With no
+// argument it runs on a small log of its own. A message goes to standard error; run, beside src/, makes an exit status of it.
 mod commands;
 mod example;
 mod found;
@@ -11,12 +11,13 @@ use check::same;
 use rooms::BUILD;
 use rooms::CHECK;
 use rooms::EXPLAIN;
+use rooms::REGROUP;
 use rooms::over_files;
 
 // What is no command over files.
-const HELP: u64 = 4;
+const HELP: u64 = 5;
 
-const VERSION: u64 = 5;
+const VERSION: u64 = 6;
 
 const UNKNOWN: u64 = 0;
 
@@ -35,6 +36,9 @@ fn command_of(name: &[u8]) -> u64 {
     if same(name, b"check") {
         return CHECK;
     }
+    if same(name, b"regroup") {
+        return REGROUP;
+    }
     if same(name, b"--version") {
         return VERSION;
     }
@@ -50,6 +54,7 @@ fn wanted(command: u64) -> usize {
         EXPLAIN => 1,
         BUILD => 5,
         CHECK => 5,
+        REGROUP => 1,
         _ => 0,
     }
 }

@@ -1,11 +1,11 @@
-// The rooms for the words of the files, by need, since they stand on the stack: for circuits of up to 96 columns of 1,024 words,
-// and for all. The sizes are those of document 01's limits: 8 instance columns of 1023 values and 32 witness columns of 1024; 184
-// columns of 1024 words and 4,190 nodes; a file of what was built has both.
+// The rooms for the words of the files, by need, since they stand on the stack: for circuits of up to 96 columns of 1,024 words
+// and 4,190 nodes, and for all. The sizes are those of document 01's limits: 8 instance columns of 1023 values and 32 witness columns
+// of 1024; 184 columns of 1024 words and 11,295 nodes; a file of what was built has both.
 use crate::commands;
 use cli_messages::refusal::refusal;
 use cli_messages::say;
 use cli_report::explain;
-use cli_report::shape::HALF;
+use cli_report::regroup::regroup;
 use cli_report::shape::Shape;
 use cli_report::shape::shape_of;
 use cli_texts::files::read;
@@ -16,6 +16,8 @@ pub const EXPLAIN: u64 = 1;
 pub const BUILD: u64 = 2;
 
 pub const CHECK: u64 = 3;
+
+pub const REGROUP: u64 = 4;
 
 fn circuit_room() -> [u64; 60000] {
     [0; 60000]
@@ -37,23 +39,27 @@ fn column_room() -> [u64; 188416] {
     [0; 188416]
 }
 
-fn node_room() -> [u64; 16760] {
+fn half_node_room() -> [u64; 16760] {
     [0; 16760]
+}
+
+fn node_room() -> [u64; 45180] {
+    [0; 45180]
 }
 
 fn half_built_room() -> [u64; 115064] {
     [0; 115064]
 }
 
-fn built_room() -> [u64; 205176] {
-    [0; 205176]
+fn built_room() -> [u64; 233596] {
+    [0; 233596]
 }
 
 fn build_half(circuit: &[u64], s: Shape) {
     let mut instance = instance_room();
     let mut witness = witness_room();
     let mut columns = half_room();
-    let mut nodes = node_room();
+    let mut nodes = half_node_room();
     commands::build(
         circuit,
         s,
@@ -100,7 +106,7 @@ fn in_rooms(command: u64, circuit: &[u64], s: Shape, sizes: u64) -> bool {
     if in_rooms(command, circuit, s, sizes - 1) {
         return true;
     }
-    if (sizes == 1) & (s.column_words > HALF) {
+    if (sizes == 1) & !s.half {
         return false;
     }
     if command == BUILD {
@@ -120,17 +126,21 @@ fn in_rooms(command: u64, circuit: &[u64], s: Shape, sizes: u64) -> bool {
 }
 
 // How many sizes there are to try.
-fn sizes(words: usize) -> u64 {
-    if words <= HALF {
+fn sizes(half: bool) -> u64 {
+    if half {
         return 1;
     }
     2
 }
 
-// Asks the questions.
+// Rewrites the circuit, or asks the questions.
 fn asked(command: u64, circuit: &[u64]) {
     if command == EXPLAIN {
         explain::explain(circuit);
+        return;
+    }
+    if command == REGROUP {
+        regroup(circuit);
         return;
     }
     say::out(b"asking\n");
@@ -140,13 +150,13 @@ fn asked(command: u64, circuit: &[u64]) {
         return;
     }
     say::out(b"reading the log\n");
-    in_rooms(command, circuit, s, sizes(s.column_words));
+    in_rooms(command, circuit, s, sizes(s.half));
 }
 
 // Reads the circuit, which argument 2 names.
 pub fn over_files(command: u64) {
     let mut circuit = circuit_room();
-    if command != EXPLAIN {
+    if (command == BUILD) | (command == CHECK) {
         say::out(b"reading the circuit\n");
     }
     let got = read(2, &mut circuit);

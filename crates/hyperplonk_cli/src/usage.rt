@@ -5,11 +5,11 @@ use cli_messages::say;
 fn text(fd: i32) {
     io::write_all(
         fd,
-        b"usage: hyperplonk_cli\n       hyperplonk_cli explain CIRCUIT\n       hyperplonk_cli build CIRCUIT INSTANCE WITNESS CHALLENGES OUT\n       hyperplonk_cli check CIRCUIT WITNESS CHALLENGES Y OUT\n       hyperplonk_cli --help\n       hyperplonk_cli --version\n",
+        b"usage: hyperplonk_cli\n       hyperplonk_cli explain CIRCUIT\n       hyperplonk_cli build CIRCUIT INSTANCE WITNESS CHALLENGES OUT\n       hyperplonk_cli check CIRCUIT WITNESS CHALLENGES Y OUT\n       hyperplonk_cli regroup CIRCUIT\n       hyperplonk_cli --help\n       hyperplonk_cli --version\n",
     );
     io::write_all(
         fd,
-        b"Files have decimal words with white space between, and # comments to the end of the line.\nCHALLENGES has the user's challenges, then beta and gamma, and for check alpha last; Y has k values.\nbuild writes OUT, anew or over a file that build wrote; check reads it and gives the verdict on the log.\nA circuit of more than 98304 column words needs 3 MiB of stack, every other 2 MiB; explain tells.\nWith no argument the program runs an example.\n",
+        b"Files have decimal words with white space between, and # comments to the end of the line.\nCHALLENGES has the user's challenges, then beta and gamma, and for check alpha last; Y has k values.\nbuild writes OUT, anew or over a file that build wrote; check reads it and gives the verdict on the log.\nregroup writes a circuit of the layout from before groups (contents of 20 words) on standard output in the layout with groups.\nA circuit of more than 98304 column words or 4190 nodes needs 3 MiB of stack, every other 2 MiB; explain tells.\nWith no argument the program runs an example.\n",
     );
 }
 

@@ -20,8 +20,8 @@ is-zero-side-requires c κs = search needs
 enum-known-of-2 : tie.Need-enum-known-of-2
 enum-known-of-2 c = search needs
 
-is-zero-side-requires-2 : tie.Need-is-zero-side-requires-2
-is-zero-side-requires-2 c κs = search needs
+is-zero-table-requires : tie.Need-is-zero-table-requires
+is-zero-table-requires c κs = search needs
 
 enum-known-of-3 : tie.Need-enum-known-of-3
 enum-known-of-3 c = search needs
@@ -35,7 +35,7 @@ returns-2 c =
     let a = s .args in
     λ e. (
       omega arith,
-      of-input (a .g .layout) (a .circuit .now) (a .witness .now) (a .columns .now) (a .names .now) (a .g .lookups) (elem (a .g .beta)) (elem (a .g .gamma)) (a .of) _ (a .row) _ (s .pre .1) (c .before .before .of .given .1) (c .is-zero-side .ensures e),
+      of-input (a .g .layout) (a .circuit .now) (a .witness .now) (a .columns .now) (a .names .now) (a .groups .now) (a .g .lookups) (elem (a .g .beta)) (elem (a .g .gamma)) (a .of) _ (a .row) _ (s .pre .1) (c .before .before .of .given .1) (c .is-zero-side .ensures e),
     )
 
 returns-3 : tie.Need-returns-3
@@ -44,7 +44,7 @@ returns-3 c =
     let a = s .args in
     λ e. (
       omega arith,
-      of-table (a .g .layout) (a .circuit .now) (a .witness .now) (a .columns .now) (a .names .now) (a .g .lookups) (elem (a .g .beta)) (elem (a .g .gamma)) (a .of) _ (a .row) _ (s .pre .1) (c .before .before .of2 .given .1) (c .is-zero-side2 .ensures e),
+      of-table (a .g .layout) (a .circuit .now) (a .witness .now) (a .columns .now) (a .names .now) (a .groups .now) (a .g .lookups) (elem (a .g .beta)) (elem (a .g .gamma)) (a .of) _ (a .row) _ (s .pre .1) (c .before .before .of2 .given .1) (c .is-zero-table .ensures e),
     )
 
 returns-4 : tie.Need-returns-4
@@ -53,7 +53,7 @@ returns-4 c =
     let a = s .args in
     λ e. (
       omega arith,
-      of-copied (a .g .layout) (a .circuit .now) (a .witness .now) (a .columns .now) (a .names .now) (a .g .lookups) (elem (a .g .beta)) (elem (a .g .gamma)) (a .of) _ (a .row) (c .before .before .of3 .given .1) (c .is-zero-factor .ensures e),
+      of-copied (a .g .layout) (a .circuit .now) (a .witness .now) (a .columns .now) (a .names .now) (a .groups .now) (a .g .lookups) (elem (a .g .beta)) (elem (a .g .gamma)) (a .of) _ (a .row) (c .before .before .of3 .given .1) (c .is-zero-factor .ensures e),
     )
 
 pub is-zero-spec : {M : Type 1} → statement M
@@ -64,7 +64,7 @@ is-zero-spec =
     enum-known-of
     is-zero-side-requires
     enum-known-of-2
-    is-zero-side-requires-2
+    is-zero-table-requires
     enum-known-of-3
     is-zero-factor-requires
     returns-2

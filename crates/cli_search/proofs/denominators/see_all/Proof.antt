@@ -5,16 +5,16 @@ use Rattle.cli_search.proofs.denominators.see_all.Statement.{statement}
 use Rattle.cli_search.proofs.denominators.see_all.Tie as tie
 
 abbrev Inv-loop : tie.InvT-loop
-Inv-loop circuit witness columns names g seen₀ lookup₀ seen lookup = Unit {0}
+Inv-loop circuit witness columns names groups g seen₀ lookup₀ seen lookup = Unit {0}
 
 abbrev μ-loop : tie.MeasureT-loop
-μ-loop circuit witness columns names g seen₀ lookup₀ seen lookup = g .lookups - lookup
+μ-loop circuit witness columns names groups g seen₀ lookup₀ seen lookup = g .lookups - lookup
 
 abbrev Inv-loop2 : tie.InvT-loop2
-Inv-loop2 circuit witness columns names g seen₀ lookup i₀ seen i = Unit {0}
+Inv-loop2 circuit witness columns names groups g seen₀ lookup i₀ seen i = Unit {0}
 
 abbrev μ-loop2 : tie.MeasureT-loop2
-μ-loop2 circuit witness columns names g seen₀ lookup i₀ seen i = g .copied - i
+μ-loop2 circuit witness columns names groups g seen₀ lookup i₀ seen i = g .copied - i
 
 nothing-requires : tie.Need-nothing-requires Inv-loop μ-loop Inv-loop2 μ-loop2
 nothing-requires c κs = search needs

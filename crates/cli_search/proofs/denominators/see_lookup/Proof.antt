@@ -5,10 +5,10 @@ use Rattle.cli_search.proofs.denominators.see_lookup.Statement.{stateme
 use Rattle.cli_search.proofs.denominators.see_lookup.Tie as tie
 
 abbrev Inv-loop : tie.InvT-loop
-Inv-loop circuit witness columns names g lookup seen₀ row₀ seen row = Unit {0}
+Inv-loop circuit witness columns names groups g lookup seen₀ row₀ seen row = Unit {0}
 
 abbrev μ-loop : tie.MeasureT-loop
-μ-loop circuit witness columns names g lookup seen₀ row₀ seen row = g .layout .rows - row
+μ-loop circuit witness columns names groups g lookup seen₀ row₀ seen row = g .layout .rows - row
 
 loop-holds : tie.Need-loop-holds Inv-loop μ-loop
 loop-holds c = search needs

@@ -5,10 +5,10 @@ use Rattle.cli_search.proofs.unlisted.see_all.Statement.{statement}
 use Rattle.cli_search.proofs.unlisted.see_all.Tie as tie
 
 abbrev Inv-loop : tie.InvT-loop
-Inv-loop columns g seen₀ lookup₀ seen lookup = Unit {0}
+Inv-loop columns groups g seen₀ lookup₀ seen lookup = Unit {0}
 
 abbrev μ-loop : tie.MeasureT-loop
-μ-loop columns g seen₀ lookup₀ seen lookup = g .lookups - lookup
+μ-loop columns groups g seen₀ lookup₀ seen lookup = g .lookups - lookup
 
 nothing-requires : tie.Need-nothing-requires Inv-loop μ-loop
 nothing-requires c κs = search needs

@@ -5,10 +5,10 @@ use Rattle.cli_search.proofs.unlisted.see_lookup.Statement.{statement}
 use Rattle.cli_search.proofs.unlisted.see_lookup.Tie as tie
 
 abbrev Inv-loop : tie.InvT-loop
-Inv-loop columns g lookup seen₀ row₀ seen row = Unit {0}
+Inv-loop columns groups g lookup seen₀ row₀ seen row = Unit {0}
 
 abbrev μ-loop : tie.MeasureT-loop
-μ-loop columns g lookup seen₀ row₀ seen row = g .layout .rows - row
+μ-loop columns groups g lookup seen₀ row₀ seen row = g .layout .rows - row
 
 loop-holds : tie.Need-loop-holds Inv-loop μ-loop
 loop-holds c = search needs
