@@ -7,13 +7,13 @@ use native.Mathlib.Omega.{arith}
 use native.Mathlib.Decide.{decLt}
 use native.Mathlib.Nat.{mul-one, mul-le-mul}
 use lib.ListN.{length, getD}
-use lib.Dec.{leb, ltb}
+use lib.Dec.{leb}
 use lib.Pow.{pow-pos, pow-mono}
-use borrow.Author.Tests.{leb-true, ltb-true}
-use Rattle.lists.specs.Lists.{range, allOf, maximum, total, concat, split, ceilDiv, firstNo, All}
-use Rattle.lists.proofs.Tests.{and-left, and-right, all-each, all-true}
+use borrow.Author.Tests.{leb-true}
+use Rattle.lists.specs.Lists.{range, allOf, maximum, total, concat, split, ceilDiv, All}
+use Rattle.lists.proofs.Tests.{and-left, and-right, all-each}
 use Rattle.lists.proofs.First.{first-yes, first-both}
-use Rattle.lists.proofs.All.{all-from, all-weaken}
+use Rattle.lists.proofs.All.{all-from}
 use Rattle.lists.proofs.Columns.{below-length}
 use Rattle.lists.proofs.Lists.{split-length}
 use Rattle.lists.proofs.Totals.{ceil-le, ceil-pos}
@@ -34,6 +34,7 @@ use Rattle.preprocessor.specs.Compose.{numZ, paramsOf}
 use Rattle.preprocessor.specs.Permutation.{Walkable}
 use Rattle.preprocessor.specs.ComposeWords.{IsNode, Limits, Words, ComposeInput, GroupsValid, DecodedFrom}
 use Rattle.preprocessor.proofs.Copied.{walkable, cells-of}
+use Rattle.preprocessor.proofs.Bound.{wide-of}
 use Rattle.preprocessor.proofs.Composed.{circuit-decoded}
 use Rattle.prover.specs.Lent.{Given}
 use Rattle.hyperplonk_prepare.specs.Prepared.{Accepted, layoutFromWords}
@@ -132,10 +133,7 @@ module _ (ws : List ℕ) (a : Accepted ws) where
   few-lookups = let e = widths-are in let w = widths-length in let h = laid-of .few-widths in omega arith
 
   pub lookups-wide : All (λ l. 0 < length l) (circuitOf ws .lookups)
-  unfolding q9
-  lookups-wide =
-      all-weaken (λ l. ltb 0 (length l) ≡ true) (λ l. 0 < length l) (λ l e. ltb-true 0 (length l) e) (circuitOf ws .lookups)
-      (all-true (λ l. ltb 0 (length l)) (circuitOf ws .lookups) (and-left (allOf (λ l. ltb 0 (length l)) (circuitOf ws .lookups)) _ (nine ws a)))
+  lookups-wide = wide-of (circuitOf ws) (nine ws a)
 
   pub pairs-length : length (bodyOf ws Section.pairs) ≡ entries ws Section.pairs * 2
   pairs-length = body-length ws laid-of Section.pairs
