@@ -29,11 +29,11 @@ is-listed-requires c κs = search needs
 
 returns-4 : tie.Need-returns-4
 returns-4 c =
-    let s = c .before .before .before .before .before .before in
+    let s = c .before .before .before .before .before .before .before .before .before .before .before in
     λ e. (
       omega arith,
       omega arith,
-      λ i h q. c .is-listed .ensures (not-true (c .is-listed .result) e) i h (ap (λ (n : ℕ). sideWord (s .args .g .layout) (s .args .g .copied) (s .args .columns .now) 1 n i) (c .before .before .before .first-of .ensures) ∙ q ∙ sym (c .before .side-word .ensures)),
+      λ i h q. c .is-listed .ensures (not-true (c .is-listed .result) e) i h (ap (λ (n : ℕ). sideWord (s .args .g .layout) (s .args .g .copied) (s .args .columns .now) 1 n i) (c .before .before .before .before .first-of .ensures) ∙ q ∙ sym (c .before .side-word .ensures)),
     )
 
 pub is-missing-spec : {M : Type 1} → statement M
