@@ -18,6 +18,9 @@ circuit-params-requires c κs =
     let pre = c .before .pre in
     (pre .0, count-is (a .of) (a .count) _ (omega (arith, pre .1 .0)) (pre .1 .1))
 
+group-sizes-of-requires : tie.Need-group-sizes-of-requires
+group-sizes-of-requires c κs = search needs
+
 word-at-requires : tie.Need-word-at-requires
 word-at-requires c κs = search needs
 
@@ -27,4 +30,4 @@ returns c = search needs
 pub accepted-spec : {M : Type 1} → statement M
 accepted-spec =
     tie.close
-    (tie.spec circuit-params-requires word-at-requires returns)
+    (tie.spec circuit-params-requires group-sizes-of-requires word-at-requires returns)
