@@ -44,7 +44,7 @@ pub record GroundSmall (g : Ground) : Type 0 where
   pub lookups : g .lookups ≤ 8
   pub copied : g .copied ≤ maxPolys
 
--- questions 1 to 11 are yes, and the copied columns are named
+-- questions 1 to 11 and 18 are yes, and the copied columns are named
 pub record FilledFor (circuit : List ℕ) (f : Filled) : Type 0 where
   pub accepted : Accepted circuit
   pub few : f .count ≤ maxPolys

@@ -1,6 +1,6 @@
 // Which denominators question 17 finds zero: how many there are, and of the first which it is, the row, and its place in the row
-// order. They are gamma + input of each lookup and gamma + table of each group on all rows, and the factor value + beta * label + gamma of each
-// copied column on every row but 0, with the label of its permutation column.
+// order. They are gamma + input of each lookup and gamma + table of each group on all rows, and the factor value + beta * label + gamma
+// of each copied column on every row but 0, with the label of its permutation column.
 use crate::Column;
 use crate::filled::Ground;
 use crate::filled::behind;

@@ -1,4 +1,4 @@
--- `shape_of` ends, and asks `copied_of` and `accepted` only of circuit words for which questions 1 to 11 are yes.
+-- `shape_of` ends, and asks `copied_of` and `accepted` only of circuit words for which questions 1 to 11 and 18 are yes.
 use mathlib.Core.Path.{_≡_, sym, ap, _∙_}
 use mathlib.Core.List.{List}
 use Prim.Native.Nat.{ℕ}
