@@ -1,4 +1,4 @@
-// Which readings question 15 finds in no row of their table: how many there are, and of the first the lookup, the row, its place in
+// Which readings question 15 finds in no row of their group's table: how many there are, and of the first the lookup, the row, its place in
 // the row order, and the values of the lookup's input expressions.
 use crate::Column;
 use crate::filled::Ground;
