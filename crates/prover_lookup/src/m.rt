@@ -54,18 +54,18 @@ fn count_inputs(columns: &mut [u64], input: usize, table: usize, m: usize, rows:
     requires { ⌜ (input + rows ≤ m) × (table + rows ≤ m) × (m + rows ≤ length (now columns)) × Small rows (λ b. getD (now columns) (input + b) 0) × Small rows (λ b. getD (now columns) (table + b) 0) × Room rows (λ b. getD (now columns) (m + b) 0) ⌝ }
     ensures { λ r. ⌜ (r ≡ covered 𝔾 rows (elementsFrom (now (columns .entry)) input) (elementsFrom (now (columns .entry)) table)) × (now (columns .exit) ≡ writeAt (now (columns .entry)) m (addedWords (now (columns .entry)) m rows (elementsFrom (now (columns .entry)) input) (elementsFrom (now (columns .entry)) table))) ⌝ }
 {
+    let end = table + rows;
     let mut i: usize = 0;
     while i < rows {
         let v = columns[input + i];
-        let mut seen = 0;
+        let mut at = end;
         let found = 'search: loop {
-            if seen == rows {
+            if at == table {
                 break 'search Found::Nothing;
             }
-            seen += 1;
-            let row = rows - seen;
-            if columns[table + row] == v {
-                break 'search Found::At(row);
+            at -= 1;
+            if columns[at] == v {
+                break 'search Found::At(at - table);
             }
         };
         match found {

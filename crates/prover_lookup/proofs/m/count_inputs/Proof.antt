@@ -2,11 +2,12 @@
 -- input and the table stand before the counts and so stay as they are.
 use borrow.Author.Needs.{needs}
 use mathlib.Core.Logic.{⊎-elim}
-use mathlib.Core.Path.{_≡_, refl, sym, _∙_}
+use mathlib.Core.Path.{_≡_, refl, sym, subst, _∙_}
 use mathlib.Core.Option.{Option, some}
 use Prim.Native.Nat.{ℕ, _+_, _-_, _≤_, _<_}
 use native.Mathlib.Omega.{arith}
 use lib.ListN.{getD}
+use Rattle.field.specs.Prime.{P}
 use Rattle.field.specs.Field.{𝔾}
 use Rattle.prover.specs.declared.Found.{Found}
 use Rattle.prover.specs.Words.{elementsFrom}
@@ -24,23 +25,24 @@ use Rattle.prover_lookup.proofs.m.Added.{
   added-true,
   added-false,
 }
-use Rattle.prover_lookup.proofs.m.Down.{none-seen, all-seen, next-hit, next-miss}
+use Rattle.prover_lookup.proofs.m.Down.{place-all, place-none, place-hit, place-miss}
 use Rattle.prover_lookup.proofs.m.count_inputs.Statement.{statement}
 use Rattle.prover_lookup.proofs.m.count_inputs.Tie as tie
 
 abbrev Inv-search : tie.InvT-search
-Inv-search columns input table m rows i v seen₀ seen =
-    (seen ≤ rows) × (foundRow (λ r. getD columns (table + r) 0) v rows ≡ foundRow (λ r. getD columns (table + r) 0) v (rows - seen))
+Inv-search columns input table m rows end i v at₀ at =
+    (table ≤ at) × (at ≤ table + rows)
+    × (foundRow (λ r. getD columns (table + r) 0) v rows ≡ foundRow (λ r. getD columns (table + r) 0) v (at - table))
 
 abbrev μ-search : tie.MeasureT-search
-μ-search columns input table m rows i v seen₀ seen = rows - seen
+μ-search columns input table m rows end i v at₀ at = at - table
 
 abbrev Inv-loop : tie.InvT-loop
-Inv-loop columns₀ input table m rows i₀ columns i =
+Inv-loop columns₀ input table m rows end i₀ columns i =
     Added rows (rowFor rows (elementsFrom columns₀ input) (elementsFrom columns₀ table)) columns₀ m columns i
 
 abbrev μ-loop : tie.MeasureT-loop
-μ-loop columns₀ input table m rows i₀ columns i = rows - i
+μ-loop columns₀ input table m rows end i₀ columns i = rows - i
 
 -- the row that the buffer has for an input
 abbrev row : (c : tie.At-loop Inv-search μ-search Inv-loop μ-loop) → Option ℕ
@@ -66,9 +68,13 @@ sought c =
 found-is : (c : tie.Joined1 Inv-search μ-search Inv-loop μ-loop) → c .if1 .found ≡ sought (c .before .before .before .before)
 found-is c =
     let l = c .before .search in
+    let o = c .before .before .before .before in
+    let a = o .before .before .args in
+    let d = o .loop .columns in
+    let v = getD d (a .input + o .loop .i) 0 in
     ⊎-elim
-    (λ w. w .2 ∙ sym (l .inv .1 ∙ all-seen _ _ _ (l .seen) (w .0 .taken)))
-    (λ w. w .4 ∙ sym (l .inv .1 ∙ next-hit _ _ _ (l .seen) (l .inv .0) (w .0 .left) (w .2 .taken)))
+    (λ w. w .2 ∙ sym (l .inv .2 ∙ place-none d (a .table) v (l .at) (l .inv .0) (w .0 .taken)))
+    (λ w. w .4 ∙ sym (l .inv .2 ∙ place-hit d (a .table) v (l .at) (l .inv .0) (w .0 .left) (w .2 .taken)))
     (c .if1 .came)
 
 at-is : (c : tie.After-found Inv-search μ-search Inv-loop μ-loop) → row (c .before .before .before .before .before .before) ≡ some (c .found .given .0 .0)
@@ -76,6 +82,9 @@ at-is c = found-at 𝔾 _ _ _ _ (sym (found-is (c .before .before)) ∙ c .found
 
 at-below : (c : tie.After-found Inv-search μ-search Inv-loop μ-loop) → c .found .given .0 .0 < c .before .before .before .before .before .before .before .before .args .rows
 at-below c = row-below _ _ _ _ (at-is c)
+
+add-end : tie.Need-add-end Inv-search μ-search Inv-loop μ-loop
+add-end c = omega (arith, c .before .pre, c .before .good)
 
 loop-holds : tie.Need-loop-holds Inv-search μ-search Inv-loop μ-loop
 loop-holds c = added-start _ _ _ _ (c .before .pre .2)
@@ -90,37 +99,37 @@ slice-read-v : tie.Need-slice-read-v Inv-search μ-search Inv-loop μ-loop
 slice-read-v c = omega (arith, c .before .before .before .before .pre, c .before .before .loop .inv .size, c .before .loop-test .taken)
 
 search-holds : tie.Need-search-holds Inv-search μ-search Inv-loop μ-loop
-search-holds c = (omega arith, none-seen _ _ _)
+search-holds c = (omega arith, omega arith, place-all (c .before .before .loop .columns) (c .before .before .before .before .args .table) (getD (c .before .before .loop .columns) (c .before .before .before .before .args .input + c .before .before .loop .i) 0) (c .before .before .before .before .args .rows))
 
-add-seen : tie.Need-add-seen Inv-search μ-search Inv-loop μ-loop
-add-seen c = search needs
-
-sub-row : tie.Need-sub-row Inv-search μ-search Inv-loop μ-loop
-sub-row c = search needs
-
-add-if2 : tie.Need-add-if2 Inv-search μ-search Inv-loop μ-loop
-add-if2 c = search needs
+sub-at : tie.Need-sub-at Inv-search μ-search Inv-loop μ-loop
+sub-at c = omega (arith, c .before .search .inv .0, c .if1 .left)
 
 mul-if2 : tie.Need-mul-if2 Inv-search μ-search Inv-loop μ-loop
-mul-if2 c = omega (arith, c .before .before .before .before .before .before .pre, c .before .before .before .before .before .before .good, c .before .before .before .before .loop .inv .size, c .before .search .inv .0, c .if1 .left)
+mul-if2 c = omega (arith, c .before .before .before .before .before .before .pre, c .before .before .before .before .before .before .good, c .before .before .before .before .loop .inv .size, c .before .search .inv .1)
 
 slice-read-if2 : tie.Need-slice-read-if2 Inv-search μ-search Inv-loop μ-loop
-slice-read-if2 c = omega (arith, c .before .before .before .before .before .before .before .pre, c .before .before .before .before .before .loop .inv .size, c .before .before .search .inv .0, c .before .if1 .left)
+slice-read-if2 c = omega (arith, c .before .before .before .before .before .before .before .pre, c .before .before .before .before .before .loop .inv .size, c .before .before .search .inv .0, c .before .before .search .inv .1, c .before .if1 .left)
+
+sub-t22 : tie.Need-sub-t22 Inv-search μ-search Inv-loop μ-loop
+sub-t22 c = omega (arith, c .before .before .before .search .inv .0, c .before .before .if1 .left)
 
 search-less : tie.Need-search-less Inv-search μ-search Inv-loop μ-loop
-search-less c = search needs
+search-less c = omega (arith, c .before .before .before .search .inv .0, c .before .before .if1 .left)
 
 search-again : tie.Need-search-again Inv-search μ-search Inv-loop μ-loop
 search-again c =
     let s = c .before .before .before .before .before .before .before .before in
     let l = c .before .before .before .before .before .before .loop in
     let t = c .before .before .before .search in
-    let at = s .args .rows - (t .seen + 1) in
-    let lt : at < s .args .rows = omega (arith, c .before .before .if1 .left, t .inv .0) in (
-      omega arith,
-      t .inv .1
-          ∙ next-miss _ _ _ (t .seen) (t .inv .0) (c .before .before .if1 .left)
-          (rw (added-before _ _ _ _ (s .pre .2) _ _ (l .inv) (s .args .table + at) (omega (arith, s .pre .1, lt))) (s .pre .4 at lt))
+    let k = t .at - 1 - s .args .table in
+    let lt : k < s .args .rows = omega (arith, c .before .before .if1 .left, t .inv .0, t .inv .1) in
+    let e : s .args .table + k ≡ t .at - 1 = omega (arith, c .before .before .if1 .left, t .inv .0) in (
+      omega (arith, c .before .before .if1 .left, t .inv .0),
+      omega (arith, t .inv .1),
+      t .inv .2
+          ∙ place-miss (l .columns) (s .args .table) (getD (l .columns) (s .args .input + l .i) 0) (t .at) (t .inv .0) (c .before .before .if1 .left)
+          (rw (added-before _ _ _ _ (s .pre .2) _ _ (l .inv) (t .at - 1) (omega (arith, s .pre .1, lt, e)))
+          (subst (λ (i : ℕ). getD (s .args .columns .now) i 0 < P) e (s .pre .4 k lt)))
           (rw (added-before _ _ _ _ (s .pre .2) _ _ (l .inv) (s .args .input + l .i) (omega (arith, s .pre .0, c .before .before .before .before .before .loop-test .taken)))
           (s .pre .3 (l .i) (c .before .before .before .before .before .loop-test .taken)))
           (c .if2 .left),
@@ -195,16 +204,16 @@ count-inputs-spec =
     μ-search
     Inv-loop
     μ-loop
+    add-end
     loop-holds
     add-v
     mul-v
     slice-read-v
     search-holds
-    add-seen
-    sub-row
-    add-if2
+    sub-at
     mul-if2
     slice-read-if2
+    sub-t22
     search-less
     search-again
     enum-known-found
