@@ -114,7 +114,7 @@ fn groups_degree(nodes: &[u64], sizes: &[u64], widths: &[u64], pairs: &[u64]) ->
 }
 
 // What question 10 and D are read from: word 1 of the circuit words, and the largest degree of the user and of the lookup constraints.
-#[derive(Drop)]
+#[derive(Clone, Copy)]
 pub struct Degrees {
     pub stated: u64,
     pub user: u64,

@@ -5,7 +5,7 @@ ghost use Rattle.backend.specs.Circuit.{cells_of, copied_in, max_polys};
 use backend::MAX_POLYS;
 
 // The first `count` of `of`; zeros follow them. Eight instance, 32 preprocess and 32 witness columns at most.
-#[derive(Drop)]
+#[derive(Clone, Copy)]
 pub struct Copied {
     pub count: usize,
     pub of: [u64; MAX_POLYS],

@@ -4,7 +4,7 @@ ghost use Rattle.backend.specs.Circuit.{num_groups_in, group_sizes};
 ghost use Rattle.backend.specs.Questions.{group_numbers_good};
 
 // The first `count` of `of`; zeros follow them. Eight lookups at most.
-#[derive(Drop)]
+#[derive(Clone, Copy)]
 pub struct GroupSizes {
     pub count: usize,
     pub of: [u64; 8],

@@ -21,7 +21,7 @@ fn section_words<'a>(circuit: &'a [u64], s: usize) -> &'a [u64]
     &circuit[start..end]
 }
 
-#[derive(Drop)]
+#[derive(Clone, Copy)]
 pub struct Circuit<'a> {
     pub words: &'a [u64],
 }

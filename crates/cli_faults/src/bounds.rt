@@ -18,7 +18,7 @@ pub fn after(at: usize, words: usize) -> usize {
 }
 
 // Starts and counts, and the sums that questions 7 to 11 and 18 go by.
-#[derive(Drop)]
+#[derive(Clone, Copy)]
 pub struct Bounds {
     pub k: u64,
     pub rows: u64,

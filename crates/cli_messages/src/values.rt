@@ -142,7 +142,7 @@ fn all_small(witness: &[u64], columns: &[u64], challenges: &[u64], y: &[u64]) ->
 }
 
 // The lengths that a circuit asks for: column words, nodes, user challenges.
-#[derive(Drop)]
+#[derive(Clone, Copy)]
 pub struct Needed {
     pub columns: usize,
     pub nodes: u64,

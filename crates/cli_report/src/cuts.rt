@@ -2,7 +2,7 @@
 use crate::shape::Shape;
 
 // n, D - 1 and N.
-#[derive(Drop)]
+#[derive(Clone, Copy)]
 pub struct Cuts {
     pub copied: usize,
     pub part: usize,

@@ -16,7 +16,7 @@ const HALF_NODES: usize = 4190;
 // The number of the first no, 0 for none; the rest is 0 for refused circuit words. `of` has the copied columns' polynomials, and
 // `sizes` how many lookups each group has; `part` is D - 1, `parts` is N,
 // and `half` says that the smaller rooms do.
-#[derive(Drop)]
+#[derive(Clone, Copy)]
 pub struct Shape {
     pub no: u64,
     pub instances: usize,

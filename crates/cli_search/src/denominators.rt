@@ -23,7 +23,7 @@ use lists::word_at;
 
 // `count` is how many there are in all; the rest is of the first, and 0 where there is none. `poly` is the polynomial's number of a
 // copied column.
-#[derive(Drop)]
+#[derive(Clone, Copy)]
 pub struct ZeroDenominator {
     pub count: u64,
     pub of: Column,

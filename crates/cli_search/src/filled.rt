@@ -22,7 +22,7 @@ use hyperplonk_prepare::{circuit_params, copied_of};
 use lists::word_at;
 
 // Were the columns filled? Then the copied columns are the first `count` of `of`.
-#[derive(Drop)]
+#[derive(Clone, Copy)]
 pub struct Filled {
     pub good: bool,
     pub count: usize,
@@ -97,7 +97,7 @@ pub fn fill<'a>(
 }
 
 // The numbers of a circuit, and the last two challenges.
-#[derive(Drop)]
+#[derive(Clone, Copy)]
 pub struct Ground {
     pub k: usize,
     pub layout: Layout,

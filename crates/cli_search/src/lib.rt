@@ -9,7 +9,7 @@ pub mod unlisted;
 
 // A column by what it has: the compressed inputs of a lookup, the compressed table of a group, by its first lookup, or a copied column,
 // counted among these.
-#[derive(Drop)]
+#[derive(Clone, Copy)]
 pub enum Column {
     Input(usize),
     Table(usize),

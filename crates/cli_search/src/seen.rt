@@ -1,7 +1,7 @@
 // How many were seen, and the first.
 use crate::Column;
 
-#[derive(Drop)]
+#[derive(Clone, Copy)]
 pub struct Seen {
     pub count: u64,
     pub of: Column,

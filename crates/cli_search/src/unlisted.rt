@@ -21,7 +21,7 @@ use expression_evaluate::value;
 use lists::word_at;
 
 // `count` is how many there are in all; the rest is of the first, and 0 where there is none. The first `width` values are its.
-#[derive(Drop)]
+#[derive(Clone, Copy)]
 pub struct Unlisted {
     pub count: u64,
     pub lookup: usize,

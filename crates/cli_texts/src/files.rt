@@ -9,7 +9,7 @@ use decimal::{NO_NUMBER, NOTHING, Scan, TOO_LARGE, TOO_MANY, start, stop, take_b
 const UNREADABLE: u64 = 4;
 
 // How many words were read, and whether the file is one of words.
-#[derive(Drop)]
+#[derive(Clone, Copy)]
 pub struct Got {
     pub count: usize,
     pub good: bool,
@@ -193,7 +193,7 @@ pub fn line_of(argument: usize, place: usize) -> u64 {
 }
 
 // Which of these bytes a text has: a carriage return, a line feed, a #.
-#[derive(Drop)]
+#[derive(Clone, Copy)]
 struct Seen {
     pub returns: bool,
     pub feeds: bool,

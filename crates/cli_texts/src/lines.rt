@@ -3,7 +3,7 @@ use crate::token::ends;
 
 // How far a reading has come: how many words are to be passed over, the line, whether it stands in a word or in a comment, and
 // whether it goes on.
-#[derive(Drop)]
+#[derive(Clone, Copy)]
 struct Walk {
     left: usize,
     line: u64,

@@ -10,7 +10,7 @@ const SHOWN: usize = 40;
 const NUMBER: u64 = 1;
 
 // How far the reading has come, how many bytes the token has, and whether it goes on.
-#[derive(Drop)]
+#[derive(Clone, Copy)]
 pub struct Look {
     pub scan: Scan,
     pub count: usize,

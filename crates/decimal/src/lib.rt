@@ -22,7 +22,7 @@ const COMMENT: u64 = 2;
 
 // How far the reading has come: the words so far, the number begun, where the next byte stands, its line, what is wrong, and
 // whether to go on.
-#[derive(Drop)]
+#[derive(Clone, Copy)]
 pub struct Scan {
     pub count: usize,
     pub value: u64,

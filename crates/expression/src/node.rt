@@ -1,6 +1,6 @@
 // A node of node words.
 
-#[derive(Drop)]
+#[derive(Clone, Copy)]
 pub struct Node {
     pub kind: u64,
     pub first: u64,

@@ -1,7 +1,7 @@
 // Where an expression is evaluated.
 
 // Where an expression is evaluated: a row, its place in the order, and EqXY's value there.
-#[derive(Drop)]
+#[derive(Clone, Copy)]
 pub struct Point {
     pub k: usize,
     pub row: usize,

@@ -148,7 +148,7 @@ fn copy_powers(
 }
 
 // What writing a list returns: the next node's number, and the base's.
-#[derive(Drop)]
+#[derive(Clone, Copy)]
 struct Listed {
     next: usize,
     base: usize,

@@ -58,7 +58,7 @@ pub fn negated(out: &mut [u64], from: usize, x: usize) -> usize
 // ---- lists
 
 // What writing a list returns: the next node's number, and the base's.
-#[derive(Drop)]
+#[derive(Clone, Copy)]
 pub struct Listed {
     pub next: usize,
     pub base: usize,

@@ -8,17 +8,17 @@ ghost use Rattle.field.specs.Inverse.{inverse_in, inverted};
 
 use crate::{Inverse, MODULUS, invert_u64, neg_u64, product_word, reduce_u64, sub_u64, sum_word};
 
-#[derive(Drop)]
+#[derive(Clone, Copy)]
 pub struct Goldilocks(u64);
 
-#[derive(Drop)]
+#[derive(Clone, Copy)]
 pub enum Parsed {
     Element(Goldilocks),
     TooLarge,
 }
 
 // What `invert` answers: the inverse, or that there is none (specs/Inverse.antt).
-#[derive(Drop)]
+#[derive(Clone, Copy)]
 pub enum Inverted {
     Element(Goldilocks),
     Zero,

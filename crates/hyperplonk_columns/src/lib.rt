@@ -23,7 +23,7 @@ use prover_lookup::{lookup_h_polys, lookup_m_polys};
 
 // What `write_columns` answers: the columns are written; an input equals no table row, which gives 15; a denominator is zero, which gives
 // 17 (specs/Outcome.antt).
-#[derive(Drop)]
+#[derive(Clone, Copy)]
 pub enum ColumnsOutcome {
     Written,
     Uncovered,
@@ -41,7 +41,7 @@ pub fn columns_number(outcome: ColumnsOutcome) -> u64
 }
 
 // The words at which the compressed columns, m and h begin.
-#[derive(Drop)]
+#[derive(Clone, Copy)]
 struct Places {
     compressed: usize,
     counts: usize,

@@ -161,7 +161,7 @@ module _ (ws : List ℕ) (a : Accepted ws) (v : CircuitParams) (e : v ≡ params
   pub words_fit : (l : Layout) → l ≡ sum_layout ws → l.witness * l.rows ≤ 32768
   unfolding sum_layout
   words_fit l q =
-      rw q (native.Mathlib.Nat.mul_le_mul (known.few_witness ws a) (known.rows_few ws a))
+      rw q (native.Mathlib.Nat.mul-le-mul (known.few_witness ws a) (known.rows_few ws a))
 
   pub lengths_are : (witness columns nodes challenges y : ℕ) (l : Layout) (words composed k : ℕ) → l ≡ sum_layout ws
       → words ≡ column_words (circuit_of ws)

@@ -1,7 +1,7 @@
 // What the calls of `hyperplonk` return; specs/ says what each call returns and writes.
 
 // What the building call returns.
-#[derive(Drop)]
+#[derive(Clone, Copy)]
 pub struct Built {
     pub number: u64,
     pub column_words: usize,
@@ -11,7 +11,7 @@ pub struct Built {
 
 // What a circuit asks for: the number of the first question answered no, 0 for none; column words, nodes of the composed expression,
 // and the nodes that one evaluation of it on one row visits.
-#[derive(Drop)]
+#[derive(Clone, Copy)]
 pub struct Sizes {
     pub number: u64,
     pub column_words: usize,
@@ -20,14 +20,14 @@ pub struct Sizes {
 }
 
 // What the row sum returns.
-#[derive(Drop)]
+#[derive(Clone, Copy)]
 pub struct RowSum {
     pub number: u64,
     pub sum: u64,
 }
 
 // What building and summing as one call returns: the building call's number and sizes, and 0, if it was refused; else the row sum's number and sum, and those sizes.
-#[derive(Drop)]
+#[derive(Clone, Copy)]
 pub struct Summed {
     pub number: u64,
     pub column_words: usize,

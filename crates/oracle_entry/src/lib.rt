@@ -99,7 +99,7 @@ fn value_of<'a>(
 }
 
 // What is evaluated at every row: node n, over polynomials of 2^k rows that stand as `layout` says.
-#[derive(Drop)]
+#[derive(Clone, Copy)]
 struct Evaluation {
     layout: Layout,
     k: usize,

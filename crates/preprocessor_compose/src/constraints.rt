@@ -26,14 +26,14 @@ pub fn num_constraints(own: usize, params: CircuitParams) -> usize
 }
 
 // Where nodes are written: node `at` is next, in a buffer that stands for the words from word `from` on.
-#[derive(Drop)]
+#[derive(Clone, Copy)]
 pub struct Place {
     pub from: usize,
     pub at: usize,
 }
 
 // The same, with the number of the item that is written next.
-#[derive(Drop)]
+#[derive(Clone, Copy)]
 pub struct ItemPlace {
     pub i: usize,
     pub from: usize,

@@ -11,7 +11,7 @@ use expression_write::operations::{negated, product, query, sum};
 use preprocessor::CircuitParams;
 
 // The lookups of a group: `count` of them from lookup `first` on.
-#[derive(Drop)]
+#[derive(Clone, Copy)]
 pub struct Members {
     pub first: usize,
     pub count: usize,

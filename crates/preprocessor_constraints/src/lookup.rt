@@ -12,7 +12,7 @@ use expression_write::operations::{Listed, challenge, item, list_end, list_head,
 use expression_write::{copy_expr, push};
 
 // The roots of a lookup's side: every second word, `count` of them from word `start` on.
-#[derive(Drop)]
+#[derive(Clone, Copy)]
 struct Run {
     start: usize,
     count: usize,

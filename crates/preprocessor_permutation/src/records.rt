@@ -10,7 +10,7 @@ use crate::{cell_label, exchange};
 use backend::MAX_POLYS;
 
 // "cells (polynomial, row)"
-#[derive(Drop)]
+#[derive(Clone, Copy)]
 pub struct Cell {
     pub polynomial: u64,
     pub row: u64,

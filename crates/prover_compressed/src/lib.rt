@@ -24,7 +24,7 @@ use prover::Roots;
 
 // What a compressed column is made with: where the given polynomials stand, of 2^k rows; beta; the roots of its expressions; and
 // the word of the column buffer that it begins at.
-#[derive(Drop)]
+#[derive(Clone, Copy)]
 pub struct CompressedPoly {
     pub layout: Layout,
     pub k: usize,
@@ -34,7 +34,7 @@ pub struct CompressedPoly {
 }
 
 // What the compressed columns of all lookups are made with, the word that the first begins at.
-#[derive(Drop)]
+#[derive(Clone, Copy)]
 pub struct CompressedPolys {
     pub layout: Layout,
     pub k: usize,

@@ -1,7 +1,7 @@
 // The text of stored answers: lines and blocks.
 
 // A line of words, and where it left off in the text and in the words.
-#[derive(Drop)]
+#[derive(Clone, Copy)]
 pub struct Line {
     pub next: usize,
     pub end: usize,

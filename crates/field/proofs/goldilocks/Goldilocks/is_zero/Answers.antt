@@ -1,0 +1,7 @@
+-- Zero has the number 0.
+use Rattle.std.proofs.Common.{rules}
+use Rattle.field.proofs.goldilocks.Zero.{zero_word}
+use Rattle.field.proofs.goldilocks.Goldilocks.is_zero.Goals as goal
+
+pub returns : goal.returns
+returns c = zero_word _ _ c.to_u64.ensures
