@@ -1,0 +1,15 @@
+use borrow.Author.Rules.{rules}
+use mathlib.Core.Path.{◌≡◌, ap, ◌∙◌}
+use mathlib.Core.Logic.{⊎_elim}
+use Prim.Native.Nat.{ℕ, ◌-◌, ◌/◌, ◌^◌, ◌≤◌}
+use native.Mathlib.Omega.{arith}
+use Rattle.field.specs.Field.{𝔾, el_one}
+use Rattle.field.specs.Element.{elem}
+use Rattle.multilinear.proofs.Rows.{row, row_start, half, row_set, row_unset}
+use Rattle.multilinear.proofs.eq_at.Given as goal
+
+abbrev pub invariant-loop-i : goal.invariant-loop-i
+invariant-loop-i l = (l.i ≤ l.k) × (l.left ≡ l.b / 2 ^ l.i) × (elem l.acc ≡ row l.y l.i l.b)
+
+abbrev pub decreases-loop-i : goal.decreases-loop-i
+decreases-loop-i l = l.k - l.i
