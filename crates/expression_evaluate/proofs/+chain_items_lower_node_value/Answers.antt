@@ -205,7 +205,7 @@ node_value-returns-in_default t c =
     let a = c.args in
     let o = ops_of (lent a.s.now 1) (lent a.s.now 2) (lent a.s.now 3) (lent a.s.now 4) a.c.now in
     let d = c.node_of-d in
-    let r = c.in_default.rest in
+    let r = c.in_default.in_default-own.rest in
     ways.met_other o (lent a.s.now 0) a.n d.result d.ensures (el 0)
     (λ z. absurd (r.0.0.0.0.0.0.0.0.0.0.1 z))
     (λ z. absurd (r.0.0.0.0.0.0.0.0.0.1 z))

@@ -1,0 +1,8 @@
+-- Rows of the k of circuit words.
+use mathlib.Core.Path.{ap, ◌∙◌}
+use Prim.Native.Nat.{ℕ, ◌^◌}
+use borrow.Author.Rules.{rules}
+use Rattle.backend_sections.proofs.bodies.rows.Goals as goal
+
+pub returns : goal.returns
+returns c = c.rows_of.ensures ∙ ap (λ (k : ℕ). 2 ^ k) c.k_of-k.ensures

@@ -1,0 +1,44 @@
+use borrow.Author.Rules.{rules}
+use mathlib.Core.Path.{◌≡◌, refl, sym, ap, ◌∙◌}
+use mathlib.Core.Bool.{Bool, true, false}
+use Prim.Native.Nat.{ℕ, ◌+◌, ◌*◌, ◌-◌, ◌/◌, ◌≤◌, ◌<◌}
+use native.Mathlib.Omega.{arith}
+use lib.ListN.{length, get_or, take}
+use mathlib.Core.Logic.{⊎_elim}
+use mathlib.Core.Path.{subst, subst₂}
+use mathlib.Core.List.{List}
+use lib.ListN.{replicate}
+use Rattle.backend_sections.proofs.copied.Cells.{Named, Gathered, named_none, named_set, named_past, named_all, gathered_none, gathered_more, gathered_same, gathered_all}
+use Rattle.backend_sections.proofs.copied.copied_columns.Goals as goal
+use Rattle.backend_sections.proofs.copied.copied_columns.Goals.{then-q, else-q, then-named-q, else-named-q}
+
+pub loop-i-init : goal.loop-i-init
+loop-i-init c = named_none c.args.cells.now (replicate 72 false) refl
+
+pub loop-i-preserved : goal.loop-i-preserved
+loop-i-preserved c =
+    let a = c.args in
+    elim c.if-q.branch [
+      then-q w ↦ subst (λ (l : List Bool). Named a.cells.now l (c.loop-i.i + 1)) (sym w.named-is) (named_set a.cells.now c.loop-i.named c.loop-i.i c.loop-i.invariant c.loop-i-test.true w.if-q.true)
+      | else-q w ↦ subst (λ (l : List Bool). Named a.cells.now l (c.loop-i.i + 1)) (sym w.named-is) (named_past a.cells.now c.loop-i.named c.loop-i.i c.loop-i.invariant c.loop-i-test.true w.if-q.false)
+    ]
+
+pub loop-q-init : goal.loop-q-init
+loop-q-init c = let a = c.args in gathered_none a.cells.now a.polys (replicate 72 0) refl
+
+pub loop-q-preserved : goal.loop-q-preserved
+loop-q-preserved c =
+    let a = c.args in
+    elim c.if-named-q.branch [
+      then-named-q w ↦
+    subst₂ (λ (l : List ℕ) (n : ℕ). Gathered a.cells.now a.polys l n (c.loop-q.q + 1)) (sym w.of-is) (sym w.count-is)
+    (gathered_more a.cells.now a.polys c.loop-q.of c.loop-q.count c.loop-q.q c.loop-q.invariant c.loop-q-test.true c.requires (sym (named_all a.cells.now c.loop-i.named c.loop-i.i c.loop-i.invariant c.loop-i-test.false c.loop-q.q (let t = c.loop-q-test.true in let m = c.requires in omega arith)) ∙ w.if-named-q.true))
+      | else-named-q w ↦
+    subst₂ (λ (l : List ℕ) (n : ℕ). Gathered a.cells.now a.polys l n (c.loop-q.q + 1)) (sym w.of-is) (sym w.count-is)
+    (gathered_same a.cells.now a.polys c.loop-q.of c.loop-q.count c.loop-q.q c.loop-q.invariant c.loop-q-test.true (sym (named_all a.cells.now c.loop-i.named c.loop-i.i c.loop-i.invariant c.loop-i-test.false c.loop-q.q (let t = c.loop-q-test.true in let m = c.requires in omega arith)) ∙ w.if-named-q.false))
+    ]
+
+pub returns : goal.returns
+returns c =
+    let a = c.args in
+    gathered_all a.cells.now a.polys c.loop-q.of c.loop-q.count c.loop-q.q c.loop-q.invariant c.loop-q-test.false c.requires

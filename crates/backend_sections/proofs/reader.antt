@@ -1,3 +1,0 @@
-pub mod Above
-pub mod Handed
-pub mod Told

@@ -1,0 +1,16 @@
+use native.Mathlib.Omega.{arith}
+use Prim.Native.Nat.{ℕ, ◌-◌}
+use lib.ListN.{length, get_or}
+use lib.Dec.{ltb}
+use borrow.Author.Rules.{rules}
+use Rattle.field.specs.Prime.{P}
+use Rattle.lists.proofs.Walks.{Walked, walk_none, walk_more, list_done, list_fails}
+use Rattle.backend.proofs.Answers.{says_yes, says_no}
+use Rattle.backend_sections.proofs.words.Elements.{words_number}
+use Rattle.backend_sections.proofs.words.all_elements.Given as goal
+
+abbrev pub invariant-loop-i : goal.invariant-loop-i
+invariant-loop-i l = Walked (λ (w : ℕ). ltb w P) (λ (i : ℕ). get_or l.words i 0) (length l.words) l.i
+
+abbrev pub decreases-loop-i : goal.decreases-loop-i
+decreases-loop-i l = length l.words - l.i

@@ -1,0 +1,6 @@
+use Rattle.expression.proofs.Written as written
+use borrow.Author.Rules.{rules}
+use Rattle.expression_write.proofs.operations.challenge.Goals as goal
+
+pub returns : goal.returns
+returns c = written.written_challenge c.push.ensures

@@ -1,0 +1,12 @@
+use Rattle.expression.proofs.Written as written
+use Rattle.expression.specs.Flat.{body}
+use native.Mathlib.Omega.{arith}
+use borrow.Author.Rules.{rules}
+use Rattle.expression_write.proofs.operations.list_end.Goals as goal
+
+pub push-next-requires : goal.push-next-requires
+unfolding body
+push-next-requires c = omega (arith, c.requires)
+
+pub returns : goal.returns
+returns c = written.written_base c.requires.0 c.challenge-y.ensures c.push-next.ensures
