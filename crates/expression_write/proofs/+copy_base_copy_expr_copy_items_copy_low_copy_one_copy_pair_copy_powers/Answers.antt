@@ -12,115 +12,13 @@ use Rattle.expression_write.proofs.+copy_base_copy_expr_copy_items_copy_low_copy
 }
 use Rattle.expression_write.proofs.+copy_base_copy_expr_copy_items_copy_low_copy_one_copy_pair_copy_powers.Goals as goal
 
-pub +copy-base-copy-expr-copy-items-copy-low-copy-one-copy-pair-copy-powers-spec :
-    {M : Type 1} → statement M
-+copy-base-copy-expr-copy-items-copy-low-copy-one-copy-pair-copy-powers-spec =
-    close
-    μ-copy-base
-    μ-copy-expr
-    μ-copy-items
-    μ-copy-low
-    μ-copy-one
-    μ-copy-pair
-    μ-copy-powers
-    (λ t. copy-base-lts.spec (copy-base-claims t) (copy-base-at t) copy-base.Post
-    (copy-base-copy-low-requires t)
-    (copy-base-sub-push t)
-    (copy-base-push-requires t)
-    (copy-base-sub-t13 t)
-    (copy-base-same-length t)
-    (copy-base-returns t))
-    (λ t. copy-expr-lts.spec (copy-expr-claims t) (copy-expr-at t) copy-expr.Post
-    (copy-expr-read-node-requires t)
-    (copy-expr-push-requires t)
-    (copy-expr-push-requires-2 t)
-    (copy-expr-push-requires-3 t)
-    (copy-expr-push-requires-4 t)
-    (copy-expr-push-requires-5 t)
-    (copy-expr-push-requires-6 t)
-    (copy-expr-copy-one-requires t)
-    (copy-expr-copy-pair-requires t)
-    (copy-expr-copy-pair-requires-2 t)
-    (copy-expr-copy-one-requires-2 t)
-    (copy-expr-copy-powers-requires t)
-    (copy-expr-push-requires-7 t)
-    (copy-expr-same-length t)
-    (copy-expr-returns t)
-    (copy-expr-same-length-2 t)
-    (copy-expr-returns-2 t)
-    (copy-expr-same-length-3 t)
-    (copy-expr-returns-3 t)
-    (copy-expr-same-length-4 t)
-    (copy-expr-returns-4 t)
-    (copy-expr-same-length-5 t)
-    (copy-expr-returns-5 t)
-    (copy-expr-same-length-6 t)
-    (copy-expr-returns-6 t)
-    (copy-expr-same-length-7 t)
-    (copy-expr-returns-7 t)
-    (copy-expr-same-length-8 t)
-    (copy-expr-returns-8 t)
-    (copy-expr-same-length-9 t)
-    (copy-expr-returns-9 t)
-    (copy-expr-same-length-10 t)
-    (copy-expr-returns-10 t)
-    (copy-expr-same-length-11 t)
-    (copy-expr-returns-11 t)
-    (copy-expr-same-length-12 t)
-    (copy-expr-returns-12 t))
-    (λ t. copy-items-lts.spec (copy-items-claims t) (copy-items-at t) copy-items.Post
-    (copy-items-index-requires t)
-    (copy-items-read-node-requires t)
-    (copy-items-copy-low-requires t)
-    (copy-items-copy-base-requires t)
-    (copy-items-same-length t)
-    (copy-items-returns t)
-    (copy-items-copy-items-requires t)
-    (copy-items-sub-push t)
-    (copy-items-sub-push-2 t)
-    (copy-items-push-requires t)
-    (copy-items-same-length-2 t)
-    (copy-items-returns-2 t)
-    (copy-items-push-requires-2 t)
-    (copy-items-copy-base-requires-2 t)
-    (copy-items-same-length-3 t)
-    (copy-items-returns-3 t))
-    (λ t. copy-low-lts.spec (copy-low-claims t) (copy-low-at t) copy-low.Post
-    (copy-low-index-requires t)
-    (copy-low-copy-expr-requires t)
-    (copy-low-same-length t)
-    (copy-low-returns t)
-    (copy-low-push-requires t)
-    (copy-low-same-length-2 t)
-    (copy-low-returns-2 t))
-    (λ t. copy-one-lts.spec (copy-one-claims t) (copy-one-at t) copy-one.Post
-    (copy-one-copy-low-requires t)
-    (copy-one-sub-push t)
-    (copy-one-push-requires t)
-    (copy-one-same-length t)
-    (copy-one-returns t))
-    (λ t. copy-pair-lts.spec (copy-pair-claims t) (copy-pair-at t) copy-pair.Post
-    (copy-pair-copy-low-requires t)
-    (copy-pair-copy-low-requires-2 t)
-    (copy-pair-sub-push t)
-    (copy-pair-sub-push-2 t)
-    (copy-pair-push-requires t)
-    (copy-pair-same-length t)
-    (copy-pair-returns t))
-    λ t. copy-powers-lts.spec (copy-powers-claims t) (copy-powers-at t) copy-powers.Post
-    (copy-powers-copy-items-requires t)
-    (copy-powers-sub-push t)
-    (copy-powers-push-requires t)
-    (copy-powers-same-length t)
-    (copy-powers-returns t)
-
 pub copy_base-copy_low-y-requires : goal.copy_base-copy_low-y-requires
 copy_base-copy_low-y-requires t c =
     (omega arith, (omega arith, omega arith))
 
 pub copy_base-returns : goal.copy_base-returns
 copy_base-returns t c =
-    written.written_base c.requires.1.1.0 c.copy_low-y.ensures c.push-next.ensures
+    written.written_base c.requires.1.0 c.copy_low-y.ensures c.push-next.ensures
 
 pub copy_expr-copy_one-requires : goal.copy_expr-copy_one-requires
 copy_expr-copy_one-requires t c =
