@@ -1,0 +1,167 @@
+-- The walk by two places at once: each way through the code is `sameExpr` and `sameExprs`.
+use borrow.Author.Rules.{rules}
+use borrow.Author.Tests.{not-true, not-false}
+use native.Mathlib.Omega.{arith}
+use Rattle.expression.specs.Nodes.{expr_of, items_of, no_expr, no_exprs}
+use Rattle.expression.specs.Same.{same_expr, same_exprs}
+use Rattle.expression_same.proofs.Ways.{kind_placed, value_placed, same_apart, same_leaf, same_negated, same_scaled, same_sum, same_product, same_powers, chain_last, chain_shorter, chain_longer, chain_more, lower_same}
+use Prim.Native.Nat.{ℕ, ◌+◌, ◌-◌, ◌*◌, ◌<◌}
+use Rattle.expression_same.proofs.+lower_items_same_at_same_items_same_lower.Goals as goal
+
+pub lower_items-returns : goal.lower_items-returns
+lower_items-returns t c =
+    let a = c.args in
+    lower_same no_exprs (items_of a.ws.now) same_exprs a.p a.q a.a a.b c.place-x.result c.place-y.result c.same_items.result c.place-x.ensures.0 c.place-y.ensures.0 c.same_items.ensures
+
+pub same_at-returns-then-not-same_top : goal.same_at-returns-then-not-same_top
+same_at-returns-then-not-same_top t c =
+    let a = c.args in
+    let d = c.words_at-d in
+    let e = c.words_at-e in
+    same_apart a.ws.now a.p a.q d.result e.result d.ensures e.ensures c.same_top.result c.same_top.ensures (c.if-not-same_top.true)
+
+pub same_at-same_lower-requires : goal.same_at-same_lower-requires
+same_at-same_lower-requires t c =
+    let a = c.args in
+    let d = c.words_at-d in
+    let k = c.in-7.is in
+    let l = kind_placed a.ws.now d.result a.p d.ensures (omega arith) in
+    search rules
+
+pub same_at-same_lower-x-requires : goal.same_at-same_lower-x-requires
+same_at-same_lower-x-requires t c =
+    let a = c.args in
+    let d = c.words_at-d in
+    let k = c.in-8.is in
+    let l = kind_placed a.ws.now d.result a.p d.ensures (omega arith) in
+    search rules
+
+pub same_at-same_lower-y-requires : goal.same_at-same_lower-y-requires
+same_at-same_lower-y-requires t c =
+    let a = c.args in
+    let d = c.words_at-d in
+    let k = c.in-8.is in
+    let l = kind_placed a.ws.now d.result a.p d.ensures (omega arith) in
+    search rules
+
+pub same_at-same_lower-x-requires-in-9 : goal.same_at-same_lower-x-requires-in-9
+same_at-same_lower-x-requires-in-9 t c =
+    let a = c.args in
+    let d = c.words_at-d in
+    let k = c.in-9.is in
+    let l = kind_placed a.ws.now d.result a.p d.ensures (omega arith) in
+    search rules
+
+pub same_at-same_lower-y-requires-in-9 : goal.same_at-same_lower-y-requires-in-9
+same_at-same_lower-y-requires-in-9 t c =
+    let a = c.args in
+    let d = c.words_at-d in
+    let k = c.in-9.is in
+    let l = kind_placed a.ws.now d.result a.p d.ensures (omega arith) in
+    search rules
+
+pub same_at-same_lower-requires-in-10 : goal.same_at-same_lower-requires-in-10
+same_at-same_lower-requires-in-10 t c =
+    let a = c.args in
+    let d = c.words_at-d in
+    let k = c.in-10.is in
+    let l = kind_placed a.ws.now d.result a.p d.ensures (omega arith) in
+    search rules
+
+pub same_at-same_lower-x-requires-in-11 : goal.same_at-same_lower-x-requires-in-11
+same_at-same_lower-x-requires-in-11 t c =
+    let a = c.args in
+    let d = c.words_at-d in
+    let k = c.in-11.is in
+    let l = kind_placed a.ws.now d.result a.p d.ensures (omega arith) in
+    search rules
+
+pub same_at-lower_items-y-requires : goal.same_at-lower_items-y-requires
+same_at-lower_items-y-requires t c =
+    let a = c.args in
+    let d = c.words_at-d in
+    let k = c.in-11.is in
+    let l = kind_placed a.ws.now d.result a.p d.ensures (omega arith) in
+    search rules
+
+pub same_at-returns-in-7 : goal.same_at-returns-in-7
+same_at-returns-in-7 t c =
+    let a = c.args in
+    let d = c.words_at-d in
+    let e = c.words_at-e in
+    same_negated a.ws.now a.p a.q d.result e.result d.ensures e.ensures c.same_top.result c.same_top.ensures (c.if-not-same_top.false) c.same_lower.result c.same_lower.ensures c.in-7.is
+
+pub same_at-returns-in-8 : goal.same_at-returns-in-8
+same_at-returns-in-8 t c =
+    let a = c.args in
+    let d = c.words_at-d in
+    let e = c.words_at-e in
+    same_sum a.ws.now a.p a.q d.result e.result d.ensures e.ensures c.same_top.result c.same_top.ensures (c.if-not-same_top.false) c.same_lower-x.result c.same_lower-x.ensures c.same_lower-y.result c.both.result c.both.ensures c.same_lower-y.ensures c.in-8.is
+
+pub same_at-returns-in-9 : goal.same_at-returns-in-9
+same_at-returns-in-9 t c =
+    let a = c.args in
+    let d = c.words_at-d in
+    let e = c.words_at-e in
+    same_product a.ws.now a.p a.q d.result e.result d.ensures e.ensures c.same_top.result c.same_top.ensures (c.if-not-same_top.false) c.same_lower-x-in-9.result c.same_lower-x-in-9.ensures c.same_lower-y-in-9.result c.both-in-9.result c.both-in-9.ensures c.same_lower-y-in-9.ensures c.in-9.is
+
+pub same_at-returns-in-10 : goal.same_at-returns-in-10
+same_at-returns-in-10 t c =
+    let a = c.args in
+    let d = c.words_at-d in
+    let e = c.words_at-e in
+    same_scaled a.ws.now a.p a.q d.result e.result d.ensures e.ensures c.same_top.result c.same_top.ensures (c.if-not-same_top.false) c.same_lower-in-10.result c.same_lower-in-10.ensures c.in-10.is
+
+pub same_at-returns-in-11 : goal.same_at-returns-in-11
+same_at-returns-in-11 t c =
+    let a = c.args in
+    let d = c.words_at-d in
+    let e = c.words_at-e in
+    same_powers a.ws.now a.p a.q d.result e.result d.ensures e.ensures c.same_top.result c.same_top.ensures (c.if-not-same_top.false) c.same_lower-x-in-11.result c.same_lower-x-in-11.ensures c.lower_items-y.result c.both-in-11.result c.both-in-11.ensures c.lower_items-y.ensures c.in-11.is
+
+pub same_at-returns-in_default : goal.same_at-returns-in_default
+same_at-returns-in_default t c =
+    let a = c.args in
+    let d = c.words_at-d in
+    let e = c.words_at-e in
+    same_leaf a.ws.now a.p a.q d.result e.result d.ensures e.ensures c.same_top.result c.same_top.ensures (c.if-not-same_top.false) c.in_default.in_default-own.rest.0.0.0.0.1 c.in_default.in_default-own.rest.0.0.0.1 c.in_default.in_default-own.rest.0.0.1 c.in_default.in_default-own.rest.0.1 c.in_default.in_default-own.rest.1
+
+pub same_items-returns-then-e-eq0 : goal.same_items-returns-then-e-eq0
+same_items-returns-then-e-eq0 t c =
+    let a = c.args in
+    let d = c.words_at-d in
+    let e = c.words_at-e in
+    chain_last a.ws.now a.p a.q d.result e.result d.ensures e.ensures c.same_lower-x.result c.same_lower-x.ensures c.if-d-eq0.true c.if-e-eq0.true
+
+pub same_items-returns-then-d-eq0 : goal.same_items-returns-then-d-eq0
+same_items-returns-then-d-eq0 t c =
+    let a = c.args in
+    let d = c.words_at-d in
+    let e = c.words_at-e in
+    chain_shorter a.ws.now a.p a.q d.result e.result d.ensures e.ensures c.if-d-eq0.true c.if-e-eq0.false
+
+pub same_items-returns-then-e-eq0-2 : goal.same_items-returns-then-e-eq0-2
+same_items-returns-then-e-eq0-2 t c =
+    let a = c.args in
+    let d = c.words_at-d in
+    let e = c.words_at-e in
+    chain_longer a.ws.now a.p a.q d.result e.result d.ensures e.ensures c.if-d-eq0.false c.if-e-eq0-2.true
+
+pub same_items-lower_items-y-requires : goal.same_items-lower_items-y-requires
+same_items-lower_items-y-requires t c =
+    let a = c.args in
+    let d = c.words_at-d in
+    let l = value_placed a.ws.now d.result a.p d.ensures c.if-d-eq0.false in
+    search rules
+
+pub same_items-returns : goal.same_items-returns
+same_items-returns t c =
+    let a = c.args in
+    let d = c.words_at-d in
+    let e = c.words_at-e in
+    chain_more a.ws.now a.p a.q d.result e.result d.ensures e.ensures c.same_lower-x.result c.lower_items-y.result c.both.result c.both.ensures c.same_lower-x.ensures c.lower_items-y.ensures c.if-d-eq0.false c.if-e-eq0-2.false
+
+pub same_lower-returns : goal.same_lower-returns
+same_lower-returns t c =
+    let a = c.args in
+    lower_same no_expr (expr_of a.ws.now) same_expr a.p a.q a.a a.b c.place-x.result c.place-y.result c.same_at.result c.place-x.ensures.0 c.place-y.ensures.0 c.same_at.ensures
