@@ -1,0 +1,29 @@
+use borrow.Author.Rules.{rules}
+use mathlib.Core.Path.{◌≡◌, refl, sym, ap, ◌∙◌}
+use mathlib.Core.Bool.{Bool, true, false}
+use Prim.Native.Nat.{ℕ, ◌+◌, ◌*◌, ◌-◌, ◌/◌, ◌≤◌, ◌<◌}
+use native.Mathlib.Omega.{arith}
+use lib.ListN.{length, get_or, take}
+use borrow.Author.Tests.{not-true, not-false}
+use Rattle.lists.proofs.Walks.{Walked, walk_none, walk_more, walk_done, walk_fails}
+use Rattle.backend.specs.Layout.{node_count, in_place}
+use Rattle.backend_nodes.proofs.layout.all_in_place.Goals as goal
+
+pub loop-n-init : goal.loop-n-init
+loop-n-init c = let a = c.args in walk_none (in_place a.nodes.now) (λ i. i) (node_count a.nodes.now)
+
+pub returns-then-not-in_place : goal.returns-then-not-in_place
+returns-then-not-in_place c =
+    let a = c.args in
+    walk_fails (in_place a.nodes.now) (λ i. i) (node_count a.nodes.now) c.loop-n.n c.loop-n-test.true (sym c.in_place.ensures ∙ c.if-not-in_place.true)
+
+pub loop-n-preserved : goal.loop-n-preserved
+loop-n-preserved c =
+    let a = c.args in
+    walk_more (in_place a.nodes.now) (λ i. i) (node_count a.nodes.now) c.loop-n.n c.loop-n.invariant c.loop-n-test.true
+    (sym c.in_place.ensures ∙ c.if-not-in_place.false)
+
+pub returns : goal.returns
+returns c =
+    let a = c.args in
+    walk_done (in_place a.nodes.now) (λ i. i) (node_count a.nodes.now) c.loop-n.n c.loop-n.invariant c.loop-n-test.false

@@ -1,0 +1,10 @@
+use Prim.Native.Nat.{◌-◌}
+use borrow.Author.Rules.{rules}
+use Rattle.backend_nodes.proofs.layout.Counts.{Noded, noded_none, noded_room, noded_more, noded_all}
+use Rattle.backend_nodes.proofs.layout.count_nodes.Given as goal
+
+abbrev pub invariant-loop-m : goal.invariant-loop-m
+invariant-loop-m l = Noded l.nodes l.initial.counts l.counts l.m
+
+abbrev pub decreases-loop-m : goal.decreases-loop-m
+decreases-loop-m l = l.count - l.m

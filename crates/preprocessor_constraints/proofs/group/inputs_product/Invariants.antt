@@ -1,0 +1,22 @@
+use Prim.Native.Nat.{ℕ, ◌+◌, ◌-◌, ◌≤◌}
+use Rattle.expression.specs.Expr.{Expr, product_from}
+use Rattle.expression.specs.Flat.{body, size}
+use Rattle.expression.specs.Written.{ExprWritten}
+use Rattle.lists.specs.Lists.{tabulate}
+use Rattle.preprocessor.proofs.GroupWritten as groups
+use Rattle.preprocessor.specs.ComposeWords.{input_side}
+use borrow.Author.Rules.{rules}
+use lib.IntN.{pos}
+use lib.ListN.{length}
+use mathlib.Core.List.{List}
+use mathlib.Core.Path.{◌≡◌, refl}
+use native.Mathlib.Omega.{arith}
+use Rattle.preprocessor_constraints.proofs.group.inputs_product.Given as goal
+
+abbrev pub invariant-loop-i : goal.invariant-loop-i
+invariant-loop-i l = (l.i ≤ l.members.count) × ((l.x ≡ l.at + size (product_from (Expr.poly l.q (pos 0)) (tabulate (λ i. input_side l.user l.widths l.pairs l.beta (l.members.first + i)) l.i))) × ((length l.out ≡ length l.initial.out) × ((d : List ℕ)
+    → ExprWritten l.from (Expr.poly l.q (pos 0)) l.at d l.initial.out l.initial.x
+    → ExprWritten l.from (product_from (Expr.poly l.q (pos 0)) (tabulate (λ i. input_side l.user l.widths l.pairs l.beta (l.members.first + i)) l.i)) l.at d l.out l.x)))
+
+abbrev pub decreases-loop-i : goal.decreases-loop-i
+decreases-loop-i l = l.members.count - l.i

@@ -1,0 +1,23 @@
+use Prim.Native.Nat.{ℕ, ◌+◌, ◌-◌, ◌≤◌}
+use Rattle.backend.specs.Constraints.{omit_one, sum_of}
+use Rattle.expression.proofs.Written as written
+use Rattle.expression.specs.Expr.{Expr, product_of}
+use Rattle.expression.specs.Flat.{size}
+use Rattle.expression.specs.Written.{ExprWritten}
+use Rattle.lists.specs.Lists.{tabulate}
+use Rattle.preprocessor.proofs.GroupWritten as groups
+use Rattle.preprocessor.specs.ComposeWords.{input_side, input_sides}
+use borrow.Author.Rules.{rules}
+use lib.ListN.{length, get_or}
+use mathlib.Core.List.{List, []}
+use mathlib.Core.Path.{◌≡◌, refl, ap}
+use native.Mathlib.Omega.{arith}
+use Rattle.preprocessor_constraints.proofs.group.products_sum.Given as goal
+
+abbrev pub invariant-loop-k : goal.invariant-loop-k
+invariant-loop-k l = (1 ≤ l.k) × ((l.k ≤ l.members.count) × ((l.x ≡ l.at + size (sum_of (tabulate (but l.user l.widths l.pairs l.beta l.members.first l.members.count) l.k))) × ((length l.out ≡ length l.initial.out) × ((d : List ℕ)
+    → ExprWritten l.from (sum_of (tabulate (but l.user l.widths l.pairs l.beta l.members.first l.members.count) 1)) l.at d l.initial.out l.initial.x
+    → ExprWritten l.from (sum_of (tabulate (but l.user l.widths l.pairs l.beta l.members.first l.members.count) l.k)) l.at d l.out l.x))))
+
+abbrev pub decreases-loop-k : goal.decreases-loop-k
+decreases-loop-k l = l.members.count - l.k

@@ -1,0 +1,15 @@
+use Rattle.lists.proofs.Parts.{total_next}
+use Rattle.lists.proofs.Runs as runs
+use Prim.Native.Nat.{ℕ, suc, ◌≤◌, ◌-◌}
+use Rattle.lists.specs.Lists.{total}
+use borrow.Author.Rules.{rules}
+use lib.ListN.{take}
+use mathlib.Core.Path.{◌≡◌, sym, ap, ◌∙◌}
+use native.Mathlib.Omega.{arith}
+use Rattle.preprocessor_constraints.proofs.lookup.sum_before.Given as goal
+
+abbrev pub invariant-loop-i : goal.invariant-loop-i
+invariant-loop-i l = (l.i ≤ l.j) × (l.sum ≡ total (take l.i l.ns))
+
+abbrev pub decreases-loop-i : goal.decreases-loop-i
+decreases-loop-i l = l.j - l.i

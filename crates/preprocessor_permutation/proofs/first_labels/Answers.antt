@@ -1,0 +1,14 @@
+-- The first j words are 0, 1, …, j - 1.
+use Prim.Native.Nat.{◌-◌}
+use borrow.Author.Rules.{rules}
+use Rattle.preprocessor.proofs.Walks.{First, first_start, first_next, first_end}
+use Rattle.preprocessor_permutation.proofs.first_labels.Goals as goal
+
+pub loop-j-init : goal.loop-j-init
+loop-j-init c = first_start _ _ _
+
+pub loop-j-preserved : goal.loop-j-preserved
+loop-j-preserved c = first_next _ _ _ _ _ c.requires c.loop-j.invariant c.loop-j-test.true
+
+pub returns : goal.returns
+returns c = first_end _ _ _ _ _ c.loop-j.invariant c.loop-j-test.false

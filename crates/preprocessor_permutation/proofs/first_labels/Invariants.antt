@@ -1,0 +1,10 @@
+use Prim.Native.Nat.{◌-◌}
+use borrow.Author.Rules.{rules}
+use Rattle.preprocessor.proofs.Walks.{First, first_start, first_next, first_end}
+use Rattle.preprocessor_permutation.proofs.first_labels.Given as goal
+
+abbrev pub invariant-loop-j : goal.invariant-loop-j
+invariant-loop-j l = First l.initial.columns l.at l.count l.columns l.j
+
+abbrev pub decreases-loop-j : goal.decreases-loop-j
+decreases-loop-j l = l.count - l.j

@@ -1,0 +1,21 @@
+-- `clear` meets its contract: the words are written one after another.
+use borrow.Author.Rules.{rules}
+use mathlib.Core.Path.{refl}
+use Prim.Native.Nat.{◌-◌}
+use native.Mathlib.Omega.{arith}
+use lib.ListN.{length, length-set}
+use Rattle.lists.proofs.Fill.{Filled, fill_start, fill_more, fill_end, fill_zero}
+use Rattle.prover_instance.proofs.blank_column.clear.Goals as goal
+
+pub loop-i-init : goal.loop-i-init
+loop-i-init c = fill_start _ _ _ _
+
+pub loop-i-preserved : goal.loop-i-preserved
+loop-i-preserved c =
+    fill_more _ _ _ _ _ _ c.loop-i.invariant c.requires c.loop-i-test.true 0 refl
+
+pub shape_of-columns : goal.shape_of-columns
+shape_of-columns c = c.loop-i.invariant.size
+
+pub returns : goal.returns
+returns c = fill_zero _ _ _ _ (fill_end _ _ _ _ _ _ c.loop-i.invariant c.loop-i-test.false)

@@ -1,0 +1,21 @@
+use borrow.Author.Rules.{rules}
+use mathlib.Core.Path.{◌≡◌, refl, sym, ap, ap₂, ◌∙◌}
+use mathlib.Core.List.{List}
+use Prim.Native.Nat.{ℕ, suc, ◌+◌, ◌-◌, ◌*◌, ◌^◌, ◌≤◌, ◌<◌}
+use native.Mathlib.Nat.{zero-mul, suc-mul}
+use native.Mathlib.Numerals.{add-one}
+use native.Mathlib.Omega.{arith}
+use lib.ListN.{length, get_or, take}
+use lib.Seq.{take_all}
+use Rattle.lists.specs.Lists.{write_at, total}
+use Rattle.prover.specs.Words.{words_of}
+use Rattle.prover.proofs.Instance.{polys, instance_start, instance_more, words_there}
+use Rattle.lists.proofs.Parts.{total_more, part_there}
+use Rattle.prover_instance.proofs.instance_polys.Given as goal
+
+abbrev pub invariant-loop-i : goal.invariant-loop-i
+invariant-loop-i l = (l.i ≤ length l.lengths) × (l.from ≡ total (take l.i l.lengths)) × (l.at ≡ l.i * 2 ^ l.k) × (length l.columns ≡ length l.initial.columns)
+    × (l.columns ≡ write_at l.initial.columns 0 (words_of (2 ^ l.k) (polys l.k (take l.i l.lengths) l.instance)))
+
+abbrev pub decreases-loop-i : goal.decreases-loop-i
+decreases-loop-i l = length l.lengths - l.i
