@@ -8,20 +8,20 @@ use Rattle.preprocessor_permutation.proofs.walk_cycle.Goals as goal
 
 pub cell_label-label-requires : goal.cell_label-label-requires
 cell_label-label-requires c =
-    cell_fits c.args.starts.now c.args.cells.now (length c.args.columns.now) (length c.args.cells.now / 2 - 1) c.requires.1.0
-    (let p = c.requires.0 in omega arith)
+    cell_fits c.args.starts.now c.args.cells.now (length c.args.columns.now) (length c.args.cells.now / 2 - 1) c.requires.all
+    (let p = c.requires.nonzero in omega arith)
 
 pub loop-i-init : goal.loop-i-init
 loop-i-init c = walking_start _ _ _ _
 
 pub exchange-label-requires : goal.exchange-label-requires
 exchange-label-requires c =
-    walking_fits _ _ _ _ _ _ _ c.loop-i.invariant c.requires.1.0 c.loop-i-test.true
+    walking_fits _ _ _ _ _ _ _ c.loop-i.invariant c.requires.all c.loop-i-test.true
 
 pub loop-i-preserved : goal.loop-i-preserved
 loop-i-preserved c =
-    walking_next _ _ _ _ _ _ _ _ _ c.loop-i.invariant c.loop-i-test.true c.exchange-label.ensures.0
-    c.exchange-label.ensures.1
+    walking_next _ _ _ _ _ _ _ _ _ c.loop-i.invariant c.loop-i-test.true c.exchange-label.ensures.value
+    c.exchange-label.ensures.columns_after
 
 pub shape_of-columns : goal.shape_of-columns
 unfolding Walking
@@ -29,4 +29,4 @@ shape_of-columns c = search rules
 
 pub returns : goal.returns
 returns c =
-    walking_end _ _ _ _ _ _ _ c.requires.0 c.requires.1.1 c.requires.1.0 c.cell_label-label.ensures c.loop-i.invariant c.loop-i-test.false
+    walking_end _ _ _ _ _ _ _ c.requires.nonzero c.requires.cycle_in c.requires.all c.cell_label-label.ensures c.loop-i.invariant c.loop-i-test.false

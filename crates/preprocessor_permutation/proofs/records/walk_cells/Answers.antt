@@ -1,0 +1,39 @@
+-- The cells left to walk, with the label at hand, give what all of them gave at first.
+use Rattle.std.proofs.Common.{◌<◌, length, ◌-◌, arith}
+use Rattle.preprocessor_permutation.proofs.records.Cycle as cycle
+use Rattle.preprocessor_permutation.proofs.records.walk_cells.Goals as goal
+
+pub cell_label-label-requires : goal.cell_label-label-requires
+cell_label-label-requires c =
+    let l : length c.args.cells.now - 1 < length c.args.cells.now = let p = c.requires.0 in omega arith in
+    cycle.cell c.args.starts.now c.args.cells.now (length c.args.columns.now) (length c.args.cells.now - 1) c.requires.1 l
+
+pub loop-i-init : goal.loop-i-init
+loop-i-init c = cycle.start c.args.starts.now c.args.cells.now c.args.columns.now c.cell_label-label.result
+
+pub exchange-label-requires : goal.exchange-label-requires
+exchange-label-requires c =
+    cycle.fits c.args.starts.now c.args.cells.now c.args.columns.now c.cell_label-label.result c.loop-i.columns c.loop-i.label c.loop-i.i
+    c.loop-i.invariant
+    c.requires.1
+    c.loop-i-test.true
+
+pub loop-i-preserved : goal.loop-i-preserved
+loop-i-preserved c =
+    cycle.next c.args.starts.now c.args.cells.now c.args.columns.now c.cell_label-label.result c.loop-i.columns c.loop-i.label c.loop-i.i
+    c.exchange-label.result
+    c.exchange-label.new.columns
+    c.loop-i.invariant
+    c.loop-i-test.true
+    c.exchange-label.ensures.value
+    c.exchange-label.ensures.columns_after
+
+pub returns : goal.returns
+returns c =
+    cycle.end c.args.starts.now c.args.cells.now c.args.columns.now c.cell_label-label.result c.loop-i.columns c.loop-i.label c.loop-i.i
+    c.requires.0
+    c.requires.2
+    c.requires.1
+    c.cell_label-label.ensures
+    c.loop-i.invariant
+    c.loop-i-test.false
