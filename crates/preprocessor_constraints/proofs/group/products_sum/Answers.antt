@@ -12,10 +12,8 @@ use lib.ListN.{length, get_or}
 use mathlib.Core.List.{List, []}
 use mathlib.Core.Path.{◌≡◌, refl, ap}
 use native.Mathlib.Omega.{arith}
+use Rattle.preprocessor_constraints.proofs.group.products_sum.Invariants.{but}
 use Rattle.preprocessor_constraints.proofs.group.products_sum.Goals as goal
-
-abbrev but : List ℕ → List ℕ → List ℕ → ℕ → ℕ → ℕ → ℕ → Expr
-but user widths pairs beta first n k = product_of (get_or (omit_one (input_sides user widths pairs beta first n)) k [])
 
 pub product_besides-x-requires : goal.product_besides-x-requires
 product_besides-x-requires c =

@@ -1,0 +1,7 @@
+-- The preprocess words and the nodes' values below p are question 6.
+use Rattle.backend.proofs.Numbers.{six}
+use borrow.Author.Rules.{rules}
+use Rattle.backend_questions.proofs.sections.question_6.Goals as goal
+
+pub returns : goal.returns
+returns c = six _ c.requires _ _ c.preprocess_of.ensures c.nodes_of.ensures _ _ c.all_elements-given.ensures.below c.values_small-values.ensures

@@ -1,0 +1,20 @@
+use Prim.Native.Nat.{ℕ, ◌+◌, ◌*◌, ◌-◌, ◌≤◌, min}
+use Rattle.expression.specs.Expr.{Expr}
+use Rattle.expression.specs.Flat.{largest_size}
+use Rattle.expression.specs.Walks.{weight}
+use Rattle.expression.specs.Nodes.{expr_of}
+use Rattle.preprocessor.proofs.Counts as counts
+use Rattle.preprocessor.proofs.ComposeWords as trees
+use Rattle.preprocessor.specs.Count.{nodes_in}
+use Rattle.lists.specs.Lists.{tabulate}
+use borrow.Author.Rules.{rules}
+use lib.ListN.{length, get_or}
+use mathlib.Core.Path.{◌≡◌, ap, ◌∙◌}
+use native.Mathlib.Omega.{arith}
+use Rattle.preprocessor_compose.proofs.count.roots_nodes.Given as goal
+
+abbrev pub invariant-loop-i : goal.invariant-loop-i
+invariant-loop-i l = (l.i ≤ l.w) × (l.sum ≡ min largest_size (nodes_in l.item (tabulate (λ j. expr_of l.user (get_or l.roots (l.s + j * l.step) 0)) l.i)))
+
+abbrev pub decreases-loop-i : goal.decreases-loop-i
+decreases-loop-i l = l.w - l.i

@@ -1,0 +1,8 @@
+use Rattle.preprocessor.proofs.Counts as counts
+use borrow.Author.Rules.{rules}
+use Rattle.preprocessor_compose.proofs.count.side_nodes.Goals as goal
+
+pub returns : goal.returns
+returns c =
+    let a = c.args in
+    counts.side_counted a.item a.user.now a.pairs.now a.beta a.s a.w c.add_sizes.result c.roots_nodes-x.result c.list_nodes-y.result c.add_sizes-z.result c.add_sizes.ensures c.add_sizes-z.ensures c.roots_nodes-x.ensures c.list_nodes-y.ensures
