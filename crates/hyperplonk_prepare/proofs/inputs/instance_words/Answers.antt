@@ -1,0 +1,12 @@
+-- `instance_words` meets its contract.
+use Rattle.hyperplonk_prepare.proofs.Accepted.{laid_of}
+use Rattle.hyperplonk_prepare.proofs.Computed.{instances_from}
+use borrow.Author.Rules.{rules}
+use Rattle.hyperplonk_prepare.proofs.inputs.instance_words.Goals as goal
+
+pub instances_of-instances-requires : goal.instances_of-instances-requires
+instances_of-instances-requires c = laid_of c.args.circuit.now c.requires
+
+pub returns : goal.returns
+returns c =
+    instances_from c.args.circuit.now c.requires _ c.instances_of-instances.ensures _ c.total_to.ensures

@@ -1,0 +1,6 @@
+use Rattle.hyperplonk_prepare.proofs.Computed.{fourteen}
+use borrow.Author.Rules.{rules}
+use Rattle.hyperplonk_prepare.proofs.needed.question_14.Goals as goal
+
+pub returns : goal.returns
+returns c = fourteen c.args.circuit.now c.requires.0 _ _ c.args.columns c.args.nodes c.column_words-words.ensures c.composed_nodes-composed.ensures.0

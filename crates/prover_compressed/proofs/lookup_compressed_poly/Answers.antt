@@ -1,0 +1,106 @@
+-- `lookup_compressed_poly` meets its contract: a row a turn, and the instance columns stay as they are.
+use borrow.Author.Rules.{rules}
+use mathlib.Core.Path.{◌≡◌, sym, ap, ◌∙◌}
+use Prim.Native.Nat.{ℕ, ◌+◌, ◌-◌, ◌^◌}
+use native.Mathlib.Omega.{arith}
+use Rattle.field.specs.Field.{𝔾, val}
+use Rattle.field.specs.Element.{elem}
+use Rattle.bh.specs.Rows.{row_at, place_of}
+use Rattle.bh.proofs.Order.{row_zero}
+use Rattle.bh.proofs.Rows.{row_in, placed_at}
+use Rattle.lists.proofs.Turns.{Turned, turn_start, turn_more, turn_before, turn_end}
+use Rattle.prover.specs.Lent.{environment_from_words, compressed_in, roots_of}
+use Rattle.prover.proofs.Rows.{row_turns, read_there, read_word}
+use Rattle.prover.proofs.PowerSums.{compressed_here}
+use Rattle.prover_compressed.proofs.lookup_compressed_poly.Goals as goal
+
+pub rows_of-rows-requires : goal.rows_of-rows-requires
+rows_of-rows-requires c = omega (arith, c.requires.0.small)
+
+pub overflow_mul-given : goal.overflow_mul-given
+overflow_mul-given c =
+    let pre = c.requires in
+    rw c.rows_of-rows.ensures (omega (arith, pre.0.before, pre.0.room))
+
+pub loop-place-init : goal.loop-place-init
+loop-place-init c =
+    let a = c.args in
+    let pre = c.requires in (
+      sym (row_zero a.poly.k),
+      turn_start _ _ _ _ (row_turns a.poly.k pre.0.positive pre.0.small) _ _ pre.0.room,
+    )
+
+pub slice_bounds-compressed_at-end : goal.slice_bounds-compressed_at-end
+slice_bounds-compressed_at-end c =
+    let pre = c.requires in
+    read_there _ _ _ _ _ _ _ c.rows_of-rows.ensures pre.0.before pre.0.room c.loop-place.invariant.1.size
+
+pub compressed_at-x-requires : goal.compressed_at-x-requires
+compressed_at-x-requires c =
+    let pre = c.requires in
+    let a = c.args in
+    let l = c.loop-place in (
+      pre.0.whole,
+      (
+        pre.0.given.small,
+        record {
+          positive = pre.0.positive;
+          small = pre.0.small;
+          inside = row_in a.poly.k l.row l.place pre.0.positive pre.0.small l.invariant.0;
+          placed = placed_at a.poly.k l.row l.place pre.0.positive pre.0.small (omega (arith, c.loop-place-test.true, c.rows_of-rows.ensures)) l.invariant.0;
+        },
+      ),
+      pre.1,
+      pre.2,
+    )
+
+pub overflow_add-columns : goal.overflow_add-columns
+overflow_add-columns c =
+    let pre = c.requires in
+    let l = c.loop-place in
+    omega (arith, pre.0.room, l.invariant.1.size, row_in c.args.poly.k l.row l.place pre.0.positive pre.0.small l.invariant.0)
+
+pub offset_bounds-columns-poly : goal.offset_bounds-columns-poly
+offset_bounds-columns-poly c =
+    let pre = c.requires in
+    let l = c.loop-place in
+    omega (arith, pre.0.room, l.invariant.1.size, row_in c.args.poly.k l.row l.place pre.0.positive pre.0.small l.invariant.0)
+
+pub bounds-columns-poly : goal.bounds-columns-poly
+bounds-columns-poly c =
+    let pre = c.requires in
+    let l = c.loop-place in
+    omega (arith, pre.0.room, l.invariant.1.size, row_in c.args.poly.k l.row l.place pre.0.positive pre.0.small l.invariant.0)
+
+pub row_after-row-requires : goal.row_after-row-requires
+row_after-row-requires c =
+    let pre = c.requires in
+    (pre.0.positive, pre.0.small, c.loop-place.invariant.0)
+
+pub overflow_add-place : goal.overflow_add-place
+overflow_add-place c = omega (arith, c.loop-place-test.true)
+
+pub loop-place-smaller : goal.loop-place-smaller
+loop-place-smaller c = omega (arith, c.loop-place-test.true)
+
+pub loop-place-preserved : goal.loop-place-preserved
+loop-place-preserved c =
+    let a = c.args in
+    let pre = c.requires in
+    let l = c.loop-place in
+    let rows = c.rows_of-rows in (
+      c.row_after-row.ensures.0,
+      turn_more _ _ _ _ (row_turns a.poly.k pre.0.positive pre.0.small) _ _ pre.0.room _ _ l.invariant.1 (omega (arith, c.loop-place-test.true, rows.ensures)) _ (ap (λ (x : ℕ). a.poly.to + x) l.invariant.0) _
+          (compressed_here a.poly.k pre.0.small a.poly.layout pre.0.given a.circuit.now a.witness.now a.challenges.now (elem a.poly.beta) _ a.columns.now
+          (λ j h. read_word l.columns a.columns.now a.poly.layout.instances _ a.poly.k a.poly.to j rows.ensures pre.0.before (turn_before _ _ _ _ (row_turns a.poly.k pre.0.positive pre.0.small) _ _ pre.0.room _ _ l.invariant.1) h)
+          (roots_of a.nodes.now a.pairs.now a.poly.roots) l.row l.place _ (row_in a.poly.k l.row l.place pre.0.positive pre.0.small l.invariant.0) (c.to_u64.ensures ∙ ap val c.compressed_at-x.ensures)
+          ∙ ap (λ (x : ℕ). val (compressed_in 𝔾 (environment_from_words a.circuit.now a.witness.now a.columns.now a.challenges.now a.poly.layout a.poly.k) (elem a.poly.beta) (roots_of a.nodes.now a.pairs.now a.poly.roots) x)) l.invariant.0),
+    )
+
+pub shape_of-columns : goal.shape_of-columns
+shape_of-columns c = c.loop-place.invariant.1.size
+
+pub returns : goal.returns
+returns c =
+    let pre = c.requires in
+    turn_end _ _ _ _ (row_turns c.args.poly.k pre.0.positive pre.0.small) _ _ pre.0.room _ _ c.loop-place.invariant.1 (omega (arith, c.loop-place-test.false, c.rows_of-rows.ensures))

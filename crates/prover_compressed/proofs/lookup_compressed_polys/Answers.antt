@@ -1,0 +1,98 @@
+-- `lookup_compressed_polys` meets its contract: after i turns the columns of the first i lookups stand there.
+use borrow.Author.Rules.{rules}
+use mathlib.Core.Path.{◌≡◌, refl, sym, ap, ap₂, ◌∙◌}
+use mathlib.Core.List.{List}
+use Prim.Native.Nat.{ℕ, ◌+◌, ◌-◌, ◌*◌, ◌^◌, ◌≤◌}
+use native.Mathlib.Nat.{add-zero, zero-mul}
+use native.Mathlib.Omega.{arith}
+use lib.ListN.{length, take}
+use lib.Seq.{take_all}
+use Rattle.field.specs.Field.{𝔾}
+use Rattle.field.specs.Element.{elem}
+use Rattle.lists.specs.Lists.{write_at, split, total}
+use Rattle.lists.proofs.Parts.{total_more, part_there}
+use Rattle.backend.specs.Circuit.{pairs_of}
+use Rattle.prover.specs.Words.{words_of}
+use Rattle.prover.specs.Lent.{environment_from_words, compressed_polys_in}
+use Rattle.prover.proofs.PowerSums.{all_start, all_more, lookup_there, lookup_next}
+use Rattle.prover_compressed.proofs.lookup_compressed_polys.Goals as goal
+
+none : (ns : List ℕ) → 0 ≡ total (take 0 ns)
+unfolding total
+none ns = refl
+
+pub rows_of-rows-requires : goal.rows_of-rows-requires
+rows_of-rows-requires c = omega (arith, c.requires.0.small)
+
+pub loop-i-init : goal.loop-i-init
+loop-i-init c =
+    let a = c.args in
+    let pre = c.requires in (
+      omega arith,
+      none a.widths.now,
+      sym (ap (λ (x : ℕ). a.polys.to + x) (zero-mul (2 ^ a.polys.k + 2 ^ a.polys.k)) ∙ add-zero a.polys.to),
+      refl,
+      all_start a.polys.k pre.0.small _ pre.0.given _ _ _ _ a.nodes.now a.pairs.now _ _,
+    )
+
+pub compressed_pair-requires : goal.compressed_pair-requires
+compressed_pair-requires c =
+    let pre = c.requires in
+    let l = c.loop-i in
+    let test = c.loop-i-test in
+    let a = c.args in (
+      record {
+        whole = pre.0.whole;
+        positive = pre.0.positive;
+        small = pre.0.small;
+        given = pre.0.given;
+        before = omega (arith, pre.0.before, l.invariant.2);
+        room = rw l.invariant.3 (lookup_there _ _ _ _ _ _ test.true l.invariant.2 pre.0.room);
+      },
+      omega (arith, part_there _ _ test.true _ _ l.invariant.1 (let q : total a.widths.now ≤ total a.widths.now = omega arith in q), c.index-width.ensures, pre.1),
+      refl,
+    )
+
+pub overflow_add-start : goal.overflow_add-start
+overflow_add-start c =
+    let a = c.args in
+    omega (arith, part_there _ _ c.loop-i-test.true _ _ c.loop-i.invariant.1 (let q : total a.widths.now ≤ total a.widths.now = omega arith in q), c.index-width.ensures, c.requires.1)
+
+pub overflow_add-at : goal.overflow_add-at
+overflow_add-at c = omega (arith, lookup_there _ _ _ _ _ _ c.loop-i-test.true c.loop-i.invariant.2 c.requires.0.room, c.rows_of-rows.ensures)
+
+pub overflow_add-at-in-loop-i : goal.overflow_add-at-in-loop-i
+overflow_add-at-in-loop-i c = omega (arith, lookup_there _ _ _ _ _ _ c.loop-i-test.true c.loop-i.invariant.2 c.requires.0.room, c.rows_of-rows.ensures)
+
+pub overflow_add-i : goal.overflow_add-i
+overflow_add-i c = omega (arith, c.loop-i-test.true)
+
+pub loop-i-smaller : goal.loop-i-smaller
+loop-i-smaller c = omega (arith, c.loop-i-test.true)
+
+pub loop-i-preserved : goal.loop-i-preserved
+loop-i-preserved c =
+    let test = c.loop-i-test in
+    let l = c.loop-i in
+    let index = c.index-width in
+    let a = c.args in
+    let compressed-pair = c.compressed_pair in
+    let pre = c.requires in (
+      omega (arith, test.true),
+      ap₂ ◌+◌ l.invariant.1 index.ensures ∙ total_more a.widths.now l.i test.true,
+      lookup_next l.i (2 ^ a.polys.k) a.polys.to l.at _ l.invariant.2 c.rows_of-rows.ensures,
+      compressed-pair.auto.columns ∙ l.invariant.3,
+      all_more a.polys.k pre.0.small _ pre.0.given _ _ _ _ a.nodes.now a.pairs.now a.widths.now l.i test.true a.columns.now l.columns _ a.polys.to l.at l.start _
+          pre.0.before (omega (arith, lookup_there _ _ _ _ _ _ test.true l.invariant.2 pre.0.room)) l.invariant.1 index.ensures l.invariant.2 l.invariant.4 compressed-pair.ensures,
+    )
+
+pub shape_of-columns : goal.shape_of-columns
+shape_of-columns c = c.loop-i.invariant.3
+
+pub returns : goal.returns
+returns c =
+    let l = c.loop-i in
+    let a = c.args in
+    l.invariant.4
+    ∙ ap (λ (ws : List ℕ). write_at a.columns.now a.polys.to (words_of (2 ^ a.polys.k) (compressed_polys_in 𝔾 (environment_from_words a.circuit.now a.witness.now a.columns.now a.challenges.now a.polys.layout a.polys.k) (elem a.polys.beta) (split ws (pairs_of a.nodes.now a.pairs.now)))))
+    (take_all l.i a.widths.now c.loop-i-test.false)

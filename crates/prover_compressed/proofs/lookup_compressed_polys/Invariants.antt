@@ -1,0 +1,27 @@
+use borrow.Author.Rules.{rules}
+use mathlib.Core.Path.{◌≡◌, refl, sym, ap, ap₂, ◌∙◌}
+use mathlib.Core.List.{List}
+use Prim.Native.Nat.{ℕ, ◌+◌, ◌-◌, ◌*◌, ◌^◌, ◌≤◌}
+use native.Mathlib.Nat.{add-zero, zero-mul}
+use native.Mathlib.Omega.{arith}
+use lib.ListN.{length, take}
+use lib.Seq.{take_all}
+use Rattle.field.specs.Field.{𝔾}
+use Rattle.field.specs.Element.{elem}
+use Rattle.lists.specs.Lists.{write_at, split, total}
+use Rattle.lists.proofs.Parts.{total_more, part_there}
+use Rattle.backend.specs.Circuit.{pairs_of}
+use Rattle.prover.specs.Words.{words_of}
+use Rattle.prover.specs.Lent.{environment_from_words, compressed_polys_in}
+use Rattle.prover.proofs.PowerSums.{all_start, all_more, lookup_there, lookup_next}
+use Rattle.prover_compressed.proofs.lookup_compressed_polys.Given as goal
+
+abbrev pub invariant-loop-i : goal.invariant-loop-i
+invariant-loop-i l = (l.i ≤ length l.widths)
+    × (l.start ≡ total (take l.i l.widths))
+    × (l.at ≡ l.polys.to + l.i * (2 ^ l.polys.k + 2 ^ l.polys.k))
+    × (length l.columns ≡ length l.initial.columns)
+    × (l.columns ≡ write_at l.initial.columns l.polys.to (words_of (2 ^ l.polys.k) (compressed_polys_in 𝔾 (environment_from_words l.circuit l.witness l.initial.columns l.challenges l.polys.layout l.polys.k) (elem l.polys.beta) (split (take l.i l.widths) (pairs_of l.nodes l.pairs)))))
+
+abbrev pub decreases-loop-i : goal.decreases-loop-i
+decreases-loop-i l = length l.widths - l.i

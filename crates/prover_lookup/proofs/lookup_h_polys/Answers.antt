@@ -1,0 +1,106 @@
+-- `lookup_h_polys` meets its contract: after j turns h of the first j groups stands there, and no denominator of theirs is zero.
+use borrow.Author.Rules.{rules}
+use Prim.Native.Nat.{◌+◌, ◌-◌, ◌*◌, ◌≤◌}
+use native.Mathlib.Omega.{arith}
+use lib.ListN.{length, get_or}
+use Rattle.field.specs.Element.{elem}
+use Rattle.prover_lookup.proofs.Places.{pair_turn}
+use Rattle.prover_lookup.proofs.Hs.{
+  HsUpto,
+  hs_start,
+  hs_end,
+  hs_size,
+  hs_more,
+  hs_stop,
+  size_some,
+  group_behind,
+  counts_there,
+  h_there,
+  h_behind,
+}
+use Rattle.prover_lookup.proofs.lookup_h_polys.Goals as goal
+
+pub loop-j-init : goal.loop-j-init
+loop-j-init c =
+    let a = c.args in
+    hs_start a.columns.now a.sizes.now a.compressed a.m a.h (elem a.gamma) a.rows
+
+pub lookup_h_poly-outcome-requires : goal.lookup_h_poly-outcome-requires
+lookup_h_poly-outcome-requires c =
+    let l = c.loop-j in
+    let t = (let l = c.loop-j in (
+      group_behind _ _ _ _ _ _ _ c.requires.0 c.requires.1 c.requires.2 c.requires.3 _ _ _ _ _ l.invariant c.loop-j-test.true,
+      counts_there _ _ _ _ _ _ _ c.requires.0 c.requires.1 c.requires.2 c.requires.3 _ _ _ _ _ l.invariant c.loop-j-test.true,
+      h_there _ _ _ _ _ _ _ c.requires.0 c.requires.1 c.requires.2 c.requires.3 _ _ _ _ _ l.invariant c.loop-j-test.true,
+      h_behind _ _ _ _ _ _ _ c.requires.0 c.requires.1 c.requires.2 c.requires.3 _ _ _ _ _ l.invariant c.loop-j-test.true,
+    )) in (
+      size_some _ _ _ _ _ _ _ c.requires.0 c.requires.1 c.requires.2 c.requires.3 _ _ _ _ _ l.invariant c.loop-j-test.true,
+      omega (arith, t.0, t.3),
+      omega (arith, t.1, t.3),
+      omega (arith, t.2, l.invariant.size),
+    )
+
+pub shape_of-columns-in-ZeroDenominator : goal.shape_of-columns-in-ZeroDenominator
+shape_of-columns-in-ZeroDenominator c =
+    hs_size _ _ _ _ _ _ _ c.requires.0 c.requires.1 c.requires.2 c.requires.3 _ _ _ _ _ c.loop-j.invariant c.loop-j-test.true _ _ c.lookup_h_poly-outcome.ensures
+
+pub returns-in-ZeroDenominator : goal.returns-in-ZeroDenominator
+returns-in-ZeroDenominator c =
+    hs_stop _ _ _ _ _ _ _ c.requires.0 c.requires.1 c.requires.2 c.requires.3 _ _ _ _ _ c.loop-j.invariant c.loop-j-test.true _ _ c.lookup_h_poly-outcome.ensures c.in-ZeroDenominator.is
+
+pub overflow_mul-input : goal.overflow_mul-input
+overflow_mul-input c = omega (arith, (let a = c.args in
+    let l = c.loop-j in
+    omega (arith, ((let l = c.loop-j in (
+      group_behind _ _ _ _ _ _ _ c.requires.0 c.requires.1 c.requires.2 c.requires.3 _ _ _ _ _ l.invariant c.loop-j-test.true,
+      counts_there _ _ _ _ _ _ _ c.requires.0 c.requires.1 c.requires.2 c.requires.3 _ _ _ _ _ l.invariant c.loop-j-test.true,
+      h_there _ _ _ _ _ _ _ c.requires.0 c.requires.1 c.requires.2 c.requires.3 _ _ _ _ _ l.invariant c.loop-j-test.true,
+      h_behind _ _ _ _ _ _ _ c.requires.0 c.requires.1 c.requires.2 c.requires.3 _ _ _ _ _ l.invariant c.loop-j-test.true,
+    ))).0, pair_turn (get_or a.sizes.now l.j 0) a.rows)), c.ranges.h)
+
+pub overflow_mul-input-in-loop-j : goal.overflow_mul-input-in-loop-j
+overflow_mul-input-in-loop-j c = omega (arith, (let a = c.args in
+    let l = c.loop-j in
+    omega (arith, ((let l = c.loop-j in (
+      group_behind _ _ _ _ _ _ _ c.requires.0 c.requires.1 c.requires.2 c.requires.3 _ _ _ _ _ l.invariant c.loop-j-test.true,
+      counts_there _ _ _ _ _ _ _ c.requires.0 c.requires.1 c.requires.2 c.requires.3 _ _ _ _ _ l.invariant c.loop-j-test.true,
+      h_there _ _ _ _ _ _ _ c.requires.0 c.requires.1 c.requires.2 c.requires.3 _ _ _ _ _ l.invariant c.loop-j-test.true,
+      h_behind _ _ _ _ _ _ _ c.requires.0 c.requires.1 c.requires.2 c.requires.3 _ _ _ _ _ l.invariant c.loop-j-test.true,
+    ))).0, pair_turn (get_or a.sizes.now l.j 0) a.rows)), c.ranges.h)
+
+pub overflow_add-input : goal.overflow_add-input
+overflow_add-input c = omega (arith, (let a = c.args in
+    let l = c.loop-j in
+    omega (arith, ((let l = c.loop-j in (
+      group_behind _ _ _ _ _ _ _ c.requires.0 c.requires.1 c.requires.2 c.requires.3 _ _ _ _ _ l.invariant c.loop-j-test.true,
+      counts_there _ _ _ _ _ _ _ c.requires.0 c.requires.1 c.requires.2 c.requires.3 _ _ _ _ _ l.invariant c.loop-j-test.true,
+      h_there _ _ _ _ _ _ _ c.requires.0 c.requires.1 c.requires.2 c.requires.3 _ _ _ _ _ l.invariant c.loop-j-test.true,
+      h_behind _ _ _ _ _ _ _ c.requires.0 c.requires.1 c.requires.2 c.requires.3 _ _ _ _ _ l.invariant c.loop-j-test.true,
+    ))).0, pair_turn (get_or a.sizes.now l.j 0) a.rows)), c.ranges.h)
+
+pub overflow_add-counts : goal.overflow_add-counts
+overflow_add-counts c = omega (arith, ((let l = c.loop-j in (
+      group_behind _ _ _ _ _ _ _ c.requires.0 c.requires.1 c.requires.2 c.requires.3 _ _ _ _ _ l.invariant c.loop-j-test.true,
+      counts_there _ _ _ _ _ _ _ c.requires.0 c.requires.1 c.requires.2 c.requires.3 _ _ _ _ _ l.invariant c.loop-j-test.true,
+      h_there _ _ _ _ _ _ _ c.requires.0 c.requires.1 c.requires.2 c.requires.3 _ _ _ _ _ l.invariant c.loop-j-test.true,
+      h_behind _ _ _ _ _ _ _ c.requires.0 c.requires.1 c.requires.2 c.requires.3 _ _ _ _ _ l.invariant c.loop-j-test.true,
+    ))).1, c.ranges.h)
+
+pub overflow_add-to : goal.overflow_add-to
+overflow_add-to c = omega (arith, ((let l = c.loop-j in (
+      group_behind _ _ _ _ _ _ _ c.requires.0 c.requires.1 c.requires.2 c.requires.3 _ _ _ _ _ l.invariant c.loop-j-test.true,
+      counts_there _ _ _ _ _ _ _ c.requires.0 c.requires.1 c.requires.2 c.requires.3 _ _ _ _ _ l.invariant c.loop-j-test.true,
+      h_there _ _ _ _ _ _ _ c.requires.0 c.requires.1 c.requires.2 c.requires.3 _ _ _ _ _ l.invariant c.loop-j-test.true,
+      h_behind _ _ _ _ _ _ _ c.requires.0 c.requires.1 c.requires.2 c.requires.3 _ _ _ _ _ l.invariant c.loop-j-test.true,
+    ))).2)
+
+pub loop-j-preserved : goal.loop-j-preserved
+loop-j-preserved c =
+    hs_more _ _ _ _ _ _ _ c.requires.0 c.requires.1 c.requires.2 c.requires.3 _ _ _ _ _ c.loop-j.invariant c.loop-j-test.true _ _ c.lookup_h_poly-outcome.ensures c.in-Written.is
+
+pub shape_of-columns : goal.shape_of-columns
+shape_of-columns c = c.loop-j.invariant.size
+
+pub returns : goal.returns
+returns c =
+    hs_end _ _ _ _ _ _ _ c.requires.0 c.requires.1 c.requires.2 c.requires.3 _ _ _ _ _ c.loop-j.invariant c.loop-j-test.false

@@ -1,0 +1,93 @@
+-- `lookup_m_polys` meets its contract: after j turns the counts of the first j groups stand there, all of them covered.
+use borrow.Author.Rules.{rules}
+use borrow.Author.Tests.{not-true, not-false}
+use Prim.Native.Nat.{◌+◌, ◌-◌, ◌*◌, ◌≤◌}
+use native.Mathlib.Omega.{arith}
+use lib.ListN.{length, get_or}
+use Rattle.prover_lookup.proofs.Places.{pair_turn}
+use Rattle.prover_lookup.proofs.Counted.{
+  CountedUpto,
+  counted_start,
+  counted_end,
+  counted_size,
+  counted_more,
+  counted_stop,
+  group_behind,
+  counts_there,
+  counts_behind,
+  group_small,
+}
+use Rattle.prover_lookup.proofs.lookup_m_polys.Goals as goal
+
+pub loop-j-init : goal.loop-j-init
+loop-j-init c =
+    let a = c.args in
+    counted_start a.columns.now a.sizes.now a.compressed a.m a.rows
+
+pub lookup_m_poly-covered-requires : goal.lookup_m_poly-covered-requires
+lookup_m_poly-covered-requires c =
+    let l = c.loop-j in
+    let t = (let l = c.loop-j in (
+      group_behind _ _ _ _ _ c.requires.0 c.requires.1 c.requires.2 _ _ _ _ l.invariant c.loop-j-test.true,
+      counts_there _ _ _ _ _ c.requires.0 c.requires.1 c.requires.2 _ _ _ _ l.invariant c.loop-j-test.true,
+      counts_behind _ _ _ _ _ c.requires.0 c.requires.1 c.requires.2 _ _ _ _ l.invariant c.loop-j-test.true,
+    )) in (
+      omega (arith, t.0, t.2),
+      omega (arith, t.1, l.invariant.size),
+      group_small _ _ _ _ _ c.requires.0 c.requires.1 c.requires.2 _ _ _ _ l.invariant c.loop-j-test.true c.requires.3,
+    )
+
+pub shape_of-columns-then-not-covered : goal.shape_of-columns-then-not-covered
+shape_of-columns-then-not-covered c =
+    counted_size _ _ _ _ _ c.requires.0 c.requires.1 c.requires.2 _ _ _ _ c.loop-j.invariant c.loop-j-test.true _ _ c.lookup_m_poly-covered.ensures.0
+
+pub returns-then-not-covered : goal.returns-then-not-covered
+returns-then-not-covered c =
+    counted_stop _ _ _ _ _ c.requires.0 c.requires.1 c.requires.2 _ _ _ _ c.loop-j.invariant c.loop-j-test.true _ _ c.lookup_m_poly-covered.ensures.0
+    (c.if-not-covered.true)
+
+pub overflow_mul-input : goal.overflow_mul-input
+overflow_mul-input c = omega (arith, (let a = c.args in
+    let l = c.loop-j in
+    omega (arith, ((let l = c.loop-j in (
+      group_behind _ _ _ _ _ c.requires.0 c.requires.1 c.requires.2 _ _ _ _ l.invariant c.loop-j-test.true,
+      counts_there _ _ _ _ _ c.requires.0 c.requires.1 c.requires.2 _ _ _ _ l.invariant c.loop-j-test.true,
+      counts_behind _ _ _ _ _ c.requires.0 c.requires.1 c.requires.2 _ _ _ _ l.invariant c.loop-j-test.true,
+    ))).0, pair_turn (get_or a.sizes.now l.j 0) a.rows)), c.ranges.m)
+
+pub overflow_mul-input-in-loop-j : goal.overflow_mul-input-in-loop-j
+overflow_mul-input-in-loop-j c = omega (arith, (let a = c.args in
+    let l = c.loop-j in
+    omega (arith, ((let l = c.loop-j in (
+      group_behind _ _ _ _ _ c.requires.0 c.requires.1 c.requires.2 _ _ _ _ l.invariant c.loop-j-test.true,
+      counts_there _ _ _ _ _ c.requires.0 c.requires.1 c.requires.2 _ _ _ _ l.invariant c.loop-j-test.true,
+      counts_behind _ _ _ _ _ c.requires.0 c.requires.1 c.requires.2 _ _ _ _ l.invariant c.loop-j-test.true,
+    ))).0, pair_turn (get_or a.sizes.now l.j 0) a.rows)), c.ranges.m)
+
+pub overflow_add-input : goal.overflow_add-input
+overflow_add-input c = omega (arith, (let a = c.args in
+    let l = c.loop-j in
+    omega (arith, ((let l = c.loop-j in (
+      group_behind _ _ _ _ _ c.requires.0 c.requires.1 c.requires.2 _ _ _ _ l.invariant c.loop-j-test.true,
+      counts_there _ _ _ _ _ c.requires.0 c.requires.1 c.requires.2 _ _ _ _ l.invariant c.loop-j-test.true,
+      counts_behind _ _ _ _ _ c.requires.0 c.requires.1 c.requires.2 _ _ _ _ l.invariant c.loop-j-test.true,
+    ))).0, pair_turn (get_or a.sizes.now l.j 0) a.rows)), c.ranges.m)
+
+pub overflow_add-to : goal.overflow_add-to
+overflow_add-to c = omega (arith, ((let l = c.loop-j in (
+      group_behind _ _ _ _ _ c.requires.0 c.requires.1 c.requires.2 _ _ _ _ l.invariant c.loop-j-test.true,
+      counts_there _ _ _ _ _ c.requires.0 c.requires.1 c.requires.2 _ _ _ _ l.invariant c.loop-j-test.true,
+      counts_behind _ _ _ _ _ c.requires.0 c.requires.1 c.requires.2 _ _ _ _ l.invariant c.loop-j-test.true,
+    ))).1)
+
+pub loop-j-preserved : goal.loop-j-preserved
+loop-j-preserved c =
+    counted_more _ _ _ _ _ c.requires.0 c.requires.1 c.requires.2 _ _ _ _ c.loop-j.invariant c.loop-j-test.true _ _ c.lookup_m_poly-covered.ensures.0
+    (c.if-not-covered.false)
+
+pub shape_of-columns : goal.shape_of-columns
+shape_of-columns c = c.loop-j.invariant.size
+
+pub returns : goal.returns
+returns c =
+    counted_end _ _ _ _ _ c.requires.0 c.requires.1 c.requires.2 _ _ _ _ c.loop-j.invariant c.loop-j-test.false
