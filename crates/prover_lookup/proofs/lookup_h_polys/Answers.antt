@@ -28,16 +28,14 @@ loop-j-init c =
 pub lookup_h_poly-outcome-requires : goal.lookup_h_poly-outcome-requires
 lookup_h_poly-outcome-requires c =
     let l = c.loop-j in
-    let t = (let l = c.loop-j in (
-      group_behind _ _ _ _ _ _ _ c.requires.0 c.requires.1 c.requires.2 c.requires.3 _ _ _ _ _ l.invariant c.loop-j-test.true,
-      counts_there _ _ _ _ _ _ _ c.requires.0 c.requires.1 c.requires.2 c.requires.3 _ _ _ _ _ l.invariant c.loop-j-test.true,
-      h_there _ _ _ _ _ _ _ c.requires.0 c.requires.1 c.requires.2 c.requires.3 _ _ _ _ _ l.invariant c.loop-j-test.true,
-      h_behind _ _ _ _ _ _ _ c.requires.0 c.requires.1 c.requires.2 c.requires.3 _ _ _ _ _ l.invariant c.loop-j-test.true,
-    )) in (
+    let t0 = group_behind _ _ _ _ _ _ _ c.requires.0 c.requires.1 c.requires.2 c.requires.3 _ _ _ _ _ c.loop-j.invariant c.loop-j-test.true in
+    let t1 = counts_there _ _ _ _ _ _ _ c.requires.0 c.requires.1 c.requires.2 c.requires.3 _ _ _ _ _ c.loop-j.invariant c.loop-j-test.true in
+    let t2 = h_there _ _ _ _ _ _ _ c.requires.0 c.requires.1 c.requires.2 c.requires.3 _ _ _ _ _ c.loop-j.invariant c.loop-j-test.true in
+    let t3 = h_behind _ _ _ _ _ _ _ c.requires.0 c.requires.1 c.requires.2 c.requires.3 _ _ _ _ _ c.loop-j.invariant c.loop-j-test.true in (
       size_some _ _ _ _ _ _ _ c.requires.0 c.requires.1 c.requires.2 c.requires.3 _ _ _ _ _ l.invariant c.loop-j-test.true,
-      omega (arith, t.0, t.3),
-      omega (arith, t.1, t.3),
-      omega (arith, t.2, l.invariant.size),
+      omega (arith, t0, t3),
+      omega (arith, t1, t3),
+      omega (arith, t2, l.invariant.size),
     )
 
 pub shape_of-columns-in-ZeroDenominator : goal.shape_of-columns-in-ZeroDenominator
@@ -49,50 +47,19 @@ returns-in-ZeroDenominator c =
     hs_stop _ _ _ _ _ _ _ c.requires.0 c.requires.1 c.requires.2 c.requires.3 _ _ _ _ _ c.loop-j.invariant c.loop-j-test.true _ _ c.lookup_h_poly-outcome.ensures c.in-ZeroDenominator.is
 
 pub overflow_mul-input : goal.overflow_mul-input
-overflow_mul-input c = omega (arith, (let a = c.args in
-    let l = c.loop-j in
-    omega (arith, ((let l = c.loop-j in (
-      group_behind _ _ _ _ _ _ _ c.requires.0 c.requires.1 c.requires.2 c.requires.3 _ _ _ _ _ l.invariant c.loop-j-test.true,
-      counts_there _ _ _ _ _ _ _ c.requires.0 c.requires.1 c.requires.2 c.requires.3 _ _ _ _ _ l.invariant c.loop-j-test.true,
-      h_there _ _ _ _ _ _ _ c.requires.0 c.requires.1 c.requires.2 c.requires.3 _ _ _ _ _ l.invariant c.loop-j-test.true,
-      h_behind _ _ _ _ _ _ _ c.requires.0 c.requires.1 c.requires.2 c.requires.3 _ _ _ _ _ l.invariant c.loop-j-test.true,
-    ))).0, pair_turn (get_or a.sizes.now l.j 0) a.rows)), c.ranges.h)
+overflow_mul-input c = omega (arith, group_behind _ _ _ _ _ _ _ c.requires.0 c.requires.1 c.requires.2 c.requires.3 _ _ _ _ _ c.loop-j.invariant c.loop-j-test.true, pair_turn (get_or c.args.sizes.now c.loop-j.j 0) c.args.rows, c.ranges.h)
 
 pub overflow_mul-input-in-loop-j : goal.overflow_mul-input-in-loop-j
-overflow_mul-input-in-loop-j c = omega (arith, (let a = c.args in
-    let l = c.loop-j in
-    omega (arith, ((let l = c.loop-j in (
-      group_behind _ _ _ _ _ _ _ c.requires.0 c.requires.1 c.requires.2 c.requires.3 _ _ _ _ _ l.invariant c.loop-j-test.true,
-      counts_there _ _ _ _ _ _ _ c.requires.0 c.requires.1 c.requires.2 c.requires.3 _ _ _ _ _ l.invariant c.loop-j-test.true,
-      h_there _ _ _ _ _ _ _ c.requires.0 c.requires.1 c.requires.2 c.requires.3 _ _ _ _ _ l.invariant c.loop-j-test.true,
-      h_behind _ _ _ _ _ _ _ c.requires.0 c.requires.1 c.requires.2 c.requires.3 _ _ _ _ _ l.invariant c.loop-j-test.true,
-    ))).0, pair_turn (get_or a.sizes.now l.j 0) a.rows)), c.ranges.h)
+overflow_mul-input-in-loop-j c = omega (arith, group_behind _ _ _ _ _ _ _ c.requires.0 c.requires.1 c.requires.2 c.requires.3 _ _ _ _ _ c.loop-j.invariant c.loop-j-test.true, pair_turn (get_or c.args.sizes.now c.loop-j.j 0) c.args.rows, c.ranges.h)
 
 pub overflow_add-input : goal.overflow_add-input
-overflow_add-input c = omega (arith, (let a = c.args in
-    let l = c.loop-j in
-    omega (arith, ((let l = c.loop-j in (
-      group_behind _ _ _ _ _ _ _ c.requires.0 c.requires.1 c.requires.2 c.requires.3 _ _ _ _ _ l.invariant c.loop-j-test.true,
-      counts_there _ _ _ _ _ _ _ c.requires.0 c.requires.1 c.requires.2 c.requires.3 _ _ _ _ _ l.invariant c.loop-j-test.true,
-      h_there _ _ _ _ _ _ _ c.requires.0 c.requires.1 c.requires.2 c.requires.3 _ _ _ _ _ l.invariant c.loop-j-test.true,
-      h_behind _ _ _ _ _ _ _ c.requires.0 c.requires.1 c.requires.2 c.requires.3 _ _ _ _ _ l.invariant c.loop-j-test.true,
-    ))).0, pair_turn (get_or a.sizes.now l.j 0) a.rows)), c.ranges.h)
+overflow_add-input c = omega (arith, group_behind _ _ _ _ _ _ _ c.requires.0 c.requires.1 c.requires.2 c.requires.3 _ _ _ _ _ c.loop-j.invariant c.loop-j-test.true, pair_turn (get_or c.args.sizes.now c.loop-j.j 0) c.args.rows, c.ranges.h)
 
 pub overflow_add-counts : goal.overflow_add-counts
-overflow_add-counts c = omega (arith, ((let l = c.loop-j in (
-      group_behind _ _ _ _ _ _ _ c.requires.0 c.requires.1 c.requires.2 c.requires.3 _ _ _ _ _ l.invariant c.loop-j-test.true,
-      counts_there _ _ _ _ _ _ _ c.requires.0 c.requires.1 c.requires.2 c.requires.3 _ _ _ _ _ l.invariant c.loop-j-test.true,
-      h_there _ _ _ _ _ _ _ c.requires.0 c.requires.1 c.requires.2 c.requires.3 _ _ _ _ _ l.invariant c.loop-j-test.true,
-      h_behind _ _ _ _ _ _ _ c.requires.0 c.requires.1 c.requires.2 c.requires.3 _ _ _ _ _ l.invariant c.loop-j-test.true,
-    ))).1, c.ranges.h)
+overflow_add-counts c = omega (arith, counts_there _ _ _ _ _ _ _ c.requires.0 c.requires.1 c.requires.2 c.requires.3 _ _ _ _ _ c.loop-j.invariant c.loop-j-test.true, c.ranges.h)
 
 pub overflow_add-to : goal.overflow_add-to
-overflow_add-to c = omega (arith, ((let l = c.loop-j in (
-      group_behind _ _ _ _ _ _ _ c.requires.0 c.requires.1 c.requires.2 c.requires.3 _ _ _ _ _ l.invariant c.loop-j-test.true,
-      counts_there _ _ _ _ _ _ _ c.requires.0 c.requires.1 c.requires.2 c.requires.3 _ _ _ _ _ l.invariant c.loop-j-test.true,
-      h_there _ _ _ _ _ _ _ c.requires.0 c.requires.1 c.requires.2 c.requires.3 _ _ _ _ _ l.invariant c.loop-j-test.true,
-      h_behind _ _ _ _ _ _ _ c.requires.0 c.requires.1 c.requires.2 c.requires.3 _ _ _ _ _ l.invariant c.loop-j-test.true,
-    ))).2)
+overflow_add-to c = omega (arith, h_there _ _ _ _ _ _ _ c.requires.0 c.requires.1 c.requires.2 c.requires.3 _ _ _ _ _ c.loop-j.invariant c.loop-j-test.true)
 
 pub loop-j-preserved : goal.loop-j-preserved
 loop-j-preserved c =

@@ -27,62 +27,38 @@ loop-j-init c =
 pub lookup_m_poly-covered-requires : goal.lookup_m_poly-covered-requires
 lookup_m_poly-covered-requires c =
     let l = c.loop-j in
-    let t = (let l = c.loop-j in (
-      group_behind _ _ _ _ _ c.requires.0 c.requires.1 c.requires.2 _ _ _ _ l.invariant c.loop-j-test.true,
-      counts_there _ _ _ _ _ c.requires.0 c.requires.1 c.requires.2 _ _ _ _ l.invariant c.loop-j-test.true,
-      counts_behind _ _ _ _ _ c.requires.0 c.requires.1 c.requires.2 _ _ _ _ l.invariant c.loop-j-test.true,
-    )) in (
-      omega (arith, t.0, t.2),
-      omega (arith, t.1, l.invariant.size),
+    let t0 = group_behind _ _ _ _ _ c.requires.0 c.requires.1 c.requires.2 _ _ _ _ c.loop-j.invariant c.loop-j-test.true in
+    let t1 = counts_there _ _ _ _ _ c.requires.0 c.requires.1 c.requires.2 _ _ _ _ c.loop-j.invariant c.loop-j-test.true in
+    let t2 = counts_behind _ _ _ _ _ c.requires.0 c.requires.1 c.requires.2 _ _ _ _ c.loop-j.invariant c.loop-j-test.true in (
+      omega (arith, t0, t2),
+      omega (arith, t1, l.invariant.size),
       group_small _ _ _ _ _ c.requires.0 c.requires.1 c.requires.2 _ _ _ _ l.invariant c.loop-j-test.true c.requires.3,
     )
 
 pub shape_of-columns-then-not-covered : goal.shape_of-columns-then-not-covered
 shape_of-columns-then-not-covered c =
-    counted_size _ _ _ _ _ c.requires.0 c.requires.1 c.requires.2 _ _ _ _ c.loop-j.invariant c.loop-j-test.true _ _ c.lookup_m_poly-covered.ensures.0
+    counted_size _ _ _ _ _ c.requires.0 c.requires.1 c.requires.2 _ _ _ _ c.loop-j.invariant c.loop-j-test.true _ _ c.lookup_m_poly-covered.ensures.counts
 
 pub returns-then-not-covered : goal.returns-then-not-covered
 returns-then-not-covered c =
-    counted_stop _ _ _ _ _ c.requires.0 c.requires.1 c.requires.2 _ _ _ _ c.loop-j.invariant c.loop-j-test.true _ _ c.lookup_m_poly-covered.ensures.0
+    counted_stop _ _ _ _ _ c.requires.0 c.requires.1 c.requires.2 _ _ _ _ c.loop-j.invariant c.loop-j-test.true _ _ c.lookup_m_poly-covered.ensures.counts
     (c.if-not-covered.true)
 
 pub overflow_mul-input : goal.overflow_mul-input
-overflow_mul-input c = omega (arith, (let a = c.args in
-    let l = c.loop-j in
-    omega (arith, ((let l = c.loop-j in (
-      group_behind _ _ _ _ _ c.requires.0 c.requires.1 c.requires.2 _ _ _ _ l.invariant c.loop-j-test.true,
-      counts_there _ _ _ _ _ c.requires.0 c.requires.1 c.requires.2 _ _ _ _ l.invariant c.loop-j-test.true,
-      counts_behind _ _ _ _ _ c.requires.0 c.requires.1 c.requires.2 _ _ _ _ l.invariant c.loop-j-test.true,
-    ))).0, pair_turn (get_or a.sizes.now l.j 0) a.rows)), c.ranges.m)
+overflow_mul-input c = omega (arith, group_behind _ _ _ _ _ c.requires.0 c.requires.1 c.requires.2 _ _ _ _ c.loop-j.invariant c.loop-j-test.true, pair_turn (get_or c.args.sizes.now c.loop-j.j 0) c.args.rows, c.ranges.m)
 
 pub overflow_mul-input-in-loop-j : goal.overflow_mul-input-in-loop-j
-overflow_mul-input-in-loop-j c = omega (arith, (let a = c.args in
-    let l = c.loop-j in
-    omega (arith, ((let l = c.loop-j in (
-      group_behind _ _ _ _ _ c.requires.0 c.requires.1 c.requires.2 _ _ _ _ l.invariant c.loop-j-test.true,
-      counts_there _ _ _ _ _ c.requires.0 c.requires.1 c.requires.2 _ _ _ _ l.invariant c.loop-j-test.true,
-      counts_behind _ _ _ _ _ c.requires.0 c.requires.1 c.requires.2 _ _ _ _ l.invariant c.loop-j-test.true,
-    ))).0, pair_turn (get_or a.sizes.now l.j 0) a.rows)), c.ranges.m)
+overflow_mul-input-in-loop-j c = omega (arith, group_behind _ _ _ _ _ c.requires.0 c.requires.1 c.requires.2 _ _ _ _ c.loop-j.invariant c.loop-j-test.true, pair_turn (get_or c.args.sizes.now c.loop-j.j 0) c.args.rows, c.ranges.m)
 
 pub overflow_add-input : goal.overflow_add-input
-overflow_add-input c = omega (arith, (let a = c.args in
-    let l = c.loop-j in
-    omega (arith, ((let l = c.loop-j in (
-      group_behind _ _ _ _ _ c.requires.0 c.requires.1 c.requires.2 _ _ _ _ l.invariant c.loop-j-test.true,
-      counts_there _ _ _ _ _ c.requires.0 c.requires.1 c.requires.2 _ _ _ _ l.invariant c.loop-j-test.true,
-      counts_behind _ _ _ _ _ c.requires.0 c.requires.1 c.requires.2 _ _ _ _ l.invariant c.loop-j-test.true,
-    ))).0, pair_turn (get_or a.sizes.now l.j 0) a.rows)), c.ranges.m)
+overflow_add-input c = omega (arith, group_behind _ _ _ _ _ c.requires.0 c.requires.1 c.requires.2 _ _ _ _ c.loop-j.invariant c.loop-j-test.true, pair_turn (get_or c.args.sizes.now c.loop-j.j 0) c.args.rows, c.ranges.m)
 
 pub overflow_add-to : goal.overflow_add-to
-overflow_add-to c = omega (arith, ((let l = c.loop-j in (
-      group_behind _ _ _ _ _ c.requires.0 c.requires.1 c.requires.2 _ _ _ _ l.invariant c.loop-j-test.true,
-      counts_there _ _ _ _ _ c.requires.0 c.requires.1 c.requires.2 _ _ _ _ l.invariant c.loop-j-test.true,
-      counts_behind _ _ _ _ _ c.requires.0 c.requires.1 c.requires.2 _ _ _ _ l.invariant c.loop-j-test.true,
-    ))).1)
+overflow_add-to c = omega (arith, counts_there _ _ _ _ _ c.requires.0 c.requires.1 c.requires.2 _ _ _ _ c.loop-j.invariant c.loop-j-test.true)
 
 pub loop-j-preserved : goal.loop-j-preserved
 loop-j-preserved c =
-    counted_more _ _ _ _ _ c.requires.0 c.requires.1 c.requires.2 _ _ _ _ c.loop-j.invariant c.loop-j-test.true _ _ c.lookup_m_poly-covered.ensures.0
+    counted_more _ _ _ _ _ c.requires.0 c.requires.1 c.requires.2 _ _ _ _ c.loop-j.invariant c.loop-j-test.true _ _ c.lookup_m_poly-covered.ensures.counts
     (c.if-not-covered.false)
 
 pub shape_of-columns : goal.shape_of-columns

@@ -27,6 +27,7 @@ use Rattle.prover_lookup.proofs.m.Added.{
 }
 use Rattle.prover_lookup.proofs.m.Down.{place_all, place_none, place_hit, place_miss}
 use Rattle.prover_lookup.proofs.m.count_inputs.Goals as goal
+use Rattle.prover_lookup.proofs.m.count_inputs.Goals.{then-at-table, else-at-table+then-columns-at}
 
 pub overflow_add-end : goal.overflow_add-end
 overflow_add-end c = omega (arith, c.requires)
@@ -81,30 +82,21 @@ overflow_add-columns c = omega (arith, (row_below _ _ _ _ ((found_at 𝔾 _ _ _ 
     let a = c.args in
     let d = c.loop-i.columns in
     let v = get_or d (a.input + c.loop-i.i) 0 in
-    ⊎_elim
-    (λ w. w.2 ∙ sym (l.invariant.2 ∙ place_none d a.table v l.at l.invariant.0 w.0.taken))
-    (λ w. w.4 ∙ sym (l.invariant.2 ∙ place_hit d a.table v l.at l.invariant.0 w.0.left w.2.taken))
-    c.if-at-table.branch)) ∙ c.in-At.is)))), c.requires.2)
+    elim c.if-at-table.branch [ then-at-table w ↦ w.found-is ∙ sym (l.invariant.2 ∙ place_none d a.table v l.at l.invariant.0 w.if-at-table.true) | else-at-table+then-columns-at w ↦ w.found-is ∙ sym (l.invariant.2 ∙ place_hit d a.table v l.at l.invariant.0 w.if-at-table.false w.if-columns-at.true) ])) ∙ c.in-At.is)))), c.requires.2)
 
 pub offset_bounds-columns-m : goal.offset_bounds-columns-m
 offset_bounds-columns-m c = omega (arith, (row_below _ _ _ _ ((found_at 𝔾 _ _ _ _ (sym ((let l = c.search in
     let a = c.args in
     let d = c.loop-i.columns in
     let v = get_or d (a.input + c.loop-i.i) 0 in
-    ⊎_elim
-    (λ w. w.2 ∙ sym (l.invariant.2 ∙ place_none d a.table v l.at l.invariant.0 w.0.taken))
-    (λ w. w.4 ∙ sym (l.invariant.2 ∙ place_hit d a.table v l.at l.invariant.0 w.0.left w.2.taken))
-    c.if-at-table.branch)) ∙ c.in-At.is)))), c.requires.2)
+    elim c.if-at-table.branch [ then-at-table w ↦ w.found-is ∙ sym (l.invariant.2 ∙ place_none d a.table v l.at l.invariant.0 w.if-at-table.true) | else-at-table+then-columns-at w ↦ w.found-is ∙ sym (l.invariant.2 ∙ place_hit d a.table v l.at l.invariant.0 w.if-at-table.false w.if-columns-at.true) ])) ∙ c.in-At.is)))), c.requires.2)
 
 pub bounds-columns-m : goal.bounds-columns-m
 bounds-columns-m c = omega (arith, (row_below _ _ _ _ ((found_at 𝔾 _ _ _ _ (sym ((let l = c.search in
     let a = c.args in
     let d = c.loop-i.columns in
     let v = get_or d (a.input + c.loop-i.i) 0 in
-    ⊎_elim
-    (λ w. w.2 ∙ sym (l.invariant.2 ∙ place_none d a.table v l.at l.invariant.0 w.0.taken))
-    (λ w. w.4 ∙ sym (l.invariant.2 ∙ place_hit d a.table v l.at l.invariant.0 w.0.left w.2.taken))
-    c.if-at-table.branch)) ∙ c.in-At.is)))), c.requires.2, c.loop-i.invariant.size)
+    elim c.if-at-table.branch [ then-at-table w ↦ w.found-is ∙ sym (l.invariant.2 ∙ place_none d a.table v l.at l.invariant.0 w.if-at-table.true) | else-at-table+then-columns-at w ↦ w.found-is ∙ sym (l.invariant.2 ∙ place_hit d a.table v l.at l.invariant.0 w.if-at-table.false w.if-columns-at.true) ])) ∙ c.in-At.is)))), c.requires.2, c.loop-i.invariant.size)
 
 pub overflow_add-columns-in-At : goal.overflow_add-columns-in-At
 overflow_add-columns-in-At c =
@@ -114,19 +106,13 @@ overflow_add-columns-in-At c =
     let a = c.args in
     let d = c.loop-i.columns in
     let v = get_or d (a.input + c.loop-i.i) 0 in
-    ⊎_elim
-    (λ w. w.2 ∙ sym (l.invariant.2 ∙ place_none d a.table v l.at l.invariant.0 w.0.taken))
-    (λ w. w.4 ∙ sym (l.invariant.2 ∙ place_hit d a.table v l.at l.invariant.0 w.0.left w.2.taken))
-    c.if-at-table.branch)) ∙ c.in-At.is))))),
+    elim c.if-at-table.branch [ then-at-table w ↦ w.found-is ∙ sym (l.invariant.2 ∙ place_none d a.table v l.at l.invariant.0 w.if-at-table.true) | else-at-table+then-columns-at w ↦ w.found-is ∙ sym (l.invariant.2 ∙ place_hit d a.table v l.at l.invariant.0 w.if-at-table.false w.if-columns-at.true) ])) ∙ c.in-At.is))))),
       c.loop-i-test.true,
       c.requires.5 _ ((row_below _ _ _ _ ((found_at 𝔾 _ _ _ _ (sym ((let l = c.search in
     let a = c.args in
     let d = c.loop-i.columns in
     let v = get_or d (a.input + c.loop-i.i) 0 in
-    ⊎_elim
-    (λ w. w.2 ∙ sym (l.invariant.2 ∙ place_none d a.table v l.at l.invariant.0 w.0.taken))
-    (λ w. w.4 ∙ sym (l.invariant.2 ∙ place_hit d a.table v l.at l.invariant.0 w.0.left w.2.taken))
-    c.if-at-table.branch)) ∙ c.in-At.is))))),
+    elim c.if-at-table.branch [ then-at-table w ↦ w.found-is ∙ sym (l.invariant.2 ∙ place_none d a.table v l.at l.invariant.0 w.if-at-table.true) | else-at-table+then-columns-at w ↦ w.found-is ∙ sym (l.invariant.2 ∙ place_hit d a.table v l.at l.invariant.0 w.if-at-table.false w.if-columns-at.true) ])) ∙ c.in-At.is))))),
     )
 
 pub bounds-columns-m-in-At : goal.bounds-columns-m-in-At
@@ -134,10 +120,7 @@ bounds-columns-m-in-At c = omega (arith, (row_below _ _ _ _ ((found_at 𝔾 _ _ 
     let a = c.args in
     let d = c.loop-i.columns in
     let v = get_or d (a.input + c.loop-i.i) 0 in
-    ⊎_elim
-    (λ w. w.2 ∙ sym (l.invariant.2 ∙ place_none d a.table v l.at l.invariant.0 w.0.taken))
-    (λ w. w.4 ∙ sym (l.invariant.2 ∙ place_hit d a.table v l.at l.invariant.0 w.0.left w.2.taken))
-    c.if-at-table.branch)) ∙ c.in-At.is)))), c.requires.2, c.loop-i.invariant.size)
+    elim c.if-at-table.branch [ then-at-table w ↦ w.found-is ∙ sym (l.invariant.2 ∙ place_none d a.table v l.at l.invariant.0 w.if-at-table.true) | else-at-table+then-columns-at w ↦ w.found-is ∙ sym (l.invariant.2 ∙ place_hit d a.table v l.at l.invariant.0 w.if-at-table.false w.if-columns-at.true) ])) ∙ c.in-At.is)))), c.requires.2, c.loop-i.invariant.size)
 
 pub clear-requires : goal.clear-requires
 clear-requires c = omega (arith, c.requires.2, c.loop-i.invariant.size)
@@ -153,10 +136,7 @@ returns-in-Nothing c =
     let a = c.args in
     let d = c.loop-i.columns in
     let v = get_or d (a.input + c.loop-i.i) 0 in
-    ⊎_elim
-    (λ w. w.2 ∙ sym (l.invariant.2 ∙ place_none d a.table v l.at l.invariant.0 w.0.taken))
-    (λ w. w.4 ∙ sym (l.invariant.2 ∙ place_hit d a.table v l.at l.invariant.0 w.0.left w.2.taken))
-    c.if-at-table.branch)) ∙ c.in-Nothing.is))
+    elim c.if-at-table.branch [ then-at-table w ↦ w.found-is ∙ sym (l.invariant.2 ∙ place_none d a.table v l.at l.invariant.0 w.if-at-table.true) | else-at-table+then-columns-at w ↦ w.found-is ∙ sym (l.invariant.2 ∙ place_hit d a.table v l.at l.invariant.0 w.if-at-table.false w.if-columns-at.true) ])) ∙ c.in-Nothing.is))
     (added_cleared _ _ _ _ c.requires.2 _ _ l.invariant _ c.clear.ensures)
 
 pub loop-i-preserved : goal.loop-i-preserved
@@ -166,18 +146,12 @@ loop-i-preserved c =
     let a = c.args in
     let d = c.loop-i.columns in
     let v = get_or d (a.input + c.loop-i.i) 0 in
-    ⊎_elim
-    (λ w. w.2 ∙ sym (l.invariant.2 ∙ place_none d a.table v l.at l.invariant.0 w.0.taken))
-    (λ w. w.4 ∙ sym (l.invariant.2 ∙ place_hit d a.table v l.at l.invariant.0 w.0.left w.2.taken))
-    c.if-at-table.branch)) ∙ c.in-At.is))))) c.loop-i-test.true
+    elim c.if-at-table.branch [ then-at-table w ↦ w.found-is ∙ sym (l.invariant.2 ∙ place_none d a.table v l.at l.invariant.0 w.if-at-table.true) | else-at-table+then-columns-at w ↦ w.found-is ∙ sym (l.invariant.2 ∙ place_hit d a.table v l.at l.invariant.0 w.if-at-table.false w.if-columns-at.true) ])) ∙ c.in-At.is))))) c.loop-i-test.true
     ((added_rows _ _ _ _ c.requires.2 _ _ c.loop-i.invariant c.args.input c.args.table c.requires.0 c.requires.1 _ c.loop-i-test.true) ∙ (found_at 𝔾 _ _ _ _ (sym ((let l = c.search in
     let a = c.args in
     let d = c.loop-i.columns in
     let v = get_or d (a.input + c.loop-i.i) 0 in
-    ⊎_elim
-    (λ w. w.2 ∙ sym (l.invariant.2 ∙ place_none d a.table v l.at l.invariant.0 w.0.taken))
-    (λ w. w.4 ∙ sym (l.invariant.2 ∙ place_hit d a.table v l.at l.invariant.0 w.0.left w.2.taken))
-    c.if-at-table.branch)) ∙ c.in-At.is)))
+    elim c.if-at-table.branch [ then-at-table w ↦ w.found-is ∙ sym (l.invariant.2 ∙ place_none d a.table v l.at l.invariant.0 w.if-at-table.true) | else-at-table+then-columns-at w ↦ w.found-is ∙ sym (l.invariant.2 ∙ place_hit d a.table v l.at l.invariant.0 w.if-at-table.false w.if-columns-at.true) ])) ∙ c.in-At.is)))
 
 pub shape_of-columns : goal.shape_of-columns
 shape_of-columns c = c.loop-i.invariant.size

@@ -23,6 +23,8 @@ use Rattle.prover_lookup.proofs.m.Group.{
   member_room,
 }
 use Rattle.prover_lookup.proofs.m.Searches.{by_searches}
+use Rattle.prover.specs.Words.{elements_from}
+use Rattle.prover_lookup.specs.Lookups.{inputs_from}
 use Rattle.prover_lookup.proofs.m.lookup_m_poly.Goals as goal
 
 pub overflow_add-table : goal.overflow_add-table
@@ -40,12 +42,10 @@ count_inputs-covered-requires c =
     let l = c.loop-i in
     let k = (c.loop-i.invariant.1 c.args.columns.now c.requires.1 c.clear.ensures) in
     let lt = c.loop-i-test.true in
-    let t = (let l = c.loop-i in (
-      member_there _ _ _ _ _ c.requires.0 c.requires.1 _ _ ((c.loop-i.invariant.1 c.args.columns.now c.requires.1 c.clear.ensures)) c.loop-i-test.true l.from l.invariant.0,
-      table_there _ _ _ _ _ c.requires.0 c.requires.1 _ _ ((c.loop-i.invariant.1 c.args.columns.now c.requires.1 c.clear.ensures)) c.loop-i-test.true l.from l.invariant.0,
-    )) in (
-      omega (arith, t.0),
-      omega (arith, t.1),
+    let t = member_there _ _ _ _ _ c.requires.0 c.requires.1 _ _ (c.loop-i.invariant.1 c.args.columns.now c.requires.1 c.clear.ensures) c.loop-i-test.true c.loop-i.from c.loop-i.invariant.0 in
+    let u = table_there _ _ _ _ _ c.requires.0 c.requires.1 _ _ (c.loop-i.invariant.1 c.args.columns.now c.requires.1 c.clear.ensures) c.loop-i-test.true c.loop-i.from c.loop-i.invariant.0 in (
+      omega (arith, t),
+      omega (arith, u),
       omega (arith, c.requires.1, k.size),
       member_small _ _ _ _ _ c.requires.0 c.requires.1 _ _ k lt l.from l.invariant.0 c.requires.2,
       table_small _ _ _ _ _ c.requires.0 c.requires.1 _ _ k lt l.from l.invariant.0 c.requires.2,
@@ -61,21 +61,16 @@ shape_of-columns-then-not-covered c =
 pub returns-then-not-covered : goal.returns-then-not-covered
 returns-then-not-covered c =
     let l = c.loop-i in
-    by_searches _ _ _ _ _ _ _
+    let p = by_searches c.args.rows (elements_from c.args.columns.now (c.args.input + c.args.rows)) (inputs_from c.args.columns.now c.args.input c.args.rows c.args.members) _ _ _ _
     (group_stop _ _ _ _ _ c.requires.0 c.requires.1 _ _ ((c.loop-i.invariant.1 c.args.columns.now c.requires.1 c.clear.ensures)) c.loop-i-test.true l.from l.invariant.0 _ _ c.count_inputs-covered.ensures
-    (c.if-not-covered.true))
+    (c.if-not-covered.true)) in
+    record { counts = p.0; found = p.1 }
 
 pub overflow_mul-from : goal.overflow_mul-from
-overflow_mul-from c = omega (arith, ((let l = c.loop-i in (
-      member_there _ _ _ _ _ c.requires.0 c.requires.1 _ _ ((c.loop-i.invariant.1 c.args.columns.now c.requires.1 c.clear.ensures)) c.loop-i-test.true l.from l.invariant.0,
-      table_there _ _ _ _ _ c.requires.0 c.requires.1 _ _ ((c.loop-i.invariant.1 c.args.columns.now c.requires.1 c.clear.ensures)) c.loop-i-test.true l.from l.invariant.0,
-    ))).0, c.ranges.m)
+overflow_mul-from c = omega (arith, (member_there _ _ _ _ _ c.requires.0 c.requires.1 _ _ ((c.loop-i.invariant.1 c.args.columns.now c.requires.1 c.clear.ensures)) c.loop-i-test.true c.loop-i.from c.loop-i.invariant.0), c.ranges.m)
 
 pub overflow_add-from : goal.overflow_add-from
-overflow_add-from c = omega (arith, ((let l = c.loop-i in (
-      member_there _ _ _ _ _ c.requires.0 c.requires.1 _ _ ((c.loop-i.invariant.1 c.args.columns.now c.requires.1 c.clear.ensures)) c.loop-i-test.true l.from l.invariant.0,
-      table_there _ _ _ _ _ c.requires.0 c.requires.1 _ _ ((c.loop-i.invariant.1 c.args.columns.now c.requires.1 c.clear.ensures)) c.loop-i-test.true l.from l.invariant.0,
-    ))).0, c.ranges.m)
+overflow_add-from c = omega (arith, (member_there _ _ _ _ _ c.requires.0 c.requires.1 _ _ ((c.loop-i.invariant.1 c.args.columns.now c.requires.1 c.clear.ensures)) c.loop-i-test.true c.loop-i.from c.loop-i.invariant.0), c.ranges.m)
 
 pub loop-i-preserved : goal.loop-i-preserved
 loop-i-preserved c =
@@ -91,4 +86,5 @@ shape_of-columns c = ((c.loop-i.invariant.1 c.args.columns.now c.requires.1 c.cl
 
 pub returns : goal.returns
 returns c =
-    by_searches _ _ _ _ _ _ _ (group_done _ _ _ _ _ c.requires.0 c.requires.1 _ _ ((c.loop-i.invariant.1 c.args.columns.now c.requires.1 c.clear.ensures)) c.loop-i-test.false)
+    let p = by_searches c.args.rows (elements_from c.args.columns.now (c.args.input + c.args.rows)) (inputs_from c.args.columns.now c.args.input c.args.rows c.args.members) _ _ _ _ (group_done _ _ _ _ _ c.requires.0 c.requires.1 _ _ ((c.loop-i.invariant.1 c.args.columns.now c.requires.1 c.clear.ensures)) c.loop-i-test.false) in
+    record { counts = p.0; found = p.1 }
