@@ -44,7 +44,7 @@ offset_bounds-out-at c = omega (arith, (let a = c.args in
     (sym (used (f l.i) e) ∙ sym c.node_uses.ensures ∙ c.if-node_uses.true)
     l.invariant.2
     c.loop-i-test.true
-    (room_is (used_queries e a.polys a.k) c.count_queries-count.result (length a.out.now) c.count_queries-count.ensures c.if-out-count.false)), c.loop-i.invariant.1, c.type_inv.1.1.1.1.0)
+    (room_is (used_queries e a.polys a.k) c.count_queries-count.result (length a.out.now) c.count_queries-count.ensures c.if-out-count.false)), c.loop-i.invariant.1)
 
 pub bounds-out-at : goal.bounds-out-at
 unfolding used_queries candidates
@@ -56,7 +56,7 @@ bounds-out-at c = omega (arith, (let a = c.args in
     (sym (used (f l.i) e) ∙ sym c.node_uses.ensures ∙ c.if-node_uses.true)
     l.invariant.2
     c.loop-i-test.true
-    (room_is (used_queries e a.polys a.k) c.count_queries-count.result (length a.out.now) c.count_queries-count.ensures c.if-out-count.false)), c.loop-i.invariant.1, c.type_inv.1.1.1.1.0)
+    (room_is (used_queries e a.polys a.k) c.count_queries-count.result (length a.out.now) c.count_queries-count.ensures c.if-out-count.false)), c.loop-i.invariant.1)
 
 pub overflow_add-out : goal.overflow_add-out
 unfolding used_queries candidates
@@ -68,7 +68,7 @@ overflow_add-out c = omega (arith, (let a = c.args in
     (sym (used (f l.i) e) ∙ sym c.node_uses.ensures ∙ c.if-node_uses.true)
     l.invariant.2
     c.loop-i-test.true
-    (room_is (used_queries e a.polys a.k) c.count_queries-count.result (length a.out.now) c.count_queries-count.ensures c.if-out-count.false)), c.loop-i.invariant.1, c.type_inv.1.1.1.1.0)
+    (room_is (used_queries e a.polys a.k) c.count_queries-count.result (length a.out.now) c.count_queries-count.ensures c.if-out-count.false)), c.loop-i.invariant.1)
 
 pub offset_bounds-out-at-then-node_uses : goal.offset_bounds-out-at-then-node_uses
 unfolding used_queries candidates
@@ -80,7 +80,7 @@ offset_bounds-out-at-then-node_uses c = omega (arith, (let a = c.args in
     (sym (used (f l.i) e) ∙ sym c.node_uses.ensures ∙ c.if-node_uses.true)
     l.invariant.2
     c.loop-i-test.true
-    (room_is (used_queries e a.polys a.k) c.count_queries-count.result (length a.out.now) c.count_queries-count.ensures c.if-out-count.false)), c.loop-i.invariant.1, c.type_inv.1.1.1.1.0)
+    (room_is (used_queries e a.polys a.k) c.count_queries-count.result (length a.out.now) c.count_queries-count.ensures c.if-out-count.false)), c.loop-i.invariant.1)
 
 pub bounds-out-at-then-node_uses : goal.bounds-out-at-then-node_uses
 unfolding used_queries candidates
@@ -104,7 +104,7 @@ overflow_add-at c = omega (arith, (let a = c.args in
     (sym (used (f l.i) e) ∙ sym c.node_uses.ensures ∙ c.if-node_uses.true)
     l.invariant.2
     c.loop-i-test.true
-    (room_is (used_queries e a.polys a.k) c.count_queries-count.result (length a.out.now) c.count_queries-count.ensures c.if-out-count.false)), c.loop-i.invariant.1, c.type_inv.1.1.1.1.0)
+    (room_is (used_queries e a.polys a.k) c.count_queries-count.result (length a.out.now) c.count_queries-count.ensures c.if-out-count.false)), c.loop-i.invariant.1)
 
 pub overflow_add-i : goal.overflow_add-i
 overflow_add-i c = omega (arith, end_small c.args.polys c.args.k c.requires.1.0 c.requires.1.1)

@@ -1,0 +1,179 @@
+-- `write_columns` meets its contract: question 15 by the counts, question 17 by h and z.
+use borrow.Author.Rules.{rules}
+use borrow.Author.Tests.{not-true, not-false}
+use mathlib.Core.Path.{sym, ◌∙◌}
+use native.Mathlib.Omega.{arith}
+use lib.ListN.{length}
+use Rattle.hyperplonk_columns.proofs.Accepted.{exact_challenges, counts_asked, answer_is, counts_written, counts_behind, all_end, zero_end, none_end}
+use Rattle.hyperplonk_columns.proofs.write_columns.Goals as goal
+
+pub columns_before_m-requires : goal.columns_before_m-requires
+columns_before_m-requires c =
+    (c.requires.0.accepted, c.requires.0.copied_are, c.requires.1, c.requires.2)
+
+pub places_of-at-requires : goal.places_of-at-requires
+places_of-at-requires c = (c.requires.0.accepted, c.requires.0.params_are)
+
+pub column_words-words-requires : goal.column_words-words-requires
+column_words-words-requires c = (c.requires.0.accepted, c.requires.0.params_are)
+
+pub lookup_m_polys-covered-requires : goal.lookup_m_polys-covered-requires
+lookup_m_polys-covered-requires c =
+    let at = c.places_of-at in
+    counts_asked c.args.circuit.now c.requires.0.accepted c.args.params c.requires.0.params_are c.args.sizes.now c.requires.0.sizes_are _ _ at.ensures.0 at.ensures.1
+    (length c.args.columns.now)
+    c.requires.2
+    c.args.instance.now
+    c.args.witness.now
+    c.args.challenges.now
+    c.args.columns.now
+    _
+    c.columns_before_m.ensures
+    c.columns_before_m.auto.columns
+
+pub clear-requires : goal.clear-requires
+clear-requires c =
+    omega (arith, c.column_words-words.ensures, c.requires.2, c.lookup_m_polys-covered.auto.columns, c.columns_before_m.auto.columns)
+
+pub shape_of-columns-then-not-covered : goal.shape_of-columns-then-not-covered
+shape_of-columns-then-not-covered c =
+    c.clear.auto.columns ∙ c.lookup_m_polys-covered.auto.columns ∙ c.columns_before_m.auto.columns
+
+pub returns-then-not-covered : goal.returns-then-not-covered
+returns-then-not-covered c =
+    let at = c.places_of-at in
+    let before = c.columns_before_m.ensures in
+    let m = c.lookup_m_polys-covered in
+    none_end c.args.circuit.now c.args.instance.now c.args.witness.now c.args.challenges.now c.requires.0.accepted c.args.columns.now _ c.requires.2 before
+    _
+    _
+    _
+    (sym (c.if-not-covered.true)
+    ∙ answer_is c.args.circuit.now c.requires.0.accepted c.args.params c.requires.0.params_are c.args.sizes.now c.requires.0.sizes_are _ _ at.ensures.0 at.ensures.1
+    (length c.args.columns.now)
+    c.requires.2
+    c.args.instance.now
+    c.args.witness.now
+    c.args.challenges.now
+    c.args.columns.now
+    _
+    _
+    m.result
+    before
+    m.ensures)
+    (counts_behind c.args.circuit.now c.requires.0.accepted c.args.params c.requires.0.params_are c.args.sizes.now c.requires.0.sizes_are _ _ at.ensures.0 at.ensures.1
+    (length c.args.columns.now)
+    c.requires.2
+    c.args.instance.now
+    c.args.witness.now
+    c.args.challenges.now
+    c.args.columns.now
+    _
+    _
+    m.result
+    before
+    m.ensures)
+    c.column_words-words.ensures
+    c.clear.ensures
+
+pub columns_after_m-last-requires : goal.columns_after_m-last-requires
+columns_after_m-last-requires c =
+    (
+      c.requires.0,
+      exact_challenges _ c.args.instance.now c.args.witness.now c.args.challenges.now c.requires.1,
+      omega (arith, c.requires.2, c.lookup_m_polys-covered.auto.columns, c.columns_before_m.auto.columns),
+    )
+
+pub clear-requires-in-ZeroDenominator : goal.clear-requires-in-ZeroDenominator
+clear-requires-in-ZeroDenominator c =
+    omega (arith, c.column_words-words.ensures, c.requires.2, c.columns_after_m-last.auto.columns, c.lookup_m_polys-covered.auto.columns, c.columns_before_m.auto.columns)
+
+pub shape_of-columns-in-Written : goal.shape_of-columns-in-Written
+shape_of-columns-in-Written c =
+    c.columns_after_m-last.auto.columns ∙ c.lookup_m_polys-covered.auto.columns ∙ c.columns_before_m.auto.columns
+
+pub returns-in-Written : goal.returns-in-Written
+returns-in-Written c =
+    let at = c.places_of-at in
+    let before = c.columns_before_m.ensures in
+    let m = c.lookup_m_polys-covered in
+    let yes = c.if-not-covered.false in
+    all_end c.args.circuit.now c.args.instance.now c.args.witness.now c.args.challenges.now c.requires.0.accepted c.args.columns.now _ c.requires.2 before
+    _
+    _
+    _
+    (counts_written c.args.circuit.now c.requires.0.accepted c.args.params c.requires.0.params_are c.args.sizes.now c.requires.0.sizes_are _ _ at.ensures.0 at.ensures.1
+    (length c.args.columns.now)
+    c.requires.2
+    c.args.instance.now
+    c.args.witness.now
+    c.args.challenges.now
+    c.args.columns.now
+    _
+    _
+    m.result
+    before
+    m.ensures
+    yes)
+    (sym yes
+    ∙ answer_is c.args.circuit.now c.requires.0.accepted c.args.params c.requires.0.params_are c.args.sizes.now c.requires.0.sizes_are _ _ at.ensures.0 at.ensures.1
+    (length c.args.columns.now)
+    c.requires.2
+    c.args.instance.now
+    c.args.witness.now
+    c.args.challenges.now
+    c.args.columns.now
+    _
+    _
+    m.result
+    before
+    m.ensures)
+    (c.columns_after_m-last.ensures c.args.instance.now)
+    c.in-Written.is
+
+pub shape_of-columns-in-ZeroDenominator : goal.shape_of-columns-in-ZeroDenominator
+shape_of-columns-in-ZeroDenominator c =
+    c.clear-in-ZeroDenominator.auto.columns ∙ c.columns_after_m-last.auto.columns ∙ c.lookup_m_polys-covered.auto.columns ∙ c.columns_before_m.auto.columns
+
+pub returns-in-ZeroDenominator : goal.returns-in-ZeroDenominator
+returns-in-ZeroDenominator c =
+    let at = c.places_of-at in
+    let before = c.columns_before_m.ensures in
+    let m = c.lookup_m_polys-covered in
+    let yes = c.if-not-covered.false in
+    zero_end c.args.circuit.now c.args.instance.now c.args.witness.now c.args.challenges.now c.requires.0.accepted c.args.columns.now _ c.requires.2 before
+    _
+    _
+    _
+    (counts_written c.args.circuit.now c.requires.0.accepted c.args.params c.requires.0.params_are c.args.sizes.now c.requires.0.sizes_are _ _ at.ensures.0 at.ensures.1
+    (length c.args.columns.now)
+    c.requires.2
+    c.args.instance.now
+    c.args.witness.now
+    c.args.challenges.now
+    c.args.columns.now
+    _
+    _
+    m.result
+    before
+    m.ensures
+    yes)
+    (sym yes
+    ∙ answer_is c.args.circuit.now c.requires.0.accepted c.args.params c.requires.0.params_are c.args.sizes.now c.requires.0.sizes_are _ _ at.ensures.0 at.ensures.1
+    (length c.args.columns.now)
+    c.requires.2
+    c.args.instance.now
+    c.args.witness.now
+    c.args.challenges.now
+    c.args.columns.now
+    _
+    _
+    m.result
+    before
+    m.ensures)
+    (c.columns_after_m-last.ensures c.args.instance.now)
+    _
+    _
+    c.in-ZeroDenominator.is
+    c.column_words-words.ensures
+    c.clear-in-ZeroDenominator.ensures

@@ -1,0 +1,9 @@
+use Prim.Native.Nat.{◌-◌}
+use native.Mathlib.Omega.{arith}
+use Rattle.hyperplonk_nodes.proofs.Compared.{compared}
+use borrow.Author.Rules.{rules}
+use Rattle.hyperplonk_nodes.proofs.same_window.Goals as goal
+
+pub returns : goal.returns
+returns c =
+    compared c.same_words.result _ (c.args.end - c.args.at) (omega arith) (omega arith) c.compose_nodes.ensures c.same_words.ensures

@@ -1,0 +1,24 @@
+-- `sizes` meets its contract: one definition's numbers, and what they tell.
+use mathlib.Core.Path.{◌≡◌, sym, ◌∙◌}
+use mathlib.Core.List.{List}
+use Prim.Native.Nat.{ℕ}
+use borrow.Author.Rules.{rules}
+use Rattle.hyperplonk_spec.specs.Sizes.{sizes_of, Foretells}
+use Rattle.hyperplonk_spec.specs.declared.Sizes.{Sizes}
+use Rattle.hyperplonk_prepare.proofs.Foretold.{sizes_yes, sizes_refused, foretold}
+use Rattle.hyperplonk_sizes.proofs.sizes.Goals as goal
+
+both : (ws : List ℕ) (s : Sizes) → s ≡ sizes_of ws → (s ≡ sizes_of ws) × Foretells ws s
+both ws s e = (e, foretold ws s e)
+
+pub returns-then-no-ne0 : goal.returns-then-no-ne0
+returns-then-no-ne0 c =
+    let a = c.args in
+    let f = c.first_no-no in
+    both a.circuit.now _ (c.refused.ensures ∙ sym (sizes_refused a.circuit.now f.result f.ensures c.if-no-ne0.true))
+
+pub returns : goal.returns
+returns c =
+    let a = c.args in
+    let f = c.first_no-no in
+    both a.circuit.now _ (c.accepted.ensures ∙ sym (sizes_yes a.circuit.now (sym f.ensures ∙ c.if-no-ne0.false)))
