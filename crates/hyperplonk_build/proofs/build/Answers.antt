@@ -1,0 +1,55 @@
+-- `build` meets its contract: the first no gives its number, and demand 3 holds of what is returned and left.
+use mathlib.Core.Path.{◌≡◌, refl, sym, ◌∙◌}
+use mathlib.Core.List.{List}
+use Prim.Native.Nat.{ℕ}
+use native.Mathlib.Omega.{arith}
+use borrow.Author.Rules.{rules}
+use Rattle.backend.proofs.Answers.{says_no, says_yes}
+use Rattle.hyperplonk_spec.specs.Build.{Output, build_of, lent_build}
+use Rattle.hyperplonk_spec.specs.Demand.{DemandThreeAt}
+use Rattle.completeness.proofs.DemandThree.{demand_three_at}
+use Rattle.hyperplonk_prepare.proofs.Asked.{circuit_refused, no_12, no_13}
+use Rattle.hyperplonk_build.proofs.Built.{refuses}
+use Rattle.hyperplonk_build.proofs.build.Goals as goal
+
+both : (ws instances witness challenges columns nodes : List ℕ) (o : Output) → o ≡ build_of (lent_build ws instances witness challenges columns nodes) → (o ≡ build_of (lent_build ws instances witness challenges columns nodes)) × DemandThreeAt (lent_build ws instances witness challenges columns nodes) o
+both ws instances witness challenges columns nodes o e = (e, demand_three_at ws instances witness challenges columns nodes o e)
+
+twelve : ◌≡◌ {A = ℕ} 12 0 → ⊥
+twelve e = omega arith
+
+thirteen : ◌≡◌ {A = ℕ} 13 0 → ⊥
+thirteen e = omega arith
+
+pub returns-then-no-ne0 : goal.returns-then-no-ne0
+returns-then-no-ne0 c =
+    let a = c.args in
+    let f = c.first_no-no in
+    both a.circuit.now a.instance.now a.witness.now a.challenges.now a.columns.now a.nodes.now _
+    (refuses a.circuit.now a.instance.now a.witness.now a.challenges.now a.columns.now a.nodes.now _ f.result c.refused.ensures c.if-no-ne0.true
+    (circuit_refused a.circuit.now a.instance.now a.witness.now a.challenges.now a.columns.now a.nodes.now f.result f.ensures c.if-no-ne0.true))
+
+pub returns-then-not-question_12 : goal.returns-then-not-question_12
+returns-then-not-question_12 c =
+    let a = c.args in
+    both a.circuit.now a.instance.now a.witness.now a.challenges.now a.columns.now a.nodes.now _
+    (refuses a.circuit.now a.instance.now a.witness.now a.challenges.now a.columns.now a.nodes.now _ 12 c.refused-then-not-question_12.ensures twelve
+    (no_12 a.circuit.now a.instance.now a.witness.now a.challenges.now a.columns.now a.nodes.now (sym c.first_no-no.ensures ∙ c.if-no-ne0.false) (sym c.question_12.ensures ∙ c.if-not-question_12.true)))
+
+pub returns-then-not-question_13 : goal.returns-then-not-question_13
+returns-then-not-question_13 c =
+    let a = c.args in
+    both a.circuit.now a.instance.now a.witness.now a.challenges.now a.columns.now a.nodes.now _
+    (refuses a.circuit.now a.instance.now a.witness.now a.challenges.now a.columns.now a.nodes.now _ 13 c.refused-then-not-question_13.ensures thirteen
+    (no_13 a.circuit.now a.instance.now a.witness.now a.challenges.now a.columns.now a.nodes.now (sym c.first_no-no.ensures ∙ c.if-no-ne0.false) (sym c.question_12.ensures ∙ c.if-not-question_12.false)
+    (sym c.question_13.ensures ∙ c.if-not-question_13.true)))
+
+pub build_named-requires : goal.build_named-requires
+build_named-requires c =
+    let n = c.copied_of-copied in
+    ((sym c.first_no-no.ensures ∙ c.if-no-ne0.false), (sym c.question_12.ensures ∙ c.if-not-question_12.false), (sym c.question_13.ensures ∙ c.if-not-question_13.false), n.ensures.0, n.ensures.1)
+
+pub returns : goal.returns
+returns c =
+    let a = c.args in
+    both a.circuit.now a.instance.now a.witness.now a.challenges.now a.columns.now a.nodes.now _ c.build_named.ensures

@@ -1,0 +1,63 @@
+-- `sum_rows` meets its contract: after t turns the sum is that over the first t rows of the order.
+use borrow.Author.Rules.{rules}
+use mathlib.Core.Path.{◌≡◌, refl, sym, ◌∙◌}
+use Prim.Native.Nat.{◌-◌, ◌^◌, ◌≤◌, ◌<◌}
+use native.Mathlib.Omega.{arith}
+use Rattle.field.specs.Field.{𝔾}
+use Rattle.field.specs.Element.{elem}
+use Rattle.bh.specs.Rows.{row_at}
+use Rattle.bh.proofs.Order.{row_zero}
+use Rattle.expression.specs.Nodes.{expr_of}
+use Rattle.expression.specs.Value.{value_at}
+use Rattle.backend.specs.Circuit.{circuit_of}
+use Rattle.preprocessor.specs.Compose.{composed_nodes}
+use Rattle.hyperplonk_spec.specs.RowSum.{row_sum_environment}
+use Rattle.hyperplonk_row_sum.proofs.Rows.{Added, added_none, added_more}
+use Rattle.hyperplonk_row_sum.proofs.Summed.{k_low, k_high, values_there, root_there, root_node, layout_small, placed, value_is, sum_is}
+use Rattle.hyperplonk_row_sum.proofs.sum_rows.Goals as goal
+
+pub rows_of-rows-requires : goal.rows_of-rows-requires
+rows_of-rows-requires c = omega (arith, k_high _ _ _ _ _ c.requires)
+
+pub overflow_sub-root : goal.overflow_sub-root
+overflow_sub-root c = root_there _ _ _ _ _ c.requires
+
+pub loop-place-init : goal.loop-place-init
+loop-place-init c = (sym (row_zero c.args.k), omega arith, added_none _ _)
+
+pub eq_at-requires : goal.eq_at-requires
+eq_at-requires c = values_there _ _ _ _ _ c.requires
+
+pub value-x-requires : goal.value-x-requires
+value-x-requires c =
+    let pre = c.requires in
+    let l = c.loop-place in
+    (root_node _ _ _ _ _ pre, (layout_small _ _ _ _ _ pre, placed _ _ _ _ _ pre l.row l.place (omega (arith, c.loop-place-test.true, c.rows_of-rows.ensures)) l.invariant.0 _))
+
+pub row_after-row-requires : goal.row_after-row-requires
+row_after-row-requires c =
+    let pre = c.requires in
+    (k_low _ _ _ _ _ pre, k_high _ _ _ _ _ pre, c.loop-place.invariant.0)
+
+pub overflow_add-place : goal.overflow_add-place
+overflow_add-place c = omega (arith, c.loop-place-test.true)
+
+pub loop-place-smaller : goal.loop-place-smaller
+loop-place-smaller c = omega (arith, c.loop-place-test.true)
+
+pub loop-place-preserved : goal.loop-place-preserved
+loop-place-preserved c =
+    let pre = c.requires in
+    let l = c.loop-place in
+    let inside : l.place < 2 ^ c.args.k = omega (arith, c.loop-place-test.true, c.rows_of-rows.ensures) in (
+      c.row_after-row.ensures.0,
+      omega (arith, c.loop-place-test.true, c.rows_of-rows.ensures),
+      added_more _ _ _ _ l.row _ _ l.invariant.2 l.invariant.0
+          (value_is _ _ _ _ _ pre _ _ _ _ _ refl (placed _ _ _ _ _ pre l.row l.place inside l.invariant.0 _) (c.word-eq.ensures ∙ c.eq_at.ensures) c.value-x.ensures)
+          c.add-sum.ensures,
+    )
+
+pub returns : goal.returns
+returns c =
+    let l = c.loop-place in
+    sum_is _ _ _ _ _ c.requires _ _ _ _ l.place l.invariant.2 (omega (arith, c.loop-place-test.false, c.rows_of-rows.ensures, l.invariant.1))
