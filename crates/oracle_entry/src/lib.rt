@@ -1,4 +1,6 @@
 // Expressions and the questions, for the oracle: any words may be lent. oracle_entry_c exports the calls to C.
+#![tactic(auto)]
+
 ghost use Rattle.std.specs.Prelude.{◌≡◌, ◌&&◌, ◌+◌, ◌*◌, ◌^◌, ◌≤◌, ◌<◌, eqb, ltb, length};
 ghost use Rattle.lists.specs.Lists.{tabulate, write_at, all_of, first_no};
 ghost use Rattle.field.specs.Field.{𝔾};
