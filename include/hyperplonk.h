@@ -1,6 +1,6 @@
 /*
  * The calls of HyperPlonk's building of columns over the Goldilocks field, p = 2^64 - 2^32 + 1.
- * Link target/staticlib/libhyperplonk.a, which `rt staticlib hyperplonk` writes (x86-64 Linux).
+ * Link target/staticlib/libhyperplonk.a, which `bindings/build` writes (x86-64 Linux).
  *
  * SLICES. A slice is lent as a pointer to its first word and its number of words. The pointer is aligned and never null, also where
  * the slice is empty: for an empty slice pass the address of any word, and 0. Words behind `const` are read only, and nothing writes

@@ -15,7 +15,7 @@ fn main() {
     println!("cargo:rerun-if-changed={}", library.display());
     if !library.is_file() {
         eprintln!("hyperplonk: there is no {}", library.display());
-        eprintln!("hyperplonk: write it with `rt staticlib hyperplonk` at the root of the repository,");
+        eprintln!("hyperplonk: write it with `bindings/build` at the root of the repository,");
         eprintln!("hyperplonk: or name the folder that has libhyperplonk.a in HYPERPLONK_LIB_DIR");
         exit(1);
     }

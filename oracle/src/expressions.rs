@@ -400,7 +400,7 @@ pub fn compare(library: Library, seed: u64, count: u64) {
         println!("the Rust stands in the library's place; fault: {}", FAULTS[fault as usize]);
     }
     if !library.has("expression_values") {
-        println!("skipped: no target/staticlib/liboracle_entry.a (rt staticlib oracle_entry)");
+        println!("skipped: no target/staticlib/liboracle_entry.a (bindings/build oracle_entry)");
         return;
     }
     catch_faults();

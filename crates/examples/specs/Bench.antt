@@ -2,7 +2,6 @@
 use Rattle.std.specs.Prelude.{◌≡◌, refl, true, false, List, [], ◌∷◌, ℕ, zero, suc, ◌-◌, ◌*◌, ◌^◌, pos, negsuc, length, get_or, take, replicate}
 use Rattle.std.proofs.Math.Option.{Option, none, some}
 use Rattle.field.specs.Field.{𝔾, el, val}
-use Rattle.field.specs.Algebra.{product}
 use Rattle.field.specs.Inverse.{inverse_of}
 use Rattle.field.specs.declared.Inverse.{Inverse}
 use Rattle.bh.specs.Rows.{prev_row, order, lagrange_row}

@@ -1,7 +1,7 @@
 -- Small whole circuits through `sizes`, the building call and the row sum, and h alone, with the oracle's answers: made from the
 -- oracle's data by `oracle/theorems`. The columns are the given Rust's, those of groups of two lookups or more the model's; the
 -- numbers and nodes are those of documents 01 and 02.
-use Rattle.std.specs.Prelude.{◌≡◌, refl, List, [], ◌∷◌, ℕ}
+use Rattle.std.specs.Prelude.{◌≡◌, refl, [], ◌∷◌}
 use Rattle.examples.specs.Open.{everything}
 use Rattle.hyperplonk_spec.specs.Build.{build_of, lent_build}
 use Rattle.hyperplonk_spec.specs.RowSum.{row_sum_of, lent_sum}

@@ -1,4 +1,4 @@
-// The calls by the names that include/hyperplonk.h declares. A slice crosses as a pointer and a length.
+// The calls as include/hyperplonk.h declares them, by its names: numbers and slices alone. hyperplonk_c exports them to C.
 ghost use Rattle.std.specs.Prelude.{◌≡◌, [], ◌∷◌};
 ghost use Rattle.hyperplonk_spec.specs.Stages.{m_of, h_of, eq_of};
 ghost use Rattle.hyperplonk_spec.specs.Build.{build_of, lent_build};
@@ -9,20 +9,13 @@ ghost use Rattle.hyperplonk_spec.specs.Sizes.{sizes_of};
 use crate::{build, row_sum, sizes};
 use hyperplonk_stages::{eq_xy, lookup_h_poly, lookup_m_poly};
 
-#[unsafe(no_mangle)]
-pub extern "C" fn hyperplonk_lookup_m_poly(
-    k: u64,
-    input: &[u64],
-    table: &[u64],
-    m: &mut [u64],
-) -> u64
+pub fn hyperplonk_lookup_m_poly(k: u64, input: &[u64], table: &[u64], m: &mut [u64]) -> u64
     ensures { record { number = result; out = m.new } ≡ m_of k input.now table.now m.old }
 {
     lookup_m_poly(k, input, table, m)
 }
 
-#[unsafe(no_mangle)]
-pub extern "C" fn hyperplonk_lookup_h_poly(
+pub fn hyperplonk_lookup_h_poly(
     k: u64,
     input: &[u64],
     table: &[u64],
@@ -35,8 +28,7 @@ pub extern "C" fn hyperplonk_lookup_h_poly(
     lookup_h_poly(k, input, table, m, gamma, h)
 }
 
-#[unsafe(no_mangle)]
-pub extern "C" fn hyperplonk_eq_xy(k: u64, y: &[u64], out: &mut [u64]) -> u64
+pub fn hyperplonk_eq_xy(k: u64, y: &[u64], out: &mut [u64]) -> u64
     ensures { record { number = result; out = out.new } ≡ eq_of k y.now out.old }
 {
     eq_xy(k, y, out)
@@ -62,8 +54,7 @@ fn answer_three(answer: &mut [u64], a: u64, b: u64, c: u64)
     }
 }
 
-#[unsafe(no_mangle)]
-pub extern "C" fn hyperplonk_sizes(circuit: &[u64], answer: &mut [u64]) -> u64
+pub fn hyperplonk_sizes(circuit: &[u64], answer: &mut [u64]) -> u64
     ensures { record { number = result; answer = answer.new } ≡ sizes_entry (sizes_of circuit.now) answer.old }
 {
     let told = sizes(circuit);
@@ -76,8 +67,7 @@ pub extern "C" fn hyperplonk_sizes(circuit: &[u64], answer: &mut [u64]) -> u64
     told.number
 }
 
-#[unsafe(no_mangle)]
-pub extern "C" fn hyperplonk_build<'a>(
+pub fn hyperplonk_build<'a>(
     circuit: &'a [u64],
     instance: &[u64],
     witness: &'a [u64],
@@ -98,8 +88,7 @@ pub extern "C" fn hyperplonk_build<'a>(
     b.number
 }
 
-#[unsafe(no_mangle)]
-pub extern "C" fn hyperplonk_row_sum<'a>(
+pub fn hyperplonk_row_sum<'a>(
     circuit: &'a [u64],
     witness: &'a [u64],
     columns: &'a [u64],

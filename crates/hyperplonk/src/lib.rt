@@ -1,4 +1,4 @@
-// hyperplonk.rs: the calls, with what each promises. `entry` has them for C and Rust, as include/hyperplonk.h declares them.
+// hyperplonk.rs: the calls, with what each promises. `entry` has them as include/hyperplonk.h declares them, for C and Rust.
 pub mod entry;
 
 ghost use Rattle.std.specs.Prelude.{◌≡◌};

@@ -1,4 +1,6 @@
-// Expressions and the questions from C, for the oracle: any words may be lent. A slice crosses as a pointer and a length.
+// Expressions and the questions, for the oracle: any words may be lent. oracle_entry_c exports the calls to C.
+#![tactic(auto)]
+
 ghost use Rattle.std.specs.Prelude.{◌≡◌, ◌&&◌, ◌+◌, ◌*◌, ◌^◌, ◌≤◌, ◌<◌, eqb, ltb, length};
 ghost use Rattle.lists.specs.Lists.{tabulate, write_at, all_of, first_no};
 ghost use Rattle.field.specs.Field.{𝔾};
@@ -25,8 +27,7 @@ use field::goldilocks::Goldilocks;
 use lists::word_at;
 
 // The degree of node n, 1025 where it is more, 0 where there is no node.
-#[unsafe(no_mangle)]
-pub extern "C" fn expression_degree(nodes: &[u64], n: usize) -> u64
+pub fn expression_degree(nodes: &[u64], n: usize) -> u64
     ensures { result ≡ degree_at nodes.now n }
 {
     if n < nodes.len() / 4 {
@@ -37,14 +38,7 @@ pub extern "C" fn expression_degree(nodes: &[u64], n: usize) -> u64
 
 // The queries of node n with a polynomial below `polys` and a rotation from -k to k, two words each in rising order. Returns how
 // many there are, and writes none where they do not all fit.
-#[unsafe(no_mangle)]
-pub extern "C" fn expression_queries(
-    nodes: &[u64],
-    n: usize,
-    polys: usize,
-    k: usize,
-    out: &mut [u64],
-) -> usize
+pub fn expression_queries(nodes: &[u64], n: usize, polys: usize, k: usize, out: &mut [u64]) -> usize
     ensures { (result ≡ length (queries_at nodes.now n polys k)) × (out.new ≡ queries_into (queries_at nodes.now n polys k) out.old) }
 {
     let small = (n < nodes.len() / 4) & ((polys <= 1048576) & (k <= 1048576));
@@ -155,8 +149,7 @@ fn small_layout(words: &[u64]) -> bool
 
 // The value of node n at every row, over the first 2^k words of `out`; `eq` has EqXY's value at each row. Where k, the layout or n
 // is out of range, or `out` is short, it stays as it is.
-#[unsafe(no_mangle)]
-pub extern "C" fn expression_values<'a>(
+pub fn expression_values<'a>(
     k: usize,
     nodes: &'a [u64],
     circuit: &'a [u64],
@@ -190,8 +183,7 @@ pub extern "C" fn expression_values<'a>(
 }
 
 // Questions 1 to 11: the first no, 0 if there is none.
-#[unsafe(no_mangle)]
-pub extern "C" fn circuit_first_no(circuit: &[u64]) -> u64
+pub fn circuit_first_no(circuit: &[u64]) -> u64
     ensures { result ≡ first_no circuit_questions circuit.now }
 {
     first_no(circuit)

@@ -1,0 +1,55 @@
+// Expressions and the questions from C, for the oracle. A slice crosses as a pointer and a length.
+#![tactic(auto)]
+
+ghost use Rattle.std.specs.Prelude.{◌≡◌, length};
+ghost use Rattle.lists.specs.Lists.{first_no};
+ghost use Rattle.expression.specs.Queries.{queries_into};
+ghost use Rattle.backend.specs.Questions.{circuit_questions};
+ghost use Rattle.oracle_entry.specs.Entry.{degree_at, queries_at, valuesInto};
+
+#[unsafe(no_mangle)]
+pub extern "C" fn expression_degree(nodes: &[u64], n: usize) -> u64
+    ensures { result ≡ degree_at nodes.now n }
+{
+    oracle_entry::expression_degree(nodes, n)
+}
+
+#[unsafe(no_mangle)]
+pub extern "C" fn expression_queries(
+    nodes: &[u64],
+    n: usize,
+    polys: usize,
+    k: usize,
+    out: &mut [u64],
+) -> usize
+    ensures { (result ≡ length (queries_at nodes.now n polys k)) × (out.new ≡ queries_into (queries_at nodes.now n polys k) out.old) }
+{
+    oracle_entry::expression_queries(nodes, n, polys, k, out)
+}
+
+#[unsafe(no_mangle)]
+pub extern "C" fn expression_values<'a>(
+    k: usize,
+    nodes: &'a [u64],
+    circuit: &'a [u64],
+    witness: &'a [u64],
+    columns: &'a [u64],
+    challenges: &'a [u64],
+    layout: &[u64],
+    eq: &[u64],
+    n: usize,
+    out: &mut [u64],
+)
+    ensures { out.new ≡ valuesInto k nodes.now circuit.now witness.now columns.now challenges.now layout.now eq.now n out.old }
+{
+    oracle_entry::expression_values(
+        k, nodes, circuit, witness, columns, challenges, layout, eq, n, out,
+    );
+}
+
+#[unsafe(no_mangle)]
+pub extern "C" fn circuit_first_no(circuit: &[u64]) -> u64
+    ensures { result ≡ first_no circuit_questions circuit.now }
+{
+    oracle_entry::circuit_first_no(circuit)
+}
