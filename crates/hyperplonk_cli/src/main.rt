@@ -1,6 +1,8 @@
 // The command-line program, for the bench: it builds the columns and nodes of a log over files, runs the row sum on what was
 // built, gives its verdict, says in words what a circuit has, or why it is refused, and rewrites a circuit from before groups. With no
 // argument it runs on a small log of its own. A message goes to standard error; run, beside src/, makes an exit status of it.
+#![tactic(auto)]
+
 mod commands;
 mod example;
 mod found;

@@ -3,6 +3,8 @@
 // lengths they state; a refusal returns zeros after its number and leaves its buffers, but for 15 and 17; words past those
 // written stay. Then the call is made again on the lent words, where it is there: a line names each block whose stored
 // number or buffer is another.
+#![tactic(auto)]
+
 use libc::STDOUT_FILENO;
 use slices::{kept, number_at, number_then_zeros, slice_at, word, zeroed};
 use text::{after_line, is_line, read_block};
