@@ -157,7 +157,7 @@ fn read_open(
 }
 
 // Opens the file of this name to read it. A name that is no UTF-8 text is one that the library can't open.
-fn open_read<R: Files>(rt: &R, path: &[u8]) -> io::Result<R::File> {
+pub fn open_read<R: Files>(rt: &R, path: &[u8]) -> io::Result<R::File> {
     match str::from_utf8(path) {
         Ok(text) => File::open(rt, text),
         Err(_) => Err(io::Error::other("the name is no UTF-8 text")),
