@@ -14,7 +14,13 @@ use std::io;
 use std::rt::{Env, Files};
 
 // Writes what was built to the file that argument 6 names.
-fn keep<'a>(rt: &(impl Files + Env), host: Host, columns: &'a [u64], nodes: &'a [u64], s: Shape) -> io::Result<()> {
+fn keep<'a>(
+    rt: &(impl Files + Env),
+    host: Host,
+    columns: &'a [u64],
+    nodes: &'a [u64],
+    s: Shape,
+) -> io::Result<()> {
     let out = host.out;
     say::out(out, b"writing\n")?;
     if !output::write(rt, host.process, host.err, 6, columns, nodes, s)? {
@@ -39,7 +45,16 @@ fn refused<'a>(
     number: u64,
 ) -> io::Result<()> {
     question::answered_no(host.err, number)?;
-    build_values(rt, host.err, circuit, instance, witness, challenges, user as u64, number)
+    build_values(
+        rt,
+        host.err,
+        circuit,
+        instance,
+        witness,
+        challenges,
+        user as u64,
+        number,
+    )
 }
 
 fn build_words<'a>(
@@ -56,7 +71,16 @@ fn build_words<'a>(
     say::out(host.out, b"building\n")?;
     let built = hyperplonk::build(circuit, instance, witness, challenges, columns, nodes);
     if built.number != 0 {
-        refused(rt, host, circuit, instance, witness, challenges, s.user, built.number)?;
+        refused(
+            rt,
+            host,
+            circuit,
+            instance,
+            witness,
+            challenges,
+            s.user,
+            built.number,
+        )?;
         return tell(
             &host.err,
             circuit,
@@ -112,7 +136,16 @@ fn build_witness(
     let got = read(rt, host.err, 4, witness)?;
     let n = got.count;
     if got.good {
-        build_challenges(rt, host, circuit, s, instance, &witness[0..n], columns, nodes)?;
+        build_challenges(
+            rt,
+            host,
+            circuit,
+            s,
+            instance,
+            &witness[0..n],
+            columns,
+            nodes,
+        )?;
     }
     Ok(())
 }
@@ -131,7 +164,16 @@ pub fn build(
     let got = read(rt, host.err, 3, instance)?;
     let n = got.count;
     if got.good {
-        build_witness(rt, host, circuit, s, &instance[0..n], witness, columns, nodes)?;
+        build_witness(
+            rt,
+            host,
+            circuit,
+            s,
+            &instance[0..n],
+            witness,
+            columns,
+            nodes,
+        )?;
     }
     Ok(())
 }
@@ -172,7 +214,9 @@ fn check_words<'a>(
         nodes: s.nodes,
         user: s.user,
     };
-    sum_values(rt, host.err, circuit, witness, columns, nodes, challenges, y, needed)
+    sum_values(
+        rt, host.err, circuit, witness, columns, nodes, challenges, y, needed,
+    )
 }
 
 fn check_parts<'a>(
@@ -218,7 +262,14 @@ fn check_y<'a>(
     Ok(())
 }
 
-fn check_challenges<'a>(rt: &(impl Files + Env), host: Host, circuit: &'a [u64], s: Shape, witness: &'a [u64], built: &'a [u64]) -> io::Result<()> {
+fn check_challenges<'a>(
+    rt: &(impl Files + Env),
+    host: Host,
+    circuit: &'a [u64],
+    s: Shape,
+    witness: &'a [u64],
+    built: &'a [u64],
+) -> io::Result<()> {
     let mut challenges = [0u64; 64];
     let got = read(rt, host.err, 4, &mut challenges)?;
     let n = got.count;
@@ -228,7 +279,14 @@ fn check_challenges<'a>(rt: &(impl Files + Env), host: Host, circuit: &'a [u64],
     Ok(())
 }
 
-fn check_built<'a>(rt: &(impl Files + Env), host: Host, circuit: &'a [u64], s: Shape, witness: &'a [u64], built: &mut [u64]) -> io::Result<()> {
+fn check_built<'a>(
+    rt: &(impl Files + Env),
+    host: Host,
+    circuit: &'a [u64],
+    s: Shape,
+    witness: &'a [u64],
+    built: &mut [u64],
+) -> io::Result<()> {
     let got = read(rt, host.err, 6, built)?;
     let n = got.count;
     if got.good {
@@ -238,7 +296,14 @@ fn check_built<'a>(rt: &(impl Files + Env), host: Host, circuit: &'a [u64], s: S
 }
 
 // check CIRCUIT WITNESS CHALLENGES Y OUT
-pub fn check(rt: &(impl Files + Env), host: Host, circuit: &[u64], s: Shape, witness: &mut [u64], built: &mut [u64]) -> io::Result<()> {
+pub fn check(
+    rt: &(impl Files + Env),
+    host: Host,
+    circuit: &[u64],
+    s: Shape,
+    witness: &mut [u64],
+    built: &mut [u64],
+) -> io::Result<()> {
     let got = read(rt, host.err, 3, witness)?;
     let n = got.count;
     if got.good {

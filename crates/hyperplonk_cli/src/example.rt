@@ -38,7 +38,13 @@ const H: usize = 40;
 const Z: usize = 48;
 
 // A row: its number, the table, the reading, the settings, m, h and z.
-fn show_row<'a>(out: Stdout, circuit: &'a [u64], witness: &'a [u64], columns: &'a [u64], row: usize) -> io::Result<()> {
+fn show_row<'a>(
+    out: Stdout,
+    circuit: &'a [u64],
+    witness: &'a [u64],
+    columns: &'a [u64],
+    row: usize,
+) -> io::Result<()> {
     say::padded(out, row as u64, 3)?;
     say::padded(out, word_at(circuit, after(22, row)), 10)?;
     say::padded(out, word_at(witness, row), 9)?;
@@ -50,7 +56,12 @@ fn show_row<'a>(out: Stdout, circuit: &'a [u64], witness: &'a [u64], columns: &'
     say::out(out, b"\n")
 }
 
-fn show_rows<'a>(out: Stdout, circuit: &'a [u64], witness: &'a [u64], columns: &'a [u64]) -> io::Result<()> {
+fn show_rows<'a>(
+    out: Stdout,
+    circuit: &'a [u64],
+    witness: &'a [u64],
+    columns: &'a [u64],
+) -> io::Result<()> {
     say::out(
         out,
         b"row  approved  reading  sheet  knee  m                     h                     z\n",
@@ -74,7 +85,12 @@ fn column_sum(columns: &[u64], start: usize) -> u64 {
     sum
 }
 
-fn show<'a>(out: Stdout, circuit: &'a [u64], witness: &'a [u64], columns: &'a [u64]) -> io::Result<()> {
+fn show<'a>(
+    out: Stdout,
+    circuit: &'a [u64],
+    witness: &'a [u64],
+    columns: &'a [u64],
+) -> io::Result<()> {
     show_rows(out, circuit, witness, columns)?;
     say::out(
         out,
@@ -82,7 +98,10 @@ fn show<'a>(out: Stdout, circuit: &'a [u64], witness: &'a [u64], columns: &'a [u
     )?;
     say::line(out, b"m adds up to ", column_sum(columns, M))?;
     say::line(out, b"h adds up to ", column_sum(columns, H))?;
-    say::out(out, b"z runs through the rows 1 2 4 3 6 7 5, and back to 1 at row 1.\n")
+    say::out(
+        out,
+        b"z runs through the rows 1 2 4 3 6 7 5, and back to 1 at row 1.\n",
+    )
 }
 
 fn sum_up<'a>(
@@ -167,8 +186,14 @@ pub fn run(out: Stdout) -> io::Result<()> {
     fill_circuit(&mut circuit);
     say::out(out, b"A log of 8 rows: k is 3.\n")?;
     run_changed(out, &circuit, 24, 0)?;
-    say::out(out, b"\nThe same log with a wrong copy: the knee has 36 at row 3, the sheet 37.\n")?;
+    say::out(
+        out,
+        b"\nThe same log with a wrong copy: the knee has 36 at row 3, the sheet 37.\n",
+    )?;
     run_changed(out, &circuit, 19, 36)?;
-    say::out(out, b"\nThe same log with a reading of 5 at row 1, which the table does not list.\n")?;
+    say::out(
+        out,
+        b"\nThe same log with a reading of 5 at row 1, which the table does not list.\n",
+    )?;
     run_changed(out, &circuit, 1, 5)
 }

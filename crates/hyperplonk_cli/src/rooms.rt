@@ -104,7 +104,14 @@ fn check_whole(rt: &(impl Files + Env), host: Host, circuit: &[u64], s: Shape) -
 
 // Runs a command in the smallest rooms that do, of the first so many sizes, the smaller before the larger; answers whether one did.
 // That it calls itself keeps the compiler from putting the rooms of all sizes into one frame.
-fn in_rooms(rt: &(impl Files + Env), host: Host, command: u64, circuit: &[u64], s: Shape, sizes: u64) -> io::Result<bool> {
+fn in_rooms(
+    rt: &(impl Files + Env),
+    host: Host,
+    command: u64,
+    circuit: &[u64],
+    s: Shape,
+    sizes: u64,
+) -> io::Result<bool> {
     if sizes == 0 {
         return Ok(false);
     }

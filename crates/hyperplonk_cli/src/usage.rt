@@ -18,7 +18,10 @@ pub fn help(out: Stdout) -> io::Result<()> {
 }
 
 pub fn version(out: Stdout) -> io::Result<()> {
-    say::out(out, b"hyperplonk_cli 1.0, document 01, field 2^64 - 2^32 + 1\n")
+    say::out(
+        out,
+        b"hyperplonk_cli 1.0, document 01, field 2^64 - 2^32 + 1\n",
+    )
 }
 
 // The last line of a message on wrong usage. No message on a file ends so, whatever the file's name, and run goes by it.
