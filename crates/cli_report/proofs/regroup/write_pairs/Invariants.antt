@@ -1,4 +1,4 @@
-use Rattle.std.proofs.Common.{◌-◌, rules}
+use Rattle.std.proofs.Common.{◌-◌}
 use Rattle.cli_report.proofs.regroup.write_pairs.Given as goal
 
 abbrev pub decreases-loop-s : goal.decreases-loop-s

@@ -1,4 +1,3 @@
-use Rattle.std.proofs.Common.{rules}
 use Rattle.cli_report.proofs.write_out.write_columns.Given as goal
 
 abbrev pub decreases-loop-left : goal.decreases-loop-left
