@@ -8,113 +8,136 @@ use cli_reasons::section::{section_name, section_of};
 use cli_reasons::{groups, late, layout, starts};
 use cli_texts::{files, say};
 use lists::word_at;
+use std::io;
+use std::io::Stderr;
+use std::rt::{Env, Files};
 
 // The argument that names the circuit's file.
 const CIRCUIT: usize = 2;
 
 // Which of a node's words it is.
-fn node_word(part: u64) {
+fn node_word(err: Stderr, part: u64) -> io::Result<()> {
     match part {
-        0 => say::error(b" (its kind)"),
-        1 => say::error(b" (its first)"),
-        2 => say::error(b" (its second)"),
-        _ => say::error(b" (its value)"),
+        0 => say::error(err, b" (its kind)"),
+        1 => say::error(err, b" (its first)"),
+        2 => say::error(err, b" (its second)"),
+        _ => say::error(err, b" (its value)"),
     }
 }
 
-fn node_of(circuit: &[u64], at: u64) {
+fn node_of(err: Stderr, circuit: &[u64], at: u64) -> io::Result<()> {
     let start = word_at(circuit, NODE_START);
     if (start <= at) & (at < word_at(circuit, CONSTRAINT_START)) {
         let part = std::num::wrapping_sub_u64(at, start);
-        say::error_count(b", node ", part / 4);
-        node_word(part % 4);
+        say::error_count(err, b", node ", part / 4)?;
+        node_word(err, part % 4)?;
     }
+    Ok(())
 }
 
 // A word's number, and its line where that can be told.
-pub(crate) fn stands(place: usize) {
-    say::error_count(b"word ", place as u64);
-    let line = files::line_of(CIRCUIT, place);
+pub(crate) fn stands(rt: &(impl Files + Env), err: Stderr, place: usize) -> io::Result<()> {
+    say::error_count(err, b"word ", place as u64)?;
+    let line = files::line_of(rt, CIRCUIT, place);
     if line != 0 {
-        say::error_count(b", line ", line);
+        say::error_count(err, b", line ", line)?;
     }
+    Ok(())
 }
 
 // The first offending word: its number, line, value and section.
-fn offending(circuit: &[u64], no: u64, place: usize) {
-    files::name(CIRCUIT);
-    say::error(b": the first offending word is ");
-    stands(place);
-    say::error_count(b", its value ", word_at(circuit, place));
-    say::error(b"; it stands in ");
-    section_name(section_of(circuit, place as u64));
+fn offending(
+    rt: &(impl Files + Env),
+    err: Stderr,
+    circuit: &[u64],
+    no: u64,
+    place: usize,
+) -> io::Result<()> {
+    files::name(rt, err, CIRCUIT)?;
+    say::error(err, b": the first offending word is ")?;
+    stands(rt, err, place)?;
+    say::error_count(err, b", its value ", word_at(circuit, place))?;
+    say::error(err, b"; it stands in ")?;
+    section_name(err, section_of(circuit, place as u64))?;
     if no > 4 {
-        node_of(circuit, place as u64);
+        node_of(err, circuit, place as u64)?;
     }
-    say::error(b"\n");
+    say::error(err, b"\n")
 }
 
 // A cell that stood in its cycle before.
-fn again(circuit: &[u64], place: usize) {
+fn again(rt: &(impl Files + Env), err: Stderr, circuit: &[u64], place: usize) -> io::Result<()> {
     let before = late::stood_before(circuit, place);
     if before != NONE {
-        say::error(b"the same cell stands in its cycle before, at ");
-        stands(before);
-        say::error(b"\n");
+        say::error(err, b"the same cell stands in its cycle before, at ")?;
+        stands(rt, err, before)?;
+        say::error(err, b"\n")?;
     }
+    Ok(())
 }
 
 // What is wrong with the first offending word.
-fn why(circuit: &[u64], no: u64, place: usize) {
+fn why(
+    rt: &(impl Files + Env),
+    err: Stderr,
+    circuit: &[u64],
+    no: u64,
+    place: usize,
+) -> io::Result<()> {
     match no {
-        2 => starts::size_why(circuit),
-        3 => starts::limit_why(circuit, place),
-        4 => starts::start_why(circuit, place),
-        5 => late::columns_why(circuit, place),
-        6 => late::value_why(circuit, place),
-        7 => layout::layout_why(circuit, place),
-        8 => late::range_why(circuit, place),
-        9 => late::width_why(circuit, place),
-        10 => late::degree_why(circuit, place),
-        18 => groups::group_why(circuit, place),
-        _ => late::cell_why(circuit, place),
-    }
+        2 => starts::size_why(err, circuit),
+        3 => starts::limit_why(err, circuit, place),
+        4 => starts::start_why(err, circuit, place),
+        5 => late::columns_why(err, circuit, place),
+        6 => late::value_why(err, circuit, place),
+        7 => layout::layout_why(err, circuit, place),
+        8 => late::range_why(err, circuit, place),
+        9 => late::width_why(err, circuit, place),
+        10 => late::degree_why(err, circuit, place),
+        18 => groups::group_why(err, circuit, place),
+        _ => late::cell_why(err, circuit, place),
+    }?;
     if no == 11 {
-        again(circuit, place);
+        again(rt, err, circuit, place)?;
     }
+    Ok(())
 }
 
 // Too few words, or more or fewer than the contents say.
-fn length(circuit: &[u64], no: u64) {
-    files::name(CIRCUIT);
+fn length(rt: &(impl Files + Env), err: Stderr, circuit: &[u64], no: u64) -> io::Result<()> {
+    files::name(rt, err, CIRCUIT)?;
     if no == 1 {
-        say::error_count(b": there are ", circuit.len() as u64);
-        say::error(b" words, at least 22 are needed\n");
+        say::error_count(err, b": there are ", circuit.len() as u64)?;
+        say::error(err, b" words, at least 22 are needed\n")?;
     } else {
-        starts::length_why(circuit);
+        starts::length_why(err, circuit)?;
     }
-    files::line_ends(CIRCUIT);
+    files::line_ends(rt, err, CIRCUIT)
 }
 
 // Says so of words that have the layout from before groups.
-fn hint(circuit: &[u64]) {
+fn hint(rt: &(impl Files + Env), err: Stderr, circuit: &[u64]) -> io::Result<()> {
     if is_older(circuit) {
-        files::name(CIRCUIT);
-        say::error(b": these words have the layout from before groups; hyperplonk_cli regroup ");
-        files::name(CIRCUIT);
-        say::error(b" rewrites them\n");
+        files::name(rt, err, CIRCUIT)?;
+        say::error(
+            err,
+            b": these words have the layout from before groups; hyperplonk_cli regroup ",
+        )?;
+        files::name(rt, err, CIRCUIT)?;
+        say::error(err, b" rewrites them\n")?;
     }
+    Ok(())
 }
 
 // Says all of it.
-pub fn refusal(circuit: &[u64], no: u64) {
-    question::answered_no(no);
+pub fn refusal(rt: &(impl Files + Env), err: Stderr, circuit: &[u64], no: u64) -> io::Result<()> {
+    question::answered_no(err, no)?;
     let place = place_of(circuit, no);
     if place == NONE {
-        length(circuit, no);
+        length(rt, err, circuit, no)?;
     } else {
-        offending(circuit, no, place);
-        why(circuit, no, place);
+        offending(rt, err, circuit, no, place)?;
+        why(rt, err, circuit, no, place)?;
     }
-    hint(circuit);
+    hint(rt, err, circuit)
 }

@@ -5,6 +5,9 @@ use cli_faults::bounds::{NONE, bounds_of, sum_of};
 use cli_texts::{files, say};
 use field::MODULUS;
 use lists::word_at;
+use std::io;
+use std::io::Stderr;
+use std::rt::{Env, Files};
 
 // The arguments of build and of check that name the files.
 const BUILD_INSTANCE: usize = 3;
@@ -22,18 +25,25 @@ const CHECK_Y: usize = 5;
 const CHECK_OUT: usize = 6;
 
 // Says so and answers true where the length is not the one needed.
-fn lengths(argument: usize, name: &[u8], given: usize, needed: u64) -> bool {
+fn lengths(
+    rt: &(impl Files + Env),
+    err: Stderr,
+    argument: usize,
+    name: &[u8],
+    given: usize,
+    needed: u64,
+) -> io::Result<bool> {
     if given as u64 == needed {
-        return false;
+        return Ok(false);
     }
-    files::name(argument);
-    say::error(b": ");
-    say::error(name);
-    say::error_two(b" words given: ", given as u64, b", needed: ", needed);
+    files::name(rt, err, argument)?;
+    say::error(err, b": ")?;
+    say::error(err, name)?;
+    say::error_two(err, b" words given: ", given as u64, b", needed: ", needed)?;
     if (given as u64) < needed {
-        files::line_ends(argument);
+        files::line_ends(rt, err, argument)?;
     }
-    true
+    Ok(true)
 }
 
 // The place of the first word that is p or more.
@@ -49,31 +59,38 @@ fn first_large(words: &[u64]) -> usize {
 }
 
 // The file, and the line of a word where it can be told.
-fn line(argument: usize, place: usize) {
-    files::name(argument);
-    let line = files::line_of(argument, place);
+fn line(rt: &(impl Files + Env), err: Stderr, argument: usize, place: usize) -> io::Result<()> {
+    files::name(rt, err, argument)?;
+    let line = files::line_of(rt, argument, place);
     if line != 0 {
-        say::error_count(b", line ", line);
+        say::error_count(err, b", line ", line)?;
     }
-    say::error(b": ");
+    say::error(err, b": ")
 }
 
 // Says so and answers true where a word is p or more.
-fn large(argument: usize, name: &[u8], words: &[u64]) -> bool {
+fn large(
+    rt: &(impl Files + Env),
+    err: Stderr,
+    argument: usize,
+    name: &[u8],
+    words: &[u64],
+) -> io::Result<bool> {
     let at = first_large(words);
     if at == NONE {
-        return false;
+        return Ok(false);
     }
-    line(argument, at);
-    say::error(name);
-    say::error_count(b" word ", at as u64);
-    say::error_count(b" is ", word_at(words, at));
+    line(rt, err, argument, at)?;
+    say::error(err, name)?;
+    say::error_count(err, b" word ", at as u64)?;
+    say::error_count(err, b" is ", word_at(words, at))?;
     say::error_count(
+        err,
         b", at most p - 1, which is ",
         std::num::wrapping_sub_u64(MODULUS, 1),
-    );
-    say::error(b"\n");
-    true
+    )?;
+    say::error(err, b"\n")?;
+    Ok(true)
 }
 
 // The witness words needed.
@@ -95,50 +112,80 @@ fn instance_words(circuit: &[u64]) -> u64 {
     )
 }
 
-fn build_lengths(circuit: &[u64], instance: usize, witness: usize, challenges: usize, user: u64) {
+fn build_lengths(
+    rt: &(impl Files + Env),
+    err: Stderr,
+    circuit: &[u64],
+    instance: usize,
+    witness: usize,
+    challenges: usize,
+    user: u64,
+) -> io::Result<()> {
     let needed = std::num::wrapping_add_u64(user, 2);
     lengths(
+        rt,
+        err,
         BUILD_INSTANCE,
         b"instance",
         instance,
         instance_words(circuit),
-    );
-    lengths(BUILD_WITNESS, b"witness", witness, witness_words(circuit));
-    lengths(BUILD_CHALLENGES, b"challenge", challenges, needed);
+    )?;
+    lengths(
+        rt,
+        err,
+        BUILD_WITNESS,
+        b"witness",
+        witness,
+        witness_words(circuit),
+    )?;
+    lengths(rt, err, BUILD_CHALLENGES, b"challenge", challenges, needed)?;
+    Ok(())
 }
 
 // Of a build that was refused by 12 or 13.
 pub fn build_values(
+    rt: &(impl Files + Env),
+    err: Stderr,
     circuit: &[u64],
     instance: &[u64],
     witness: &[u64],
     challenges: &[u64],
     user: u64,
     no: u64,
-) {
+) -> io::Result<()> {
     if no == 12 {
         build_lengths(
+            rt,
+            err,
             circuit,
             instance.len(),
             witness.len(),
             challenges.len(),
             user,
-        );
+        )?;
     }
     if no == 13 {
-        large(BUILD_INSTANCE, b"instance", instance);
-        large(BUILD_WITNESS, b"witness", witness);
-        large(BUILD_CHALLENGES, b"challenge", challenges);
+        large(rt, err, BUILD_INSTANCE, b"instance", instance)?;
+        large(rt, err, BUILD_WITNESS, b"witness", witness)?;
+        large(rt, err, BUILD_CHALLENGES, b"challenge", challenges)?;
     }
+    Ok(())
 }
 
 // Are all of these below p? Says so where one is not.
-fn all_small(witness: &[u64], columns: &[u64], challenges: &[u64], y: &[u64]) -> bool {
-    let first = large(CHECK_WITNESS, b"witness", witness);
-    let second = large(CHECK_OUT, b"column", columns);
-    let third = large(CHECK_CHALLENGES, b"challenge", challenges);
-    let fourth = large(CHECK_Y, b"y", y);
-    !(first | second | third | fourth)
+fn all_small(
+    rt: &(impl Files + Env),
+    err: Stderr,
+    witness: &[u64],
+    columns: &[u64],
+    challenges: &[u64],
+    y: &[u64],
+) -> io::Result<bool> {
+    let first = large(rt, err, CHECK_WITNESS, b"witness", witness)?;
+    let second = large(rt, err, CHECK_OUT, b"column", columns)?;
+    let third = large(rt, err, CHECK_CHALLENGES, b"challenge", challenges)?;
+    let fourth = large(rt, err, CHECK_Y, b"y", y)?;
+    Ok(!(first | second | third | fourth))
 }
 
 // The lengths that a circuit asks for: column words, nodes, user challenges.
@@ -151,6 +198,8 @@ pub struct Needed {
 
 // Of a row sum that was refused by 16.
 pub fn sum_values(
+    rt: &(impl Files + Env),
+    err: Stderr,
     circuit: &[u64],
     witness: &[u64],
     columns: &[u64],
@@ -158,23 +207,43 @@ pub fn sum_values(
     challenges: &[u64],
     y: &[u64],
     s: Needed,
-) {
+) -> io::Result<()> {
     let user = std::num::wrapping_add_u64(s.user as u64, 3);
     let first = lengths(
+        rt,
+        err,
         CHECK_WITNESS,
         b"witness",
         witness.len(),
         witness_words(circuit),
-    );
-    let second = lengths(CHECK_OUT, b"column", columns.len(), s.columns as u64);
-    let third = lengths(CHECK_OUT, b"node", nodes.len(), s.nodes << 2);
-    let fourth = lengths(CHECK_CHALLENGES, b"challenge", challenges.len(), user);
-    let fifth = lengths(CHECK_Y, b"y", y.len(), word_at(circuit, K_WORD));
+    )?;
+    let second = lengths(
+        rt,
+        err,
+        CHECK_OUT,
+        b"column",
+        columns.len(),
+        s.columns as u64,
+    )?;
+    let third = lengths(rt, err, CHECK_OUT, b"node", nodes.len(), s.nodes << 2)?;
+    let fourth = lengths(
+        rt,
+        err,
+        CHECK_CHALLENGES,
+        b"challenge",
+        challenges.len(),
+        user,
+    )?;
+    let fifth = lengths(rt, err, CHECK_Y, b"y", y.len(), word_at(circuit, K_WORD))?;
     if first | second | third | fourth | fifth {
-        return;
+        return Ok(());
     }
-    if all_small(witness, columns, challenges, y) {
-        files::name(CHECK_OUT);
-        say::error(b": the node words are not those that building writes\n");
+    if all_small(rt, err, witness, columns, challenges, y)? {
+        files::name(rt, err, CHECK_OUT)?;
+        say::error(
+            err,
+            b": the node words are not those that building writes\n",
+        )?;
     }
+    Ok(())
 }

@@ -3,6 +3,8 @@ use cli_faults::bounds::{Bounds, bounds_of};
 use cli_faults::groups::{first_of, lookup_start, number_of, width_of};
 use cli_texts::say;
 use lists::word_at;
+use std::io;
+use std::io::Stderr;
 
 // One less.
 fn last(count: u64) -> u64 {
@@ -27,61 +29,60 @@ pub(crate) fn lookup_at(circuit: &[u64], b: Bounds, place: usize) -> u64 {
 }
 
 // "first 0, each next the same or one more"
-fn number_why(circuit: &[u64], b: Bounds, i: u64) {
-    say::error_count(b"lookup ", i);
-    say::error_count(b" has group number ", number_of(circuit, b, i));
+fn number_why(err: Stderr, circuit: &[u64], b: Bounds, i: u64) -> io::Result<()> {
+    say::error_count(err, b"lookup ", i)?;
+    say::error_count(err, b" has group number ", number_of(circuit, b, i))?;
     if i == 0 {
-        say::error(b", expected 0\n");
-        return;
+        return say::error(err, b", expected 0\n");
     }
     let before = number_of(circuit, b, last(i));
-    say::error_count(b", expected ", before);
-    say::error_count(b" or ", std::num::wrapping_add_u64(before, 1));
-    say::error_count(b": that of lookup ", last(i));
-    say::error(b", or one more\n");
+    say::error_count(err, b", expected ", before)?;
+    say::error_count(err, b" or ", std::num::wrapping_add_u64(before, 1))?;
+    say::error_count(err, b": that of lookup ", last(i))?;
+    say::error(err, b", or one more\n")
 }
 
 // The first lookup of the group.
-fn against(circuit: &[u64], b: Bounds, i: u64) {
-    say::error_count(b"lookup ", first_of(circuit, b, i));
-    say::error_count(b", the first of group ", number_of(circuit, b, i));
+fn against(err: Stderr, circuit: &[u64], b: Bounds, i: u64) -> io::Result<()> {
+    say::error_count(err, b"lookup ", first_of(circuit, b, i))?;
+    say::error_count(err, b", the first of group ", number_of(circuit, b, i))
 }
 
-fn width_why(circuit: &[u64], b: Bounds, i: u64) {
-    say::error_count(b"the table of lookup ", i);
-    say::error_count(b" has width ", width_of(circuit, b, i));
-    say::error(b", that of ");
-    against(circuit, b, i);
+fn width_why(err: Stderr, circuit: &[u64], b: Bounds, i: u64) -> io::Result<()> {
+    say::error_count(err, b"the table of lookup ", i)?;
+    say::error_count(err, b" has width ", width_of(circuit, b, i))?;
+    say::error(err, b", that of ")?;
+    against(err, circuit, b, i)?;
     say::error_count(
+        err,
         b", has width ",
         width_of(circuit, b, first_of(circuit, b, i)),
-    );
-    say::error(b"\n");
+    )?;
+    say::error(err, b"\n")
 }
 
-fn tree_why(circuit: &[u64], b: Bounds, place: usize) {
+fn tree_why(err: Stderr, circuit: &[u64], b: Bounds, place: usize) -> io::Result<()> {
     let i = lookup_at(circuit, b, place);
     say::error_count(
+        err,
         b"table expression ",
         behind(place, lookup_start(circuit, b, i)) / 2,
-    );
-    say::error_count(b" of lookup ", i);
-    say::error_count(b", node ", word_at(circuit, place));
-    say::error(b", is not the same tree as that of ");
-    against(circuit, b, i);
-    say::error(b"\n");
+    )?;
+    say::error_count(err, b" of lookup ", i)?;
+    say::error_count(err, b", node ", word_at(circuit, place))?;
+    say::error(err, b", is not the same tree as that of ")?;
+    against(err, circuit, b, i)?;
+    say::error(err, b"\n")
 }
 
 // Question 18.
-pub fn group_why(circuit: &[u64], place: usize) {
+pub fn group_why(err: Stderr, circuit: &[u64], place: usize) -> io::Result<()> {
     let b = bounds_of(circuit);
     if b.groups_start <= place {
-        number_why(circuit, b, behind(place, b.groups_start));
-        return;
+        return number_why(err, circuit, b, behind(place, b.groups_start));
     }
     if place < b.pairs_start {
-        width_why(circuit, b, behind(place, b.widths_start));
-        return;
+        return width_why(err, circuit, b, behind(place, b.widths_start));
     }
-    tree_why(circuit, b, place);
+    tree_why(err, circuit, b, place)
 }

@@ -12,6 +12,8 @@ use expression::kind::POLYNOMIAL;
 use expression::node::SIGNED_OFFSET;
 use field::MODULUS;
 use lists::word_at;
+use std::io;
+use std::io::Stderr;
 
 // One less than a count.
 fn last(count: u64) -> u64 {
@@ -23,29 +25,33 @@ fn behind(place: usize, start: u64) -> u64 {
     std::num::wrapping_sub_u64(place as u64, start)
 }
 
-fn round_why(part: u64) {
-    say::error_count(b"round ", part / 2);
+fn round_why(err: Stderr, part: u64) -> io::Result<()> {
+    say::error_count(err, b"round ", part / 2)?;
     if part % 2 == 0 {
-        say::error(b" has no witness column, at least 1 is asked\n");
+        say::error(err, b" has no witness column, at least 1 is asked\n")?;
     } else {
-        say::error(b" has no challenge, every round but the last has at least 1\n");
+        say::error(
+            err,
+            b" has no challenge, every round but the last has at least 1\n",
+        )?;
     }
+    Ok(())
 }
 
 // Question 5.
-pub fn columns_why(circuit: &[u64], place: usize) {
+pub fn columns_why(err: Stderr, circuit: &[u64], place: usize) -> io::Result<()> {
     let b = bounds_of(circuit);
     if (place as u64) < word_at(circuit, PREPROCESS_START) {
         say::error_count(
+            err,
             b"instance column ",
             behind(place, word_at(circuit, INSTANCE_START)),
-        );
-        say::error_count(b" has ", word_at(circuit, place));
-        say::error_count(b" values, at most ", last(b.rows));
-        say::error(b"\n");
-        return;
+        )?;
+        say::error_count(err, b" has ", word_at(circuit, place))?;
+        say::error_count(err, b" values, at most ", last(b.rows))?;
+        return say::error(err, b"\n");
     }
-    round_why(behind(place, word_at(circuit, ROUND_START)));
+    round_why(err, behind(place, word_at(circuit, ROUND_START)))
 }
 
 // The column of a word of the preprocess columns.
@@ -57,122 +63,130 @@ fn column_of(part: u64, k: u64) -> u64 {
 }
 
 // Question 6.
-pub fn value_why(circuit: &[u64], place: usize) {
+pub fn value_why(err: Stderr, circuit: &[u64], place: usize) -> io::Result<()> {
     let b = bounds_of(circuit);
     if (place as u64) < word_at(circuit, ROUND_START) {
         let part = behind(place, word_at(circuit, PREPROCESS_START));
-        say::error_count(b"preprocess column ", column_of(part, b.k));
-        say::error_count(b", row ", part & last(b.rows));
+        say::error_count(err, b"preprocess column ", column_of(part, b.k))?;
+        say::error_count(err, b", row ", part & last(b.rows))?;
     } else {
-        say::error(b"a Constant or scalar");
+        say::error(err, b"a Constant or scalar")?;
     }
-    say::error_count(b": at most p - 1, which is ", last(MODULUS));
-    say::error(b"\n");
+    say::error_count(err, b": at most p - 1, which is ", last(MODULUS))?;
+    say::error(err, b"\n")
 }
 
 // A polynomial number out of range.
-fn poly_why(b: Bounds, n: u64) {
-    say::error_range(b"polynomial ", n, 0, last(b.polys));
+fn poly_why(err: Stderr, b: Bounds, n: u64) -> io::Result<()> {
+    say::error_range(err, b"polynomial ", n, 0, last(b.polys))
 }
 
 // A user challenge number out of range.
-fn user_why(b: Bounds, n: u64) {
+fn user_why(err: Stderr, b: Bounds, n: u64) -> io::Result<()> {
     if b.user == 0 {
-        say::error_count(b"user challenge ", n);
-        say::error(b", there is none\n");
-        return;
+        say::error_count(err, b"user challenge ", n)?;
+        return say::error(err, b", there is none\n");
     }
-    say::error_range(b"user challenge ", n, 0, last(b.user));
+    say::error_range(err, b"user challenge ", n, 0, last(b.user))
 }
 
 // A kept rotation out of range.
-fn rotation_why(kept: u64, k: u64) {
+fn rotation_why(err: Stderr, kept: u64, k: u64) -> io::Result<()> {
     if kept < SIGNED_OFFSET {
         say::error_count(
+            err,
             b"rotation -",
             std::num::wrapping_sub_u64(SIGNED_OFFSET, kept),
-        );
+        )?;
     } else {
         say::error_count(
+            err,
             b"rotation ",
             std::num::wrapping_sub_u64(kept, SIGNED_OFFSET),
-        );
+        )?;
     }
-    say::error_two(b", from -", k, b" to ", k);
+    say::error_two(err, b", from -", k, b" to ", k)
 }
 
 // Question 8.
-pub fn range_why(circuit: &[u64], place: usize) {
+pub fn range_why(err: Stderr, circuit: &[u64], place: usize) -> io::Result<()> {
     let b = bounds_of(circuit);
     let part = std::num::wrapping_sub_usize(place, b.nodes_start) % 4;
     let kind = word_at(circuit, std::num::wrapping_sub_usize(place, part));
     let held = word_at(circuit, place);
     if part == 0 {
-        say::error(b"kind 4, EqXY, stands in the composed expression only\n");
-        return;
+        return say::error(
+            err,
+            b"kind 4, EqXY, stands in the composed expression only\n",
+        );
     }
     if part == 3 {
-        rotation_why(held, b.k);
-        return;
+        return rotation_why(err, held, b.k);
     }
     if kind == POLYNOMIAL {
-        poly_why(b, held);
+        poly_why(err, b, held)?;
     } else {
-        user_why(b, held);
+        user_why(err, b, held)?;
     }
+    Ok(())
 }
 
 // Question 9.
-pub fn width_why(circuit: &[u64], place: usize) {
+pub fn width_why(err: Stderr, circuit: &[u64], place: usize) -> io::Result<()> {
     if place == CONSTRAINT_COUNT {
-        say::error(b"there is no constraint, no lookup and no cycle, at least one is asked\n");
-        return;
+        return say::error(
+            err,
+            b"there is no constraint, no lookup and no cycle, at least one is asked\n",
+        );
     }
     let b = bounds_of(circuit);
-    say::error_count(b"lookup ", behind(place, b.widths_start as u64));
-    say::error(b" has width 0, at least 1 is asked\n");
+    say::error_count(err, b"lookup ", behind(place, b.widths_start as u64))?;
+    say::error(err, b" has width 0, at least 1 is asked\n")
 }
 
 // A degree, which is known up to a number.
-fn degree(n: u64, known: u64) {
+fn degree(err: Stderr, n: u64, known: u64) -> io::Result<()> {
     if known < n {
-        say::error(b" has a degree above 1024");
+        say::error(err, b" has a degree above 1024")?;
     } else {
-        say::error_count(b" has degree ", n);
+        say::error_count(err, b" has degree ", n)?;
     }
+    Ok(())
 }
 
 // A group of too large a degree: a lookup alone, or several.
-fn group_why(circuit: &[u64], b: Bounds, place: usize) {
+fn group_why(err: Stderr, circuit: &[u64], b: Bounds, place: usize) -> io::Result<()> {
     let first = lookup_at(circuit, b, place);
     let lookups = lookups_in(circuit, b, first);
     if lookups == 1 {
-        say::error_count(b"lookup ", first);
+        say::error_count(err, b"lookup ", first)?;
     } else {
-        say::error_count(b"the group of lookups ", first);
-        say::error_count(b" to ", last(std::num::wrapping_add_u64(first, lookups)));
+        say::error_count(err, b"the group of lookups ", first)?;
+        say::error_count(
+            err,
+            b" to ",
+            last(std::num::wrapping_add_u64(first, lookups)),
+        )?;
     }
-    degree(group_degree(circuit, b, first), last(ABOVE));
-    say::error(b", at most 1024\n");
+    degree(err, group_degree(circuit, b, first), last(ABOVE))?;
+    say::error(err, b", at most 1024\n")
 }
 
 // Question 10.
-pub fn degree_why(circuit: &[u64], place: usize) {
+pub fn degree_why(err: Stderr, circuit: &[u64], place: usize) -> io::Result<()> {
     let b = bounds_of(circuit);
     let stated = word_at(circuit, STATED_WORD);
     if b.pairs_start <= place {
-        group_why(circuit, b, place);
-        return;
+        return group_why(err, circuit, b, place);
     }
     let j = std::num::wrapping_sub_usize(place, b.constraints_start);
-    say::error_count(b"constraint ", j as u64);
-    degree(degree_of(circuit, b, word_at(circuit, place)), 1024);
+    say::error_count(err, b"constraint ", j as u64)?;
+    degree(err, degree_of(circuit, b, word_at(circuit, place)), 1024)?;
     if stated == 0 {
-        say::error(b", at most 1024\n");
-        return;
+        return say::error(err, b", at most 1024\n");
     }
-    say::error_count(b", at most ", last(stated));
-    say::error(b" is stated\n");
+    say::error_count(err, b", at most ", last(stated))?;
+    say::error(err, b" is stated\n")
 }
 
 // Where the cell at a place stood before in its cycle, or NONE.
@@ -186,19 +200,18 @@ pub fn stood_before(circuit: &[u64], place: usize) -> usize {
 }
 
 // Question 11, but for a cell that stood in its cycle before.
-pub fn cell_why(circuit: &[u64], place: usize) {
+pub fn cell_why(err: Stderr, circuit: &[u64], place: usize) -> io::Result<()> {
     let b = bounds_of(circuit);
     let held = word_at(circuit, place);
     if place < b.cells_start {
-        say::error_count(b"cycle ", behind(place, b.lengths_start as u64));
-        say::error(b" has no cell, at least 1 is asked\n");
-        return;
+        say::error_count(err, b"cycle ", behind(place, b.lengths_start as u64))?;
+        return say::error(err, b" has no cell, at least 1 is asked\n");
     }
     if std::num::wrapping_sub_usize(place, b.cells_start) % 2 != 0 {
-        say::error_range(b"row ", held, 1, last(b.rows));
-        return;
+        return say::error_range(err, b"row ", held, 1, last(b.rows));
     }
     if b.polys <= held {
-        poly_why(b, held);
+        poly_why(err, b, held)?;
     }
+    Ok(())
 }

@@ -5,6 +5,8 @@ use backend_sections::contents::{
 use cli_faults::bounds::{NO_SECTION, after};
 use cli_texts::say;
 use lists::word_at;
+use std::io;
+use std::io::Stderr;
 
 // The section that a word past the contents stands in, by the starts; none for a word of the contents.
 pub fn section_of(circuit: &[u64], at: u64) -> usize {
@@ -24,31 +26,32 @@ pub fn section_of(circuit: &[u64], at: u64) -> usize {
 }
 
 // Its name.
-pub fn section_name(s: usize) {
+pub fn section_name(err: Stderr, s: usize) -> io::Result<()> {
     if s < WIDTHS {
-        early_name(s);
+        early_name(err, s)?;
     } else {
-        late_name(s);
+        late_name(err, s)?;
+    }
+    Ok(())
+}
+
+fn early_name(err: Stderr, s: usize) -> io::Result<()> {
+    match s {
+        INSTANCES => say::error(err, b"the instance lengths"),
+        PREPROCESS => say::error(err, b"the preprocess columns"),
+        ROUNDS => say::error(err, b"the rounds"),
+        NODES => say::error(err, b"the nodes"),
+        _ => say::error(err, b"the constraint roots"),
     }
 }
 
-fn early_name(s: usize) {
+fn late_name(err: Stderr, s: usize) -> io::Result<()> {
     match s {
-        INSTANCES => say::error(b"the instance lengths"),
-        PREPROCESS => say::error(b"the preprocess columns"),
-        ROUNDS => say::error(b"the rounds"),
-        NODES => say::error(b"the nodes"),
-        _ => say::error(b"the constraint roots"),
-    }
-}
-
-fn late_name(s: usize) {
-    match s {
-        WIDTHS => say::error(b"the lookup widths"),
-        PAIRS => say::error(b"the lookup pairs"),
-        LENGTHS => say::error(b"the cycle lengths"),
-        CELLS => say::error(b"the cells"),
-        GROUPS => say::error(b"the group numbers"),
-        _ => say::error(b"the table of contents"),
+        WIDTHS => say::error(err, b"the lookup widths"),
+        PAIRS => say::error(err, b"the lookup pairs"),
+        LENGTHS => say::error(err, b"the cycle lengths"),
+        CELLS => say::error(err, b"the cells"),
+        GROUPS => say::error(err, b"the group numbers"),
+        _ => say::error(err, b"the table of contents"),
     }
 }

@@ -1,5 +1,6 @@
 // Both cuts of the copied columns: the constraints cut them by D - 1, z by n/N rounded up.
 use crate::shape::Shape;
+use std::io;
 
 // n, D - 1 and N.
 #[derive(Clone, Copy)]
@@ -32,27 +33,27 @@ pub(crate) fn differ(c: Cuts) -> bool {
 }
 
 // The sizes of the parts, commas between.
-fn sizes(fd: i32, columns: usize, part: usize) {
+fn sizes(to: &impl Print, columns: usize, part: usize) -> io::Result<()> {
     let mut left = columns;
     while left > 0 {
         if part == 0 {
-            return;
+            return Ok(());
         }
         if left <= part {
-            io::print_decimal(fd, left as u64);
-            return;
+            return to.print(left);
         }
-        io::print_decimal(fd, part as u64);
-        io::write_all(fd, b",");
+        to.print(part)?;
+        to.write_all(b",")?;
         left -= part;
     }
+    Ok(())
 }
 
 // Says so, of cuts that differ.
-pub(crate) fn tell(fd: i32, c: Cuts) {
-    io::write_all(fd, b"the constraints cut the copied columns ");
-    sizes(fd, c.copied, c.part);
-    io::write_all(fd, b" and z cuts them ");
-    sizes(fd, c.copied, z_part(c));
-    io::write_all(fd, b": for this circuit a good log's sum need not be 0\n");
+pub(crate) fn tell(to: &impl Print, c: Cuts) -> io::Result<()> {
+    to.write_all(b"the constraints cut the copied columns ")?;
+    sizes(to, c.copied, c.part)?;
+    to.write_all(b" and z cuts them ")?;
+    sizes(to, c.copied, z_part(c))?;
+    to.write_all(b": for this circuit a good log's sum need not be 0\n")
 }

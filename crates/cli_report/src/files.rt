@@ -1,4 +1,7 @@
 // Files of words, written; the crate texts reads them.
+use std::io;
+use std::io::Write;
+
 // Puts a text into a line from a place on, as far as it goes in, and answers the place after it.
 pub fn put(line: &mut [u8], at: usize, text: &[u8]) -> usize {
     let mut to = at;
@@ -16,9 +19,8 @@ pub fn put(line: &mut [u8], at: usize, text: &[u8]) -> usize {
 
 // Puts a number's digits.
 pub fn put_digits(line: &mut [u8], at: usize, n: u64) -> usize {
-    let mut text = [0u8; 20];
-    let k = io::decimal(n, &mut text);
-    put(line, at, &text[..k])
+    let mut digits = itoa::Buffer::new();
+    put(line, at, digits.format(n).as_bytes())
 }
 
 // Puts a number, after a blank where it is not the first of the line.
@@ -42,39 +44,48 @@ fn put_words(line: &mut [u8], words: &[u64], from: usize, count: usize) -> usize
     put(line, at, b"\n")
 }
 
-fn write_start(fd: i32, line: &[u8], n: usize) -> bool {
+// What is said where the words can't be laid out; no call has such words.
+pub(crate) fn unwritten() -> io::Error {
+    io::Error::other("these words have no such layout")
+}
+
+fn write_start(to: &mut impl Write, line: &[u8], n: usize) -> io::Result<()> {
     if n > line.len() {
-        return false;
+        return Err(unwritten());
     }
-    io::write_all(fd, &line[0..n])
+    to.write_all(&line[0..n])
 }
 
 // Writes a line of up to 8 words.
-fn write_line(fd: i32, words: &[u64], from: usize, count: usize) -> bool {
+fn write_line(to: &mut impl Write, words: &[u64], from: usize, count: usize) -> io::Result<()> {
     let mut line = [b' '; 192];
     if count > 8 {
-        return false;
+        return Err(unwritten());
     }
     let end = put_words(&mut line, words, from, count);
-    write_start(fd, &line, end)
+    write_start(to, &line, end)
 }
 
 // Writes words from a place on, `each` to a line, which is 1 to 8.
-pub fn write_words(fd: i32, words: &[u64], from: usize, count: usize, each: usize) -> bool {
+pub fn write_words(
+    to: &mut impl Write,
+    words: &[u64],
+    from: usize,
+    count: usize,
+    each: usize,
+) -> io::Result<()> {
     let mut at = from;
     let mut left = count;
     while left > 0 {
         if each == 0 {
-            return false;
+            return Err(unwritten());
         }
         if left <= each {
-            return write_line(fd, words, at, left);
+            return write_line(to, words, at, left);
         }
-        if !write_line(fd, words, at, each) {
-            return false;
-        }
+        write_line(to, words, at, each)?;
         at = std::num::wrapping_add_usize(at, each);
         left -= each;
     }
-    true
+    Ok(())
 }

@@ -3,25 +3,29 @@ use crate::cuts;
 use crate::cuts::Cuts;
 use cli_messages::say;
 use lists::word_at;
+use std::io;
+use std::io::Stdout;
 
 // Why a sum may be other than 0.
-fn other(fd: i32, c: Cuts) {
-    io::write_all(
-        fd,
+fn other(to: &impl Print, c: Cuts) -> io::Result<()> {
+    to.write_all(
         b"verdict: the sum is not 0: this log does not meet its circuit, or the columns, witness or challenges are not those of one build\n",
-    );
+    )?;
     if cuts::differ(c) {
-        cuts::tell(fd, c);
+        cuts::tell(to, c)?;
     }
+    Ok(())
 }
 
 // The verdict: on standard output where the sum is 0, else where it is asked for.
-pub fn verdict(fd: i32, sum: u64, c: Cuts) {
+pub fn verdict(out: Stdout, to: &impl Print, sum: u64, c: Cuts) -> io::Result<()> {
     if sum == 0 {
-        say::out(b"verdict: the sum is 0, as for a log that meets its circuit\n");
-        return;
+        return say::out(
+            out,
+            b"verdict: the sum is 0, as for a log that meets its circuit\n",
+        );
     }
-    other(fd, c);
+    other(to, c)
 }
 
 // Are all values 0 or 1?
@@ -37,18 +41,24 @@ fn is_row(y: &[u64]) -> bool {
 }
 
 // Challenges that hide faults. They are the user's, beta, gamma and alpha.
-pub fn notes<'a>(challenges: &'a [u64], y: &'a [u64], user: usize) {
+pub fn notes<'a>(out: Stdout, challenges: &'a [u64], y: &'a [u64], user: usize) -> io::Result<()> {
     if word_at(challenges, user) == 0 {
         say::out(
+            out,
             b"note: beta is 0: no copy is looked at, and of each lookup only the first expression\n",
-        );
+        )?;
     }
     if word_at(challenges, std::num::wrapping_add_usize(user, 2)) == 0 {
         say::out(
+            out,
             b"note: alpha is 0: only the first part of the composed expression is looked at\n",
-        );
+        )?;
     }
     if is_row(y) {
-        say::out(b"note: y is a row of the cube: the constraints are looked at on that row only\n");
+        say::out(
+            out,
+            b"note: y is a row of the cube: the constraints are looked at on that row only\n",
+        )?;
     }
+    Ok(())
 }

@@ -7,11 +7,10 @@ use Rattle.bh.specs.Rows.{place_of}
 use Rattle.expression.specs.Reader.{LayoutSmall}
 use Rattle.expression.specs.Point.{PointInOrder}
 use Rattle.expression.specs.declared.poly.Layout.{Layout}
-use Rattle.expression.specs.declared.value.Point.{Point}
-use Rattle.backend.specs.Circuit.{Section, body_of, circuit_of, word_k, num_lookups, copied, num_copied}
+use Rattle.backend.specs.Circuit.{Section, body_of, circuit_of, num_lookups, copied, num_copied}
 use Rattle.hyperplonk_prepare.specs.Prepared.{Accepted, layout_from_words}
 use Rattle.hyperplonk_prepare.proofs.Accepted.{k_pos, k_few, few_lookups, few_copied, widths_are, widths_length, given}
-use Rattle.hyperplonk_columns.specs.Stages.{lent_beta, lent_gamma}
+use Rattle.hyperplonk_columns.specs.Stages.{lent_beta}
 use Rattle.cli_search.specs.Ground.{GroundSmall, Grounded, first_of}
 use Rattle.cli_search.specs.Missing.{MissingIn, Missing}
 use Rattle.prover_z.specs.Factors.{denominator_in_words}

@@ -1,12 +1,14 @@
 // Files of words, read, and told of by name, line and token.
-ghost use Rattle.std.specs.Prelude.{◌≡◌, ◌≤◌, length};
+ghost use Rattle.std.specs.Prelude.{◌≡◌, ◌≤◌, length, IfOk};
 
 use crate::token::Look;
 use crate::{lines, say, token};
-use decimal::{NO_NUMBER, NOTHING, Scan, TOO_LARGE, TOO_MANY, start, stop, take_bytes, take_end};
-
-// What is wrong with a file besides what may be wrong with its text.
-const UNREADABLE: u64 = 4;
+use decimal::{NO_NUMBER, NOTHING, Scan, TOO_LARGE, TOO_MANY, start, take_bytes, take_end};
+use std::env::FillError;
+use std::fs::File;
+use std::io;
+use std::io::{Read, Seek, SeekFrom, Stderr};
+use std::rt::{Env, Files};
 
 // How many words were read, and whether the file is one of words.
 #[derive(Clone, Copy)]
@@ -25,48 +27,45 @@ fn nothing() -> Got
 }
 
 // Reads once.
-fn read_some(fd: i32, scan: Scan, words: &mut [u64]) -> Scan {
-    let mut buf = io::large_buffer();
-    let got = libc::read(fd, &mut buf);
-    if got < 0 {
-        return stop(scan, UNREADABLE);
+fn read_some(file: &mut impl Read, scan: Scan, words: &mut [u64]) -> io::Result<Scan> {
+    let mut buf = [0u8; 65536];
+    let n = file.read(&mut buf)?;
+    if n == 0 {
+        return Ok(take_end(scan, words));
     }
-    if got == 0 {
-        return take_end(scan, words);
-    }
-    let n = io::count(got, &buf);
-    take_bytes(scan, &buf[..n], words)
+    Ok(take_bytes(scan, &buf[..n], words))
 }
 
-// Reads to the end of the file, or to what is wrong with it. The turns are more than any run uses up.
-fn read_all(fd: i32, words: &mut [u64]) -> Scan {
+// Reads to the end of the file, or to what is wrong with its text; an error where a read fails. The turns are more than any run
+// uses up.
+fn read_all(file: &mut impl Read, words: &mut [u64]) -> io::Result<Scan> {
     let mut scan = start();
     let mut turns = u64::MAX;
     while turns > 0 && scan.more {
-        scan = read_some(fd, scan, words);
+        scan = read_some(file, scan, words)?;
         turns -= 1;
     }
-    scan
+    Ok(scan)
 }
 
 // Reads once, to find the token that is no word.
-fn look_some(fd: i32, look: Look, kept: &mut [u8], words: &mut [u64]) -> Look {
-    let mut buf = io::large_buffer();
-    let got = libc::read(fd, &mut buf);
-    if got <= 0 {
-        let scan = look.scan;
-        return Look {
-            scan: scan,
-            count: look.count,
-            more: false,
-        };
+fn look_some(file: &mut impl Read, look: Look, kept: &mut [u8], words: &mut [u64]) -> Look {
+    let mut buf = [0u8; 65536];
+    match file.read(&mut buf) {
+        Ok(0) | Err(_) => {
+            let scan = look.scan;
+            Look {
+                scan: scan,
+                count: look.count,
+                more: false,
+            }
+        }
+        Ok(n) => token::look_on(look, &buf[..n], kept, words),
     }
-    let n = io::count(got, &buf);
-    token::look_on(look, &buf[..n], kept, words)
 }
 
 // Reads to the end of that token, and answers how many bytes it has.
-fn look_all(fd: i32, kept: &mut [u8], words: &mut [u64]) -> usize {
+fn look_all(file: &mut impl Read, kept: &mut [u8], words: &mut [u64]) -> usize {
     let mut look = Look {
         scan: start(),
         count: 0,
@@ -74,122 +73,163 @@ fn look_all(fd: i32, kept: &mut [u8], words: &mut [u64]) -> usize {
     };
     let mut turns = u64::MAX;
     while turns > 0 && look.more {
-        look = look_some(fd, look, kept, words);
+        look = look_some(file, look, kept, words);
         turns -= 1;
     }
     look.count
 }
 
-// Shows the token that is no word. A file that can't be read from its start once more, as a pipe, has none to show.
-fn show_token(fd: i32, words: &mut [u64]) {
-    let mut kept = [0u8; 40];
-    if libc::lseek(fd, 0, libc::SEEK_SET) != 0 {
-        return;
+// Goes back to the start of the file; a pipe can't.
+fn is_again(file: &mut impl Seek) -> bool {
+    match file.seek(SeekFrom::Start(0)) {
+        Ok(at) => at == 0,
+        Err(_) => false,
     }
-    let count = look_all(fd, &mut kept, words);
-    token::show(&kept, count);
+}
+
+// Shows the token that is no word. A file that can't be read from its start once more, as a pipe, has none to show.
+fn show_token(file: &mut (impl Read + Seek), to: Stderr, words: &mut [u64]) -> io::Result<()> {
+    let mut kept = [0u8; 40];
+    if !is_again(file) {
+        return Ok(());
+    }
+    let count = look_all(file, &mut kept, words);
+    token::show(to, &kept, count)
 }
 
 // Says what is wrong with a file.
-fn complain(fd: i32, path: &[u8], line: u64, wrong: u64, words: &mut [u64]) {
-    say::error(path);
-    say::error_count(b", line ", line);
+fn complain(
+    file: &mut (impl Read + Seek),
+    to: Stderr,
+    path: &[u8],
+    line: u64,
+    wrong: u64,
+    words: &mut [u64],
+) -> io::Result<()> {
+    say::error(to, path)?;
+    say::error_count(to, b", line ", line)?;
     if wrong == TOO_MANY {
-        say::error_count(b": the file is too long, it can have ", words.len() as u64);
-        say::error(b" words\n");
-        return;
+        say::error_count(
+            to,
+            b": the file is too long, it can have ",
+            words.len() as u64,
+        )?;
+        return say::error(to, b" words\n");
     }
     if wrong == NO_NUMBER {
-        say::error(b": this is no decimal number");
+        say::error(to, b": this is no decimal number")?;
     }
     if wrong == TOO_LARGE {
-        say::error(b": the number does not fit in 64 bits");
+        say::error(to, b": the number does not fit in 64 bits")?;
     }
-    show_token(fd, words);
-    say::error(b"\n");
+    show_token(file, to, words)?;
+    say::error(to, b"\n")
 }
 
 // Reads the words of an open file, and says what is wrong with it.
-fn read_open(fd: i32, path: &[u8], words: &mut [u64]) -> Got
-    ensures { result.count ≤ length words.new }
+fn read_open(
+    file: &mut (impl Read + Seek),
+    to: Stderr,
+    path: &[u8],
+    words: &mut [u64],
+) -> io::Result<Got>
+    ensures { IfOk result (λ got. got.count ≤ length words.new) }
 {
-    let scan = read_all(fd, words);
-    if scan.wrong == UNREADABLE {
-        os::fail(path);
-        return nothing();
-    }
+    let scan = match read_all(file, words) {
+        Ok(scan) => scan,
+        Err(why) => {
+            say::fail(to, path, &why)?;
+            return Ok(nothing());
+        }
+    };
     if scan.wrong != NOTHING {
-        complain(fd, path, scan.line, scan.wrong, words);
-        return nothing();
+        complain(file, to, path, scan.line, scan.wrong, words)?;
+        return Ok(nothing());
     }
     let count = scan.count;
     if count > words.len() {
-        return nothing();
+        return Ok(nothing());
     }
-    Got {
+    Ok(Got {
         count: count,
         good: true,
+    })
+}
+
+// Opens the file of this name to read it. A name that is no UTF-8 text is one that the library can't open.
+pub fn open_read<R: Files>(rt: &R, path: &[u8]) -> io::Result<R::File> {
+    match str::from_utf8(path) {
+        Ok(text) => File::open(rt, text),
+        Err(_) => Err(io::Error::other("the name is no UTF-8 text")),
     }
 }
 
 // Reads the words of the file.
-fn read_file(path: &[u8], words: &mut [u64]) -> Got
-    ensures { result.count ≤ length words.new }
+fn read_file(rt: &impl Files, to: Stderr, path: &[u8], words: &mut [u64]) -> io::Result<Got>
+    ensures { IfOk result (λ got. got.count ≤ length words.new) }
 {
-    let fd = os::open_read(path);
-    if fd < 0 {
-        os::fail(path);
-        return nothing();
+    match open_read(rt, path) {
+        Ok(mut file) => read_open(&mut file, to, path, words),
+        Err(why) => {
+            say::fail(to, path, &why)?;
+            Ok(nothing())
+        }
     }
-    let got = read_open(fd, path, words);
-    libc::close(fd);
-    got
+}
+
+// Says why there is no name of a file.
+pub fn unnamed(to: Stderr, why: FillError) -> io::Result<()> {
+    match why {
+        FillError::NotPresent => say::error(to, b"the file's name: Invalid argument\n"),
+        FillError::TooLong => say::error(to, b"the file's name: File name too long\n"),
+    }
 }
 
 // Reads the words of the file that an argument names.
-pub fn read(argument: usize, words: &mut [u64]) -> Got
-    ensures { result.count ≤ length words.new }
+pub fn read(
+    rt: &(impl Files + Env),
+    to: Stderr,
+    argument: usize,
+    words: &mut [u64],
+) -> io::Result<Got>
+    ensures { IfOk result (λ got. got.count ≤ length words.new) }
 {
-    let mut path = io::buffer();
-    let n = os::arg(argument, &mut path);
-    if os::errno() != 0 {
-        os::fail(b"the file's name");
-        return nothing();
+    let mut path = [0u8; 4096];
+    match rt.arg(argument, &mut path) {
+        Ok(n) => read_file(rt, to, &path[..n], words),
+        Err(why) => {
+            unnamed(to, why)?;
+            Ok(nothing())
+        }
     }
-    read_file(&path[..n], words)
 }
 
 // Says the name of the file.
-pub fn name(argument: usize) {
-    let mut path = io::buffer();
-    let n = os::arg(argument, &mut path);
-    say::error(&path[..n]);
+pub fn name(rt: &impl Env, to: Stderr, argument: usize) -> io::Result<()> {
+    let mut path = [0u8; 4096];
+    match rt.arg(argument, &mut path) {
+        Ok(n) => say::error(to, &path[..n]),
+        Err(_) => Ok(()),
+    }
 }
 
-// Opens the file once more, -1 where it can't be or where it can't be read from its start, as a pipe.
-fn open_again(argument: usize) -> i32 {
-    let mut path = io::buffer();
-    let n = os::arg(argument, &mut path);
-    let fd = os::open_read(&path[..n]);
-    if fd < 0 {
-        return -1;
+// Opens the file once more, unless it can't be or can't be read from its start, as a pipe.
+fn open_again<R: Files + Env>(rt: &R, argument: usize) -> Option<R::File> {
+    let mut path = [0u8; 4096];
+    let n = rt.arg(argument, &mut path).ok()?;
+    let mut file = open_read(rt, &path[..n]).ok()?;
+    if !is_again(&mut file) {
+        return None;
     }
-    if libc::lseek(fd, 0, libc::SEEK_SET) != 0 {
-        libc::close(fd);
-        return -1;
-    }
-    fd
+    Some(file)
 }
 
 // The line of a word of the file, 0 where it can't be told.
-pub fn line_of(argument: usize, place: usize) -> u64 {
-    let fd = open_again(argument);
-    if fd < 0 {
-        return 0;
+pub fn line_of(rt: &(impl Files + Env), argument: usize, place: usize) -> u64 {
+    match open_again(rt, argument) {
+        Some(mut file) => lines::line_at(&mut file, place),
+        None => 0,
     }
-    let line = lines::line_at(fd, place);
-    libc::close(fd);
-    line
 }
 
 // Which of these bytes a text has: a carriage return, a line feed, a #.
@@ -221,23 +261,21 @@ fn see(seen: Seen, bytes: &[u8]) -> Seen {
     }
 }
 
-fn see_some(fd: i32, seen: Seen) -> Seen {
-    let mut buf = io::large_buffer();
-    let got = libc::read(fd, &mut buf);
-    if got <= 0 {
-        return Seen {
+fn see_some(file: &mut impl Read, seen: Seen) -> Seen {
+    let mut buf = [0u8; 65536];
+    match file.read(&mut buf) {
+        Ok(0) | Err(_) => Seen {
             returns: seen.returns,
             feeds: seen.feeds,
             hashes: seen.hashes,
             more: false,
-        };
+        },
+        Ok(n) => see(seen, &buf[..n]),
     }
-    let n = io::count(got, &buf);
-    see(seen, &buf[..n])
 }
 
 // Have the lines of an open file carriage returns alone, so that a # takes the rest of it?
-fn returns_alone(fd: i32) -> bool {
+fn returns_alone(file: &mut impl Read) -> bool {
     let mut seen = Seen {
         returns: false,
         feeds: false,
@@ -246,23 +284,23 @@ fn returns_alone(fd: i32) -> bool {
     };
     let mut turns = u64::MAX;
     while turns > 0 && seen.more {
-        seen = see_some(fd, seen);
+        seen = see_some(file, seen);
         turns -= 1;
     }
     seen.returns & seen.hashes & !seen.feeds
 }
 
 // Says so of a file that has too few words for this reason.
-pub fn line_ends(argument: usize) {
-    let fd = open_again(argument);
-    if fd < 0 {
-        return;
-    }
-    if returns_alone(fd) {
-        name(argument);
+pub fn line_ends(rt: &(impl Files + Env), to: Stderr, argument: usize) -> io::Result<()> {
+    let Some(mut file) = open_again(rt, argument) else {
+        return Ok(());
+    };
+    if returns_alone(&mut file) {
+        name(rt, to, argument)?;
         say::error(
+            to,
             b": its lines end in carriage returns alone, so that the first # makes the rest a comment; save it with line feeds\n",
-        );
+        )?;
     }
-    libc::close(fd);
+    Ok(())
 }

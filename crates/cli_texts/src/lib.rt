@@ -1,4 +1,6 @@
 // Texts and numbers written, and files of words read and told of by name, line and token. Proved safe and ending.
+#![tactic(auto)]
+
 pub mod files;
 mod lines;
 pub mod say;

@@ -1,5 +1,6 @@
 // The line at which a word of a text begins: words are counted, and not read.
 use crate::token::ends;
+use std::io::Read;
 
 // How far a reading has come: how many words are to be passed over, the line, whether it stands in a word or in a comment, and
 // whether it goes on.
@@ -87,19 +88,17 @@ fn nowhere() -> Walk {
 }
 
 // Reads once.
-fn walk_some(fd: i32, w: Walk) -> Walk {
-    let mut buf = io::large_buffer();
-    let got = libc::read(fd, &mut buf);
-    if got <= 0 {
-        return nowhere();
+fn walk_some(file: &mut impl Read, w: Walk) -> Walk {
+    let mut buf = [0u8; 65536];
+    match file.read(&mut buf) {
+        Ok(0) | Err(_) => nowhere(),
+        Ok(n) => walk_on(w, &buf[..n]),
     }
-    let n = io::count(got, &buf);
-    walk_on(w, &buf[..n])
 }
 
 // The line at which word `place`, counted from 0, begins in an open file; 0 where there is none. The turns are more than any run
 // uses up.
-pub fn line_at(fd: i32, place: usize) -> u64 {
+pub fn line_at(file: &mut impl Read, place: usize) -> u64 {
     let mut w = Walk {
         left: place,
         line: 1,
@@ -109,7 +108,7 @@ pub fn line_at(fd: i32, place: usize) -> u64 {
     };
     let mut turns = u64::MAX;
     while turns > 0 && w.more {
-        w = walk_some(fd, w);
+        w = walk_some(file, w);
         turns -= 1;
     }
     w.line

@@ -1,58 +1,81 @@
 // Texts and numbers on standard output and standard error.
-use libc::{STDERR_FILENO, STDOUT_FILENO};
+use std::io;
+use std::io::{Print, Stderr, Stdout, Write};
 
-pub fn out(text: &[u8]) {
-    io::write_all(STDOUT_FILENO, text);
+pub fn out(to: Stdout, text: &[u8]) -> io::Result<()> {
+    Print::write_all(&to, text)
 }
 
-pub fn number(n: u64) {
-    io::print_decimal(STDOUT_FILENO, n);
+pub fn number(to: Stdout, n: u64) -> io::Result<()> {
+    to.print(n)
 }
 
 // A name, a number and the line's end.
-pub fn line(name: &[u8], n: u64) {
-    out(name);
-    number(n);
-    out(b"\n");
+pub fn line(to: Stdout, name: &[u8], n: u64) -> io::Result<()> {
+    out(to, name)?;
+    number(to, n)?;
+    out(to, b"\n")
 }
 
 // A number with blanks before it, as wide as asked, up to 24 places.
-pub fn padded(n: u64, width: usize) {
-    let blanks = [b' '; 24];
-    let mut text = [0u8; 20];
-    let k = io::decimal(n, &mut text);
+pub fn padded(to: Stdout, n: u64, width: usize) -> io::Result<()> {
     if width <= 24 {
-        if k < width {
-            let pad = width - k;
-            io::write_all(STDOUT_FILENO, &blanks[0..pad]);
-        }
+        return print!(to; "{n:>width$}");
     }
-    io::write_all(STDOUT_FILENO, &text[..k]);
+    to.print(n)
 }
 
-pub fn error(text: &[u8]) {
-    io::write_all(STDERR_FILENO, text);
+pub fn error(to: Stderr, text: &[u8]) -> io::Result<()> {
+    Print::write_all(&to, text)
 }
 
-fn error_number(n: u64) {
-    io::print_decimal(STDERR_FILENO, n);
+fn error_number(to: Stderr, n: u64) -> io::Result<()> {
+    to.print(n)
 }
 
 // A name and a number.
-pub fn error_count(name: &[u8], n: u64) {
-    error(name);
-    error_number(n);
+pub fn error_count(to: Stderr, name: &[u8], n: u64) -> io::Result<()> {
+    error(to, name)?;
+    error_number(to, n)
 }
 
 // Two names, each with a number, and the line's end.
-pub fn error_two(first: &[u8], n: u64, second: &[u8], m: u64) {
-    error_count(first, n);
-    error_count(second, m);
-    error(b"\n");
+pub fn error_two(to: Stderr, first: &[u8], n: u64, second: &[u8], m: u64) -> io::Result<()> {
+    error_count(to, first, n)?;
+    error_count(to, second, m)?;
+    error(to, b"\n")
 }
 
 // A number and the least and the largest that it may be.
-pub fn error_range(name: &[u8], n: u64, least: u64, largest: u64) {
-    error_count(name, n);
-    error_two(b", from ", least, b" to ", largest);
+pub fn error_range(to: Stderr, name: &[u8], n: u64, least: u64, largest: u64) -> io::Result<()> {
+    error_count(to, name, n)?;
+    error_two(to, b", from ", least, b" to ", largest)
+}
+
+// The words of an error's text, which ends where zeros begin, without the number that the system's errors have after them.
+fn reason(text: &str) -> &str {
+    let words = before(text, "\0");
+    before(words, " (os error ")
+}
+
+// What stands before a mark in a text, all of it where there is no mark.
+fn before<'a>(text: &'a str, mark: &str) -> &'a str {
+    match text.split_once(mark) {
+        Some((words, _)) => words,
+        None => text,
+    }
+}
+
+// Says in a line what failed, as the caller names it, and why.
+pub fn fail(to: Stderr, what: &[u8], why: &io::Error) -> io::Result<()> {
+    let mut room = [0u8; 256];
+    let mut rest = &mut room[..];
+    let _ = write!(rest, "{why}");
+    let text = match str::from_utf8(&room) {
+        Ok(text) => reason(text),
+        Err(_) => "",
+    };
+    error(to, what)?;
+    error(to, b": ")?;
+    to.println(text)
 }

@@ -1,7 +1,8 @@
 // The token of a text that is no word: found by reading the text once more, and shown.
 use crate::say;
 use decimal::{Scan, take_bytes};
-use libc::STDERR_FILENO;
+use std::io;
+use std::io::Stderr;
 
 // How many bytes of a token are shown.
 const SHOWN: usize = 40;
@@ -80,45 +81,48 @@ pub fn look_on(look: Look, bytes: &[u8], kept: &mut [u8], words: &mut [u64]) -> 
 }
 
 // Shows a byte: as it is where that can be seen and is no quote or backslash, else by its number.
-fn show_byte(byte: u8) {
+fn show_byte(to: Stderr, byte: u8) -> io::Result<()> {
     let plain = (33 <= byte) & (byte <= 126) & (byte != b'"') & (byte != 92);
     if plain {
         let one = [byte];
-        io::write_all(STDERR_FILENO, &one);
-        return;
+        return say::error(to, &one);
     }
-    say::error(b"\\x");
-    io::print_hex(STDERR_FILENO, byte as u64, 2);
+    print!(to; "\\x{byte:02x}")
 }
 
 // Shows the first bytes.
-fn show_bytes(kept: &[u8; 40], count: usize) {
+fn show_bytes(to: Stderr, kept: &[u8; 40], count: usize) -> io::Result<()> {
     let mut i: usize = 0;
     while i < 40 {
         if i < count {
-            show_byte(kept[i]);
+            show_byte(to, kept[i])?;
         }
         i += 1;
     }
+    Ok(())
 }
 
 // Says what the first bytes are, where they are a mark that editors put before a text.
-fn mark(kept: &[u8; 40]) {
+fn mark(to: Stderr, kept: &[u8; 40]) -> io::Result<()> {
     if (kept[0] == 239) & (kept[1] == 187) & (kept[2] == 191) {
-        say::error(b" (a byte-order mark: save the file without it)");
+        say::error(to, b" (a byte-order mark: save the file without it)")?;
     }
     if ((kept[0] == 255) & (kept[1] == 254)) | ((kept[0] == 254) & (kept[1] == 255)) {
-        say::error(b" (a byte-order mark of UTF-16: save the file as plain text)");
+        say::error(
+            to,
+            b" (a byte-order mark of UTF-16: save the file as plain text)",
+        )?;
     }
+    Ok(())
 }
 
 // Shows the token in quotes.
-pub fn show(kept: &[u8; 40], count: usize) {
-    say::error(b": \"");
-    show_bytes(kept, count);
-    say::error(b"\"");
+pub fn show(to: Stderr, kept: &[u8; 40], count: usize) -> io::Result<()> {
+    say::error(to, b": \"")?;
+    show_bytes(to, kept, count)?;
+    say::error(to, b"\"")?;
     if SHOWN < count {
-        say::error(b"...");
+        say::error(to, b"...")?;
     }
-    mark(kept);
+    mark(to, kept)
 }

@@ -1,6 +1,7 @@
 // build and check over files, of circuit words that were read and accepted. Each function reads one file and hands its words on.
 ghost use Rattle.std.specs.Prelude.{◌≤◌, length};
 
+use crate::Host;
 use crate::found::tell;
 use cli_messages::values::{Needed, build_values, sum_values};
 use cli_messages::{question, say};
@@ -9,34 +10,56 @@ use cli_report::output;
 use cli_report::shape::Shape;
 use cli_report::verdict::{notes, verdict};
 use cli_texts::files::read;
+use std::io;
+use std::rt::{Env, Files};
 
 // Writes what was built to the file that argument 6 names.
-fn keep<'a>(columns: &'a [u64], nodes: &'a [u64], s: Shape) {
-    say::out(b"writing\n");
-    if !output::write(6, columns, nodes, s) {
-        return;
+fn keep<'a>(
+    rt: &(impl Files + Env),
+    host: Host,
+    columns: &'a [u64],
+    nodes: &'a [u64],
+    s: Shape,
+) -> io::Result<()> {
+    let out = host.out;
+    say::out(out, b"writing\n")?;
+    if !output::write(rt, host.process, host.err, 6, columns, nodes, s)? {
+        return Ok(());
     }
-    say::out(b"built: column words ");
-    say::number(s.column_words as u64);
-    say::out(b", nodes ");
-    say::number(s.nodes);
-    say::line(b", z columns ", s.parts as u64);
+    say::out(out, b"built: column words ")?;
+    say::number(out, s.column_words as u64)?;
+    say::out(out, b", nodes ")?;
+    say::number(out, s.nodes)?;
+    say::line(out, b", z columns ", s.parts as u64)
 }
 
 // Says what was refused.
 fn refused<'a>(
+    rt: &(impl Files + Env),
+    host: Host,
     circuit: &'a [u64],
     instance: &[u64],
     witness: &'a [u64],
     challenges: &'a [u64],
     user: usize,
     number: u64,
-) {
-    question::answered_no(number);
-    build_values(circuit, instance, witness, challenges, user as u64, number);
+) -> io::Result<()> {
+    question::answered_no(host.err, number)?;
+    build_values(
+        rt,
+        host.err,
+        circuit,
+        instance,
+        witness,
+        challenges,
+        user as u64,
+        number,
+    )
 }
 
 fn build_words<'a>(
+    rt: &(impl Files + Env),
+    host: Host,
     circuit: &'a [u64],
     s: Shape,
     instance: &[u64],
@@ -44,13 +67,22 @@ fn build_words<'a>(
     challenges: &'a [u64],
     columns: &mut [u64],
     nodes: &mut [u64],
-) {
-    say::out(b"building\n");
+) -> io::Result<()> {
+    say::out(host.out, b"building\n")?;
     let built = hyperplonk::build(circuit, instance, witness, challenges, columns, nodes);
     if built.number != 0 {
-        refused(circuit, instance, witness, challenges, s.user, built.number);
-        tell(
-            libc::STDERR_FILENO,
+        refused(
+            rt,
+            host,
+            circuit,
+            instance,
+            witness,
+            challenges,
+            s.user,
+            built.number,
+        )?;
+        return tell(
+            &host.err,
             circuit,
             instance,
             witness,
@@ -58,24 +90,27 @@ fn build_words<'a>(
             columns,
             built.number,
         );
-        return;
     }
-    keep(columns, nodes, s);
+    keep(rt, host, columns, nodes, s)
 }
 
 fn build_challenges<'a>(
+    rt: &(impl Files + Env),
+    host: Host,
     circuit: &'a [u64],
     s: Shape,
     instance: &[u64],
     witness: &'a [u64],
     columns: &mut [u64],
     nodes: &mut [u64],
-) {
+) -> io::Result<()> {
     let mut challenges = [0u64; 64];
-    let got = read(5, &mut challenges);
+    let got = read(rt, host.err, 5, &mut challenges)?;
     let n = got.count;
     if got.good {
         build_words(
+            rt,
+            host,
             circuit,
             s,
             instance,
@@ -83,39 +118,64 @@ fn build_challenges<'a>(
             &challenges[0..n],
             columns,
             nodes,
-        );
+        )?;
     }
+    Ok(())
 }
 
 fn build_witness(
+    rt: &(impl Files + Env),
+    host: Host,
     circuit: &[u64],
     s: Shape,
     instance: &[u64],
     witness: &mut [u64],
     columns: &mut [u64],
     nodes: &mut [u64],
-) {
-    let got = read(4, witness);
+) -> io::Result<()> {
+    let got = read(rt, host.err, 4, witness)?;
     let n = got.count;
     if got.good {
-        build_challenges(circuit, s, instance, &witness[0..n], columns, nodes);
+        build_challenges(
+            rt,
+            host,
+            circuit,
+            s,
+            instance,
+            &witness[0..n],
+            columns,
+            nodes,
+        )?;
     }
+    Ok(())
 }
 
 // build CIRCUIT INSTANCE WITNESS CHALLENGES OUT
 pub fn build(
+    rt: &(impl Files + Env),
+    host: Host,
     circuit: &[u64],
     s: Shape,
     instance: &mut [u64],
     witness: &mut [u64],
     columns: &mut [u64],
     nodes: &mut [u64],
-) {
-    let got = read(3, instance);
+) -> io::Result<()> {
+    let got = read(rt, host.err, 3, instance)?;
     let n = got.count;
     if got.good {
-        build_witness(circuit, s, &instance[0..n], witness, columns, nodes);
+        build_witness(
+            rt,
+            host,
+            circuit,
+            s,
+            &instance[0..n],
+            witness,
+            columns,
+            nodes,
+        )?;
     }
+    Ok(())
 }
 
 // Where the columns end in what was built: after the column words, or at the end.
@@ -129,6 +189,8 @@ fn columns_end(words: usize, built: &[u64]) -> usize
 }
 
 fn check_words<'a>(
+    rt: &(impl Files + Env),
+    host: Host,
     circuit: &'a [u64],
     s: Shape,
     witness: &'a [u64],
@@ -136,36 +198,42 @@ fn check_words<'a>(
     nodes: &'a [u64],
     challenges: &'a [u64],
     y: &'a [u64],
-) {
-    say::out(b"summing\n");
+) -> io::Result<()> {
+    let out = host.out;
+    say::out(out, b"summing\n")?;
     let sum = hyperplonk::row_sum(circuit, witness, columns, nodes, challenges, y);
-    say::line(b"number ", sum.number);
-    say::line(b"sum ", sum.sum);
+    say::line(out, b"number ", sum.number)?;
+    say::line(out, b"sum ", sum.sum)?;
     if sum.number == 0 {
-        notes(challenges, y, s.user);
-        verdict(libc::STDERR_FILENO, sum.sum, cuts_of(s));
-        return;
+        notes(out, challenges, y, s.user)?;
+        return verdict(out, &host.err, sum.sum, cuts_of(s));
     }
-    question::answered_no(sum.number);
+    question::answered_no(host.err, sum.number)?;
     let needed = Needed {
         columns: s.column_words,
         nodes: s.nodes,
         user: s.user,
     };
-    sum_values(circuit, witness, columns, nodes, challenges, y, needed);
+    sum_values(
+        rt, host.err, circuit, witness, columns, nodes, challenges, y, needed,
+    )
 }
 
 fn check_parts<'a>(
+    rt: &(impl Files + Env),
+    host: Host,
     circuit: &'a [u64],
     s: Shape,
     witness: &'a [u64],
     built: &'a [u64],
     challenges: &'a [u64],
     y: &'a [u64],
-) {
+) -> io::Result<()> {
     let at = columns_end(s.column_words, built);
     let end = built.len();
     check_words(
+        rt,
+        host,
         circuit,
         s,
         witness,
@@ -173,46 +241,73 @@ fn check_parts<'a>(
         &built[at..end],
         challenges,
         y,
-    );
+    )
 }
 
 fn check_y<'a>(
+    rt: &(impl Files + Env),
+    host: Host,
     circuit: &'a [u64],
     s: Shape,
     witness: &'a [u64],
     built: &'a [u64],
     challenges: &'a [u64],
-) {
+) -> io::Result<()> {
     let mut y = [0u64; 64];
-    let got = read(5, &mut y);
+    let got = read(rt, host.err, 5, &mut y)?;
     let n = got.count;
     if got.good {
-        check_parts(circuit, s, witness, built, challenges, &y[0..n]);
+        check_parts(rt, host, circuit, s, witness, built, challenges, &y[0..n])?;
     }
+    Ok(())
 }
 
-fn check_challenges<'a>(circuit: &'a [u64], s: Shape, witness: &'a [u64], built: &'a [u64]) {
+fn check_challenges<'a>(
+    rt: &(impl Files + Env),
+    host: Host,
+    circuit: &'a [u64],
+    s: Shape,
+    witness: &'a [u64],
+    built: &'a [u64],
+) -> io::Result<()> {
     let mut challenges = [0u64; 64];
-    let got = read(4, &mut challenges);
+    let got = read(rt, host.err, 4, &mut challenges)?;
     let n = got.count;
     if got.good {
-        check_y(circuit, s, witness, built, &challenges[0..n]);
+        check_y(rt, host, circuit, s, witness, built, &challenges[0..n])?;
     }
+    Ok(())
 }
 
-fn check_built<'a>(circuit: &'a [u64], s: Shape, witness: &'a [u64], built: &mut [u64]) {
-    let got = read(6, built);
+fn check_built<'a>(
+    rt: &(impl Files + Env),
+    host: Host,
+    circuit: &'a [u64],
+    s: Shape,
+    witness: &'a [u64],
+    built: &mut [u64],
+) -> io::Result<()> {
+    let got = read(rt, host.err, 6, built)?;
     let n = got.count;
     if got.good {
-        check_challenges(circuit, s, witness, &built[0..n]);
+        check_challenges(rt, host, circuit, s, witness, &built[0..n])?;
     }
+    Ok(())
 }
 
 // check CIRCUIT WITNESS CHALLENGES Y OUT
-pub fn check(circuit: &[u64], s: Shape, witness: &mut [u64], built: &mut [u64]) {
-    let got = read(3, witness);
+pub fn check(
+    rt: &(impl Files + Env),
+    host: Host,
+    circuit: &[u64],
+    s: Shape,
+    witness: &mut [u64],
+    built: &mut [u64],
+) -> io::Result<()> {
+    let got = read(rt, host.err, 3, witness)?;
     let n = got.count;
     if got.good {
-        check_built(circuit, s, &witness[0..n], built);
+        check_built(rt, host, circuit, s, &witness[0..n], built)?;
     }
+    Ok(())
 }

@@ -6,6 +6,8 @@ use cli_report::cuts::cuts_of;
 use cli_report::shape::shape_of;
 use cli_report::verdict::verdict;
 use lists::word_at;
+use std::io;
+use std::io::Stdout;
 
 // Polynomials: 0 the approved table, 1 the readings, 2 the sheet's settings, 3 the knee's. The lookup is polynomial 1 in 0, a
 // group of its own; the cycles are (2, row 1), (3, row 3) and (2, row 2), (3, row 5).
@@ -36,27 +38,40 @@ const H: usize = 40;
 const Z: usize = 48;
 
 // A row: its number, the table, the reading, the settings, m, h and z.
-fn show_row<'a>(circuit: &'a [u64], witness: &'a [u64], columns: &'a [u64], row: usize) {
-    say::padded(row as u64, 3);
-    say::padded(word_at(circuit, after(22, row)), 10);
-    say::padded(word_at(witness, row), 9);
-    say::padded(word_at(witness, after(8, row)), 7);
-    say::padded(word_at(witness, after(16, row)), 6);
-    say::padded(word_at(columns, after(M, row)), 3);
-    say::padded(word_at(columns, after(H, row)), 22);
-    say::padded(word_at(columns, after(Z, row)), 22);
-    say::out(b"\n");
+fn show_row<'a>(
+    out: Stdout,
+    circuit: &'a [u64],
+    witness: &'a [u64],
+    columns: &'a [u64],
+    row: usize,
+) -> io::Result<()> {
+    say::padded(out, row as u64, 3)?;
+    say::padded(out, word_at(circuit, after(22, row)), 10)?;
+    say::padded(out, word_at(witness, row), 9)?;
+    say::padded(out, word_at(witness, after(8, row)), 7)?;
+    say::padded(out, word_at(witness, after(16, row)), 6)?;
+    say::padded(out, word_at(columns, after(M, row)), 3)?;
+    say::padded(out, word_at(columns, after(H, row)), 22)?;
+    say::padded(out, word_at(columns, after(Z, row)), 22)?;
+    say::out(out, b"\n")
 }
 
-fn show_rows<'a>(circuit: &'a [u64], witness: &'a [u64], columns: &'a [u64]) {
+fn show_rows<'a>(
+    out: Stdout,
+    circuit: &'a [u64],
+    witness: &'a [u64],
+    columns: &'a [u64],
+) -> io::Result<()> {
     say::out(
+        out,
         b"row  approved  reading  sheet  knee  m                     h                     z\n",
-    );
+    )?;
     let mut row: usize = 0;
     while row < 8 {
-        show_row(circuit, witness, columns, row);
+        show_row(out, circuit, witness, columns, row)?;
         row += 1;
     }
+    Ok(())
 }
 
 // The sum of the eight words of a column, in the field.
@@ -70,39 +85,50 @@ fn column_sum(columns: &[u64], start: usize) -> u64 {
     sum
 }
 
-fn show<'a>(circuit: &'a [u64], witness: &'a [u64], columns: &'a [u64]) {
-    show_rows(circuit, witness, columns);
+fn show<'a>(
+    out: Stdout,
+    circuit: &'a [u64],
+    witness: &'a [u64],
+    columns: &'a [u64],
+) -> io::Result<()> {
+    show_rows(out, circuit, witness, columns)?;
     say::out(
+        out,
         b"\nThe table lists 60 at rows 3 and 4: all four readings of 60 are counted at row 4, the last.\n",
-    );
-    say::line(b"m adds up to ", column_sum(columns, M));
-    say::line(b"h adds up to ", column_sum(columns, H));
-    say::out(b"z runs through the rows 1 2 4 3 6 7 5, and back to 1 at row 1.\n");
+    )?;
+    say::line(out, b"m adds up to ", column_sum(columns, M))?;
+    say::line(out, b"h adds up to ", column_sum(columns, H))?;
+    say::out(
+        out,
+        b"z runs through the rows 1 2 4 3 6 7 5, and back to 1 at row 1.\n",
+    )
 }
 
 fn sum_up<'a>(
+    out: Stdout,
     circuit: &'a [u64],
     witness: &'a [u64],
     columns: &'a [u64],
     nodes: &'a [u64],
     challenges: &'a [u64],
-) {
+) -> io::Result<()> {
     let y = [2, 3, 5];
     let sum = hyperplonk::row_sum(circuit, witness, columns, nodes, challenges, &y);
-    say::out(b"row sum of the composed expression: number ");
-    say::number(sum.number);
-    say::line(b", sum ", sum.sum);
-    verdict(libc::STDOUT_FILENO, sum.sum, cuts_of(shape_of(circuit)));
+    say::out(out, b"row sum of the composed expression: number ")?;
+    say::number(out, sum.number)?;
+    say::line(out, b", sum ", sum.sum)?;
+    verdict(out, &out, sum.sum, cuts_of(shape_of(circuit)))
 }
 
 // Builds a log and shows its columns, if asked; then its sum and the verdict.
 fn run_on<'a>(
+    out: Stdout,
     circuit: &'a [u64],
     witness: &'a [u64],
     challenges: &'a [u64],
     with_alpha: &'a [u64],
     shown: bool,
-) {
+) -> io::Result<()> {
     let instance = [0u64; 0];
     let mut columns = [0u64; 56];
     let mut nodes = [0u64; 312];
@@ -114,16 +140,16 @@ fn run_on<'a>(
         &mut columns,
         &mut nodes,
     );
-    say::out(b"build: number ");
-    say::number(built.number);
-    say::out(b", column words ");
-    say::number(built.column_words as u64);
-    say::out(b", nodes ");
-    say::number(built.nodes as u64);
-    say::line(b", z columns ", built.z_columns as u64);
+    say::out(out, b"build: number ")?;
+    say::number(out, built.number)?;
+    say::out(out, b", column words ")?;
+    say::number(out, built.column_words as u64)?;
+    say::out(out, b", nodes ")?;
+    say::number(out, built.nodes as u64)?;
+    say::line(out, b", z columns ", built.z_columns as u64)?;
     if built.number != 0 {
-        tell(
-            libc::STDOUT_FILENO,
+        return tell(
+            &out,
             circuit,
             &instance,
             witness,
@@ -131,12 +157,11 @@ fn run_on<'a>(
             &mut columns,
             built.number,
         );
-        return;
     }
     if shown {
-        show(circuit, witness, &columns);
+        show(out, circuit, witness, &columns)?;
     }
-    sum_up(circuit, witness, &columns, &nodes, with_alpha);
+    sum_up(out, circuit, witness, &columns, &nodes, with_alpha)
 }
 
 // Another value at a place, if there is such a place.
@@ -147,22 +172,28 @@ fn change(words: &mut [u64], at: usize, value: u64) {
 }
 
 // The log with one word of its witness changed.
-fn run_changed<'a>(circuit: &'a [u64], at: usize, value: u64) {
+fn run_changed<'a>(out: Stdout, circuit: &'a [u64], at: usize, value: u64) -> io::Result<()> {
     let mut witness = [0u64; 24];
     fill_witness(&mut witness);
     change(&mut witness, at, value);
     let beta_gamma = [1000003, 777];
     let with_alpha = [1000003, 777, 31337];
-    run_on(circuit, &witness, &beta_gamma, &with_alpha, at == 24);
+    run_on(out, circuit, &witness, &beta_gamma, &with_alpha, at == 24)
 }
 
-pub fn run() {
+pub fn run(out: Stdout) -> io::Result<()> {
     let mut circuit = [0u64; 54];
     fill_circuit(&mut circuit);
-    say::out(b"A log of 8 rows: k is 3.\n");
-    run_changed(&circuit, 24, 0);
-    say::out(b"\nThe same log with a wrong copy: the knee has 36 at row 3, the sheet 37.\n");
-    run_changed(&circuit, 19, 36);
-    say::out(b"\nThe same log with a reading of 5 at row 1, which the table does not list.\n");
-    run_changed(&circuit, 1, 5);
+    say::out(out, b"A log of 8 rows: k is 3.\n")?;
+    run_changed(out, &circuit, 24, 0)?;
+    say::out(
+        out,
+        b"\nThe same log with a wrong copy: the knee has 36 at row 3, the sheet 37.\n",
+    )?;
+    run_changed(out, &circuit, 19, 36)?;
+    say::out(
+        out,
+        b"\nThe same log with a reading of 5 at row 1, which the table does not list.\n",
+    )?;
+    run_changed(out, &circuit, 1, 5)
 }

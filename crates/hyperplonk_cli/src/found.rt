@@ -4,140 +4,142 @@ use cli_search::denominators::ZeroDenominator;
 use cli_search::unlisted::Unlisted;
 use cli_search::{Column, denominators, unlisted};
 use lists::word_at;
+use std::io;
 
 // The first values of a reading, with commas between.
-fn values(fd: i32, of: [u64; 8], width: usize) {
+fn values(to: &impl Print, of: [u64; 8], width: usize) -> io::Result<()> {
     let mut i: usize = 0;
     while i < width {
         if i < 8 {
             if i > 0 {
-                io::write_all(fd, b", ");
+                to.write_all(b", ")?;
             }
-            io::print_decimal(fd, of[i]);
+            to.print(of[i])?;
         }
         i += 1;
     }
+    Ok(())
 }
 
-fn text(fd: i32, words: &[u8]) {
-    io::write_all(fd, words);
+fn text(to: &impl Print, words: &[u8]) -> io::Result<()> {
+    to.write_all(words)
 }
 
 // A text and a number.
-fn count(fd: i32, words: &[u8], n: u64) {
-    text(fd, words);
-    io::print_decimal(fd, n);
+fn count(to: &impl Print, words: &[u8], n: u64) -> io::Result<()> {
+    text(to, words)?;
+    to.print(n)
 }
 
 // A row and its place.
-fn stands(fd: i32, row: usize, place: usize) {
-    count(fd, b", row ", row as u64);
-    count(fd, b", place ", place as u64);
-    text(fd, b" of the row order: ");
+fn stands(to: &impl Print, row: usize, place: usize) -> io::Result<()> {
+    count(to, b", row ", row as u64)?;
+    count(to, b", place ", place as u64)?;
+    text(to, b" of the row order: ")
 }
 
 // How many there are, if there are others than the first.
-fn others(fd: i32, words: &[u8], n: u64) {
+fn others(to: &impl Print, words: &[u8], n: u64) -> io::Result<()> {
     if n > 1 {
-        count(fd, words, n);
-        text(fd, b"\n");
+        count(to, words, n)?;
+        text(to, b"\n")?;
     }
+    Ok(())
 }
 
 // Names the first reading.
-fn readings(fd: i32, u: Unlisted) {
+fn readings(to: &impl Print, u: Unlisted) -> io::Result<()> {
     if u.count == 0 {
-        return;
+        return Ok(());
     }
     let of = u.values;
-    count(fd, b"lookup ", u.lookup as u64);
-    stands(fd, u.row, u.place);
-    text(fd, b"the reading (");
-    values(fd, of, u.width);
-    text(fd, b") stands in no row of the table\n");
+    count(to, b"lookup ", u.lookup as u64)?;
+    stands(to, u.row, u.place)?;
+    text(to, b"the reading (")?;
+    values(to, of, u.width)?;
+    text(to, b") stands in no row of the table\n")?;
     others(
-        fd,
+        to,
         b"readings that stand in no row of their table, in all: ",
         u.count,
-    );
+    )
 }
 
 // A polynomial by its kind, the number among that kind, and its own number.
-fn polynomial(fd: i32, circuit: &[u64], q: u64) {
+fn polynomial(to: &impl Print, circuit: &[u64], q: u64) -> io::Result<()> {
     let instances = word_at(circuit, INSTANCE_COUNT);
     let given = std::num::wrapping_add_u64(instances, word_at(circuit, PREPROCESS_COUNT));
     if q < instances {
-        count(fd, b"instance column ", q);
+        count(to, b"instance column ", q)?;
     } else if q < given {
         count(
-            fd,
+            to,
             b"preprocess column ",
             std::num::wrapping_sub_u64(q, instances),
-        );
+        )?;
     } else {
-        count(fd, b"witness column ", std::num::wrapping_sub_u64(q, given));
+        count(to, b"witness column ", std::num::wrapping_sub_u64(q, given))?;
     }
-    count(fd, b" (polynomial ", q);
-    text(fd, b")");
+    count(to, b" (polynomial ", q)?;
+    text(to, b")")
 }
 
 // The lookup or the copied column of a denominator.
-fn column(fd: i32, circuit: &[u64], of: Column, q: u64) {
+fn column(to: &impl Print, circuit: &[u64], of: Column, q: u64) -> io::Result<()> {
     match of {
-        Column::Input(lookup) => count(fd, b"lookup ", lookup as u64),
-        Column::Table(lookup) => count(fd, b"lookup ", lookup as u64),
-        Column::Copied(_) => polynomial(fd, circuit, q),
+        Column::Input(lookup) => count(to, b"lookup ", lookup as u64),
+        Column::Table(lookup) => count(to, b"lookup ", lookup as u64),
+        Column::Copied(_) => polynomial(to, circuit, q),
     }
 }
 
 // What the denominator is.
-fn denominator(fd: i32, of: Column) {
+fn denominator(to: &impl Print, of: Column) -> io::Result<()> {
     match of {
-        Column::Input(_) => text(fd, b"gamma + input"),
-        Column::Table(_) => text(fd, b"gamma + table"),
-        Column::Copied(_) => text(fd, b"value + beta * permutation label + gamma"),
+        Column::Input(_) => text(to, b"gamma + input"),
+        Column::Table(_) => text(to, b"gamma + table"),
+        Column::Copied(_) => text(to, b"value + beta * permutation label + gamma"),
     }
 }
 
 // Names the first denominator.
-fn zeros(fd: i32, circuit: &[u64], z: ZeroDenominator) {
+fn zeros(to: &impl Print, circuit: &[u64], z: ZeroDenominator) -> io::Result<()> {
     if z.count == 0 {
-        return;
+        return Ok(());
     }
     let of = z.of;
-    column(fd, circuit, of, z.poly);
-    stands(fd, z.row, z.place);
-    denominator(fd, of);
-    text(fd, b" is 0\n");
-    others(fd, b"denominators that are 0, in all: ", z.count);
+    column(to, circuit, of, z.poly)?;
+    stands(to, z.row, z.place)?;
+    denominator(to, of)?;
+    text(to, b" is 0\n")?;
+    others(to, b"denominators that are 0, in all: ", z.count)
 }
 
-fn advice(fd: i32) {
+fn advice(to: &impl Print) -> io::Result<()> {
     text(
-        fd,
+        to,
         b"this is no fault of the log: draw other challenges beta and gamma, and build anew\n",
-    );
+    )
 }
 
 // Of words that build refused by a number. The column buffer is written to.
 pub fn tell<'a>(
-    fd: i32,
+    to: &impl Print,
     circuit: &'a [u64],
     instance: &[u64],
     witness: &'a [u64],
     challenges: &'a [u64],
     columns: &mut [u64],
     number: u64,
-) {
+) -> io::Result<()> {
     if number == 15 {
         let u = unlisted::find(circuit, instance, witness, challenges, columns);
-        readings(fd, u);
-        return;
+        return readings(to, u);
     }
     if number != 17 {
-        return;
+        return Ok(());
     }
     let z = denominators::find(circuit, instance, witness, challenges, columns);
-    zeros(fd, circuit, z);
-    advice(fd);
+    zeros(to, circuit, z)?;
+    advice(to)
 }

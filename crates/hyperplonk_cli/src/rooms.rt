@@ -1,13 +1,15 @@
 // The rooms for the words of the files, by need, since they stand on the stack: for circuits of up to 96 columns of 1,024 words
 // and 4,190 nodes, and for all. The sizes are those of document 01's limits: 8 instance columns of 1023 values and 32 witness columns
 // of 1024; 184 columns of 1024 words and 11,295 nodes; a file of what was built has both.
-use crate::commands;
+use crate::{Host, commands};
 use cli_messages::refusal::refusal;
 use cli_messages::say;
 use cli_report::explain;
 use cli_report::regroup::regroup;
 use cli_report::shape::{Shape, shape_of};
 use cli_texts::files::read;
+use std::io;
+use std::rt::{Env, Files};
 
 // The commands over files.
 pub const EXPLAIN: u64 = 1;
@@ -54,74 +56,85 @@ fn built_room() -> [u64; 233596] {
     [0; 233596]
 }
 
-fn build_half(circuit: &[u64], s: Shape) {
+fn build_half(rt: &(impl Files + Env), host: Host, circuit: &[u64], s: Shape) -> io::Result<()> {
     let mut instance = instance_room();
     let mut witness = witness_room();
     let mut columns = half_room();
     let mut nodes = half_node_room();
     commands::build(
+        rt,
+        host,
         circuit,
         s,
         &mut instance,
         &mut witness,
         &mut columns,
         &mut nodes,
-    );
+    )
 }
 
-fn build_whole(circuit: &[u64], s: Shape) {
+fn build_whole(rt: &(impl Files + Env), host: Host, circuit: &[u64], s: Shape) -> io::Result<()> {
     let mut instance = instance_room();
     let mut witness = witness_room();
     let mut columns = column_room();
     let mut nodes = node_room();
     commands::build(
+        rt,
+        host,
         circuit,
         s,
         &mut instance,
         &mut witness,
         &mut columns,
         &mut nodes,
-    );
+    )
 }
 
-fn check_half(circuit: &[u64], s: Shape) {
+fn check_half(rt: &(impl Files + Env), host: Host, circuit: &[u64], s: Shape) -> io::Result<()> {
     let mut witness = witness_room();
     let mut built = half_built_room();
-    commands::check(circuit, s, &mut witness, &mut built);
+    commands::check(rt, host, circuit, s, &mut witness, &mut built)
 }
 
-fn check_whole(circuit: &[u64], s: Shape) {
+fn check_whole(rt: &(impl Files + Env), host: Host, circuit: &[u64], s: Shape) -> io::Result<()> {
     let mut witness = witness_room();
     let mut built = built_room();
-    commands::check(circuit, s, &mut witness, &mut built);
+    commands::check(rt, host, circuit, s, &mut witness, &mut built)
 }
 
 // Runs a command in the smallest rooms that do, of the first so many sizes, the smaller before the larger; answers whether one did.
 // That it calls itself keeps the compiler from putting the rooms of all sizes into one frame.
-fn in_rooms(command: u64, circuit: &[u64], s: Shape, sizes: u64) -> bool {
+fn in_rooms(
+    rt: &(impl Files + Env),
+    host: Host,
+    command: u64,
+    circuit: &[u64],
+    s: Shape,
+    sizes: u64,
+) -> io::Result<bool> {
     if sizes == 0 {
-        return false;
+        return Ok(false);
     }
-    if in_rooms(command, circuit, s, sizes - 1) {
-        return true;
+    if in_rooms(rt, host, command, circuit, s, sizes - 1)? {
+        return Ok(true);
     }
     if (sizes == 1) & !s.half {
-        return false;
+        return Ok(false);
     }
     if command == BUILD {
         if sizes == 1 {
-            build_half(circuit, s);
+            build_half(rt, host, circuit, s)?;
         } else {
-            build_whole(circuit, s);
+            build_whole(rt, host, circuit, s)?;
         }
-        return true;
+        return Ok(true);
     }
     if sizes == 1 {
-        check_half(circuit, s);
+        check_half(rt, host, circuit, s)?;
     } else {
-        check_whole(circuit, s);
+        check_whole(rt, host, circuit, s)?;
     }
-    true
+    Ok(true)
 }
 
 // How many sizes there are to try.
@@ -133,34 +146,33 @@ fn sizes(half: bool) -> u64 {
 }
 
 // Rewrites the circuit, or asks the questions.
-fn asked(command: u64, circuit: &[u64]) {
+fn asked(rt: &(impl Files + Env), host: Host, command: u64, circuit: &[u64]) -> io::Result<()> {
     if command == EXPLAIN {
-        explain::explain(circuit);
-        return;
+        return explain::explain(rt, host.out, host.err, circuit);
     }
     if command == REGROUP {
-        regroup(circuit);
-        return;
+        return regroup(rt, host.out, host.err, circuit);
     }
-    say::out(b"asking\n");
+    say::out(host.out, b"asking\n")?;
     let s = shape_of(circuit);
     if s.no != 0 {
-        refusal(circuit, s.no);
-        return;
+        return refusal(rt, host.err, circuit, s.no);
     }
-    say::out(b"reading the log\n");
-    in_rooms(command, circuit, s, sizes(s.half));
+    say::out(host.out, b"reading the log\n")?;
+    in_rooms(rt, host, command, circuit, s, sizes(s.half))?;
+    Ok(())
 }
 
 // Reads the circuit, which argument 2 names.
-pub fn over_files(command: u64) {
+pub fn over_files(rt: &(impl Files + Env), host: Host, command: u64) -> io::Result<()> {
     let mut circuit = circuit_room();
     if (command == BUILD) | (command == CHECK) {
-        say::out(b"reading the circuit\n");
+        say::out(host.out, b"reading the circuit\n")?;
     }
-    let got = read(2, &mut circuit);
+    let got = read(rt, host.err, 2, &mut circuit)?;
     let n = got.count;
     if got.good {
-        asked(command, &circuit[0..n]);
+        asked(rt, host, command, &circuit[0..n])?;
     }
+    Ok(())
 }

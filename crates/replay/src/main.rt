@@ -3,8 +3,16 @@
 // lengths they state; a refusal returns zeros after its number and leaves its buffers, but for 15 and 17; words past those
 // written stay. Then the call is made again on the lent words, where it is there: a line names each block whose stored
 // number or buffer is another.
-use libc::STDOUT_FILENO;
+#![tactic(auto)]
+
+ghost use Rattle.std.specs.Prelude.{◌≤◌, length};
+
+use cli_texts::files::open_read;
+use cli_texts::say;
 use slices::{kept, number_at, number_then_zeros, slice_at, word, zeroed};
+use std::io;
+use std::io::{Read, Stderr};
+use std::rt::{Env, Files};
 use text::{after_line, is_line, read_block};
 
 mod again;
@@ -172,29 +180,36 @@ fn count(counts: &mut [u64], so: bool, at: usize) {
     }
 }
 
-fn print_count(name: &[u8], counts: &[u64], at: usize) {
-    io::write_all(STDOUT_FILENO, name);
+fn print_count(rt: &impl Print, name: &[u8], counts: &[u64], at: usize) -> io::Result<()> {
+    rt.write_all(name)?;
     if at < counts.len() {
-        io::print_decimal(STDOUT_FILENO, counts[at]);
+        rt.print(counts[at])?;
     }
+    Ok(())
 }
 
 // Names a block by its call and its number among the blocks of the call.
-fn print_block(call: usize, counts: &[u64]) {
+fn print_block(rt: &impl Print, call: usize, counts: &[u64]) -> io::Result<()> {
     match call {
-        0 => print_count(b"build, block ", counts, 0),
-        1 => print_count(b"row_sum, block ", counts, 1),
-        2 => print_count(b"lookup_m_poly, block ", counts, 2),
-        3 => print_count(b"lookup_h_poly, block ", counts, 3),
-        4 => print_count(b"eq_xy, block ", counts, 4),
-        _ => print_count(b"sizes, block ", counts, 5),
-    }
-    io::write_all(STDOUT_FILENO, b": the answer differs\n");
+        0 => print_count(rt, b"build, block ", counts, 0),
+        1 => print_count(rt, b"row_sum, block ", counts, 1),
+        2 => print_count(rt, b"lookup_m_poly, block ", counts, 2),
+        3 => print_count(rt, b"lookup_h_poly, block ", counts, 3),
+        4 => print_count(rt, b"eq_xy, block ", counts, 4),
+        _ => print_count(rt, b"sizes, block ", counts, 5),
+    }?;
+    rt.write_all(b": the answer differs\n")
 }
 
-fn count_block(counts: &mut [u64], call: usize, shown: u64, made: u64) {
+fn count_block(
+    rt: &impl Print,
+    counts: &mut [u64],
+    call: usize,
+    shown: u64,
+    made: u64,
+) -> io::Result<()> {
     if call >= CALLS {
-        return;
+        return Ok(());
     }
     count(counts, true, call);
     count(counts, shown == REFUSED, 6 + call);
@@ -202,8 +217,9 @@ fn count_block(counts: &mut [u64], call: usize, shown: u64, made: u64) {
     count(counts, made == NOT_MADE, 18);
     count(counts, made == DIFFERS, 19);
     if made == DIFFERS {
-        print_block(call, counts);
+        print_block(rt, call, counts)?;
     }
+    Ok(())
 }
 
 // Counts a block that is not right; answers the text's end.
@@ -214,23 +230,31 @@ fn not_right(text: &[u8], counts: &mut [u64]) -> usize {
 
 // Looks at a block that was read, and makes its call again.
 fn look(
+    rt: &impl Print,
     call: usize,
     words: &[u64],
     starts: &[usize; 9],
     room: &mut [u64],
     counts: &mut [u64],
-) -> bool {
+) -> io::Result<bool> {
     let shown = judge(call, words, starts);
     if shown == WRONG {
-        return false;
+        return Ok(false);
     }
     let made = made_again(call, words, starts, room);
-    count_block(counts, call, shown, made);
-    true
+    count_block(rt, counts, call, shown, made)?;
+    Ok(true)
 }
 
 // Takes a block; answers the place after it, or the text's end where none is.
-fn block(text: &[u8], at: usize, words: &mut [u64], room: &mut [u64], counts: &mut [u64]) -> usize {
+fn block(
+    rt: &impl Print,
+    text: &[u8],
+    at: usize,
+    words: &mut [u64],
+    room: &mut [u64],
+    counts: &mut [u64],
+) -> io::Result<usize> {
     let mut starts = [0usize; 9];
     let call = call_at(text, at);
     let read = read_block(
@@ -241,69 +265,84 @@ fn block(text: &[u8], at: usize, words: &mut [u64], room: &mut [u64], counts: &m
         &mut starts,
     );
     if (call >= CALLS) | !read.good {
-        return not_right(text, counts);
+        return Ok(not_right(text, counts));
     }
-    if look(call, words, &starts, room, counts) {
-        return read.next;
+    if look(rt, call, words, &starts, room, counts)? {
+        return Ok(read.next);
     }
-    not_right(text, counts)
+    Ok(not_right(text, counts))
 }
 
 // Takes a line of the head, an empty line or a block; answers the place after it.
-fn turn(text: &[u8], at: usize, words: &mut [u64], room: &mut [u64], counts: &mut [u64]) -> usize {
+fn turn(
+    rt: &impl Print,
+    text: &[u8],
+    at: usize,
+    words: &mut [u64],
+    room: &mut [u64],
+    counts: &mut [u64],
+) -> io::Result<usize> {
     if at >= text.len() {
-        return at;
+        return Ok(at);
     }
     match text[at] {
-        b'#' => after_line(text, at),
-        b'\n' => at + 1,
-        _ => block(text, at, words, room, counts),
+        b'#' => Ok(after_line(text, at)),
+        b'\n' => Ok(at + 1),
+        _ => block(rt, text, at, words, room, counts),
     }
 }
 
-fn all_turns(text: &[u8], words: &mut [u64], room: &mut [u64], counts: &mut [u64]) {
+fn all_turns(
+    rt: &impl Print,
+    text: &[u8],
+    words: &mut [u64],
+    room: &mut [u64],
+    counts: &mut [u64],
+) -> io::Result<()> {
     let mut at: usize = 0;
     while at < text.len() {
-        let next = turn(text, at, words, room, counts);
+        let next = turn(rt, text, at, words, room, counts)?;
         if next <= at {
-            return;
+            return Ok(());
         }
         at = next;
     }
+    Ok(())
 }
 
 // The blocks of a call, the refusals among them, and the calls made again.
-fn print_call(name: &[u8], counts: &[u64], call: usize) {
+fn print_call(rt: &impl Print, name: &[u8], counts: &[u64], call: usize) -> io::Result<()> {
     if call < CALLS {
-        print_count(name, counts, call);
-        print_count(b", refused ", counts, 6 + call);
-        print_count(b", replayed ", counts, 12 + call);
+        print_count(rt, name, counts, call)?;
+        print_count(rt, b", refused ", counts, 6 + call)?;
+        print_count(rt, b", replayed ", counts, 12 + call)?;
     }
+    Ok(())
 }
 
-fn print_counts(counts: &[u64]) {
-    print_call(b"build ", counts, 0);
-    print_call(b"\nrow_sum ", counts, 1);
-    print_call(b"\nlookup_m_poly ", counts, 2);
-    print_call(b"\nlookup_h_poly ", counts, 3);
-    print_call(b"\neq_xy ", counts, 4);
-    print_call(b"\nsizes ", counts, 5);
+fn print_counts(rt: &impl Print, counts: &[u64]) -> io::Result<()> {
+    print_call(rt, b"build ", counts, 0)?;
+    print_call(rt, b"\nrow_sum ", counts, 1)?;
+    print_call(rt, b"\nlookup_m_poly ", counts, 2)?;
+    print_call(rt, b"\nlookup_h_poly ", counts, 3)?;
+    print_call(rt, b"\neq_xy ", counts, 4)?;
+    print_call(rt, b"\nsizes ", counts, 5)
 }
 
-fn print_rest(counts: &[u64]) {
-    print_count(b"\nnot replayed ", counts, 18);
-    print_count(b"\ndiffer ", counts, 19);
-    print_count(b"\nnot right ", counts, 20);
-    io::write_all(STDOUT_FILENO, b"\n");
+fn print_rest(rt: &impl Print, counts: &[u64]) -> io::Result<()> {
+    print_count(rt, b"\nnot replayed ", counts, 18)?;
+    print_count(rt, b"\ndiffer ", counts, 19)?;
+    print_count(rt, b"\nnot right ", counts, 20)?;
+    rt.write_all(b"\n")
 }
 
-fn replay(text: &[u8]) {
+fn replay(rt: &impl Print, text: &[u8]) -> io::Result<()> {
     let mut words = [0u64; 8192];
     let mut room = [0u64; 8192];
     let mut counts = [0u64; 21];
-    all_turns(text, &mut words, &mut room, &mut counts);
-    print_counts(&counts);
-    print_rest(&counts);
+    all_turns(rt, text, &mut words, &mut room, &mut counts)?;
+    print_counts(rt, &counts)?;
+    print_rest(rt, &counts)
 }
 
 // Room for the text.
@@ -311,20 +350,38 @@ fn room() -> [u8; 400000] {
     [0; 400000]
 }
 
-fn replay_file(fd: i32) {
-    let mut text = room();
-    let n = io::read_full(fd, &mut text);
-    libc::close(fd);
-    replay(&text[..n]);
+// Reads until the room is full, the file ends or a read fails, and answers how many bytes were read.
+fn read_full(file: &mut impl Read, text: &mut [u8]) -> usize
+    ensures { result ≤ length text.new }
+{
+    let mut done: usize = 0;
+    while done < text.len() {
+        match file.read(&mut text[done..]) {
+            Ok(0) | Err(_) => return done,
+            Ok(n) => done += n,
+        }
+    }
+    done
 }
 
-fn main() {
-    let mut path = io::buffer();
-    let length = os::arg(1, &mut path);
-    let fd = os::open_read(&path[..length]);
-    if fd < 0 {
-        os::fail(&path[..length]);
-        return;
+fn replay_file(rt: &impl Print, file: &mut impl Read) -> io::Result<()> {
+    let mut text = room();
+    let n = read_full(file, &mut text);
+    replay(rt, &text[..n])
+}
+
+// Replays the file of this name, or says why it can't be read.
+fn replay_named(rt: &(impl Files + Print), err: Stderr, path: &[u8]) -> io::Result<()> {
+    match open_read(rt, path) {
+        Ok(mut file) => replay_file(rt, &mut file),
+        Err(why) => say::fail(err, path, &why),
     }
-    replay_file(fd);
+}
+
+fn main(rt: HostRuntime) -> io::Result<()> {
+    let mut path = [0u8; 4096];
+    match rt.arg(1, &mut path) {
+        Ok(length) => replay_named(&rt, rt.stderr(), &path[..length]),
+        Err(_) => replay_named(&rt, rt.stderr(), b""),
+    }
 }

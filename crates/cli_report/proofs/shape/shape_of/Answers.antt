@@ -1,0 +1,18 @@
+-- `shape_of` ends, and asks `copied_of` and `accepted` only of circuit words for which questions 1 to 11 and 18 are yes.
+use Rattle.std.proofs.Common.{◌≡◌, ℕ, List, sym, ap, ◌∙◌}
+use Rattle.hyperplonk_prepare.specs.Prepared.{Accepted}
+use Rattle.hyperplonk_prepare.proofs.Foretold.{accepted_when}
+use Rattle.hyperplonk_spec.specs.Sizes.{sizes_of}
+use Rattle.hyperplonk_spec.specs.declared.Sizes.{Sizes}
+use Rattle.cli_report.proofs.shape.shape_of.Goals as goal
+
+told-yes : (ws : List ℕ) (s : Sizes) → s ≡ sizes_of ws → s.number ≡ 0 → Accepted ws
+told-yes ws s e z = accepted_when ws (sym (ap (λ (t : Sizes). t.number) e) ∙ z)
+
+pub copied_of-copied-requires : goal.copied_of-copied-requires
+copied_of-copied-requires c = told-yes _ _ c.sizes-told.ensures.0 c.if-told-ne0.false
+
+pub accepted-requires : goal.accepted-requires
+accepted-requires c =
+    let n = c.copied_of-copied in
+    (told-yes _ _ c.sizes-told.ensures.0 c.if-told-ne0.false, (n.ensures.0, n.ensures.1))

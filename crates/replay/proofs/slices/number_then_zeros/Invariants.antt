@@ -1,0 +1,5 @@
+use Rattle.std.proofs.Common.{◌-◌, length, rules}
+use Rattle.replay.proofs.slices.number_then_zeros.Given as goal
+
+abbrev pub decreases-loop-i : goal.decreases-loop-i
+decreases-loop-i l = length l.slice - l.i
