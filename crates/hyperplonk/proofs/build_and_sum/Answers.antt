@@ -8,26 +8,27 @@ use Rattle.hyperplonk_spec.specs.Build.{Output}
 use Rattle.completeness.proofs.Called.{built_is, room, refused_left, summed_code}
 use Rattle.completeness.proofs.Whole.{both}
 use Rattle.hyperplonk.proofs.build_and_sum.Goals as goal
+use Rattle.hyperplonk.proofs.build_and_sum.Goals.{then-count-gt0, else-count-gt0}
 
 pub slice_bounds-build-end : goal.slice_bounds-build-end
-slice_bounds-build-end c = ⊎_elim (λ w. omega arith) (λ w. omega arith) c.if-count-gt0.branch
+slice_bounds-build-end c = elim c.if-count-gt0.branch [ then-count-gt0 w ↦ omega arith | else-count-gt0 w ↦ omega arith ]
 
 pub returns-then-b-ne0 : goal.returns-then-b-ne0
 returns-then-b-ne0 c =
     let a = c.args in
     let j = c.if-count-gt0 in
     let f = c.build-b in
-    let o : Output = record { answer = f.result; columns = f.new.nodes.1.1.1.0; nodes = f.new.nodes.1.1.1.1.0 } in
+    let o : Output = record { answer = f.result; columns = f.new.columns; nodes = f.new.nodes } in
     both a.circuit.now a.instance.now a.witness.now a.challenges.now a.y.now a.columns.now a.nodes.now _
     (refused_left a.circuit.now a.instance.now a.witness.now a.challenges.now a.y.now a.columns.now a.nodes.now o
-    (built_is a.circuit.now a.instance.now a.witness.now a.challenges.now a.y.now a.columns.now a.nodes.now j.count o (⊎_elim (λ w. omega arith) (λ w. omega arith) j.branch) f.ensures.0)
+    (built_is a.circuit.now a.instance.now a.witness.now a.challenges.now a.y.now a.columns.now a.nodes.now j.count o (elim c.if-count-gt0.branch [ then-count-gt0 w ↦ omega arith | else-count-gt0 w ↦ omega arith ]) f.ensures.0)
     c.if-b-ne0.true)
 
 pub overflow_mul-node_words : goal.overflow_mul-node_words
 overflow_mul-node_words c =
     let a = c.args in
     let f = c.build-b in
-    let o : Output = record { answer = f.result; columns = f.new.nodes.1.1.1.0; nodes = f.new.nodes.1.1.1.1.0 } in
+    let o : Output = record { answer = f.result; columns = f.new.columns; nodes = f.new.nodes } in
     let r = room a.circuit.now a.instance.now a.witness.now (take (c.if-count-gt0.count - 0) a.challenges.now) a.columns.now a.nodes.now o f.ensures.0 c.if-b-ne0.false in
     omega (arith, r.nodes_fit)
 
@@ -35,7 +36,7 @@ pub slice_bounds-row_sum-end : goal.slice_bounds-row_sum-end
 slice_bounds-row_sum-end c =
     let a = c.args in
     let f = c.build-b in
-    let o : Output = record { answer = f.result; columns = f.new.nodes.1.1.1.0; nodes = f.new.nodes.1.1.1.1.0 } in
+    let o : Output = record { answer = f.result; columns = f.new.columns; nodes = f.new.nodes } in
     let r = room a.circuit.now a.instance.now a.witness.now (take (c.if-count-gt0.count - 0) a.challenges.now) a.columns.now a.nodes.now o f.ensures.0 c.if-b-ne0.false in
     omega (arith, r.columns_fit)
 
@@ -43,7 +44,7 @@ pub slice_bounds-row_sum-end-2 : goal.slice_bounds-row_sum-end-2
 slice_bounds-row_sum-end-2 c =
     let a = c.args in
     let f = c.build-b in
-    let o : Output = record { answer = f.result; columns = f.new.nodes.1.1.1.0; nodes = f.new.nodes.1.1.1.1.0 } in
+    let o : Output = record { answer = f.result; columns = f.new.columns; nodes = f.new.nodes } in
     let r = room a.circuit.now a.instance.now a.witness.now (take (c.if-count-gt0.count - 0) a.challenges.now) a.columns.now a.nodes.now o f.ensures.0 c.if-b-ne0.false in
     omega (arith, r.nodes_fit)
 
@@ -52,9 +53,9 @@ returns c =
     let a = c.args in
     let j = c.if-count-gt0 in
     let f = c.build-b in
-    let o : Output = record { answer = f.result; columns = f.new.nodes.1.1.1.0; nodes = f.new.nodes.1.1.1.1.0 } in
+    let o : Output = record { answer = f.result; columns = f.new.columns; nodes = f.new.nodes } in
     both a.circuit.now a.instance.now a.witness.now a.challenges.now a.y.now a.columns.now a.nodes.now _
     (summed_code a.circuit.now a.instance.now a.witness.now a.challenges.now a.y.now a.columns.now a.nodes.now o c.row_sum-s.result
-    (built_is a.circuit.now a.instance.now a.witness.now a.challenges.now a.y.now a.columns.now a.nodes.now j.count o (⊎_elim (λ w. omega arith) (λ w. omega arith) j.branch) f.ensures.0)
+    (built_is a.circuit.now a.instance.now a.witness.now a.challenges.now a.y.now a.columns.now a.nodes.now j.count o (elim c.if-count-gt0.branch [ then-count-gt0 w ↦ omega arith | else-count-gt0 w ↦ omega arith ]) f.ensures.0)
     c.if-b-ne0.false
     c.row_sum-s.ensures.0)
