@@ -1,4 +1,4 @@
-use Rattle.std.proofs.Common.{◌-◌, ◌≤◌, rules}
+use Rattle.std.proofs.Common.{◌-◌, ◌≤◌}
 use Rattle.hyperplonk_cli.proofs.example.column_sum.Given as goal
 
 abbrev pub invariant-loop-row : goal.invariant-loop-row

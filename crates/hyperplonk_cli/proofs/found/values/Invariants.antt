@@ -1,4 +1,4 @@
-use Rattle.std.proofs.Common.{◌-◌, rules}
+use Rattle.std.proofs.Common.{◌-◌}
 use Rattle.hyperplonk_cli.proofs.found.values.Given as goal
 
 abbrev pub decreases-loop-i : goal.decreases-loop-i

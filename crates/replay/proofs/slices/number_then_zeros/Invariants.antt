@@ -1,4 +1,4 @@
-use Rattle.std.proofs.Common.{◌-◌, length, rules}
+use Rattle.std.proofs.Common.{◌-◌, length}
 use Rattle.replay.proofs.slices.number_then_zeros.Given as goal
 
 abbrev pub decreases-loop-i : goal.decreases-loop-i

@@ -1,4 +1,4 @@
-use Rattle.std.proofs.Common.{◌-◌, length, rules}
+use Rattle.std.proofs.Common.{◌-◌, length}
 use Rattle.replay.proofs.slices.zeroed.Given as goal
 
 abbrev pub decreases-loop-i : goal.decreases-loop-i
