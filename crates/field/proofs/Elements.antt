@@ -2,10 +2,10 @@
 -- number is what the operation on numbers answers, and a number below P is known by its element.
 use Rattle.std.proofs.Common.{◌≡◌, ℕ, zero, suc, ◌+◌, ◌-◌, ◌*◌, ◌%◌, ◌^◌, ◌<◌, sym, ap, ◌∙◌, ap₂, mod-lt, pow-suc, lit<}
 use native.Mathlib.Nat.{pow-zero}
-use Rattle.field.specs.Prime.{P}
+use Rattle.field.specs.Prime.{P, field_order}
 use Rattle.field.specs.Algebra.{pow, mul_comm}
 use Rattle.field.specs.ModP as ModP
-use Rattle.field.specs.Field.{add_p, sub_p, neg_p, mul_p, pow_p, inv_p, 𝔾, el, val, P_pos, pow_p_is, el_val, val_el, el_zero, el_one, el_add, el_sub, el_neg, el_mul, el_inv}
+use Rattle.field.specs.Field.{add_p, sub_p, neg_p, mul_p, pow_p, inv_p, 𝔾, el, val, P_pos, order_pos, pow_p_is, el_val, val_el, el_zero, el_one, el_add, el_sub, el_neg, el_mul, el_inv}
 
 -- ---- the answers are reduced
 
@@ -31,7 +31,7 @@ inv_p_lt a = pow_p_lt a 18446744069414584319
 
 pub el_mod : (n : ℕ) → el (n % P) ≡ el n
 unfolding 𝔾 el
-el_mod n = ModP.of_mod P P_pos n
+el_mod n = ModP.of_mod field_order order_pos n
 
 pub val_el_mod : (n : ℕ) → val (el n) ≡ n % P
 val_el_mod n = ap val (sym (el_mod n)) ∙ val_el (n % P) (mod-lt n P_pos)
