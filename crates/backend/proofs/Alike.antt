@@ -1,25 +1,25 @@
 -- Question 18 by the words: the numbers, and the tables of each group.
 use mathlib.Core.Path.{◌≡◌, refl, sym, ap, ap₂, ◌∙◌}
 use mathlib.Core.Bool.{Bool, true, false, ◌&&◌, ◌||◌, and-true, and-false, and_assoc}
-use mathlib.Core.List.{List, [], ◌∷◌, ◌++◌, map}
+use mathlib.Core.List.{List, [], ◌∷◌, ◌++◌}
 use Prim.Native.Nat.{ℕ, zero, suc, ◌+◌, ◌-◌, ◌*◌, ◌/◌, ◌≤◌, ◌<◌}
 use native.Mathlib.Nat.{add-zero, zero-add}
 use native.Mathlib.Numerals.{add-one}
 use native.Mathlib.Omega.{arith}
 use lib.Dec.{eqb}
 use lib.ListN.{length, get_or, take, drop}
-use lib.Seq.{drop-cons, drop_at}
+use lib.Seq.{drop-cons}
 use borrow.Author.Tests.{eq-eqb, ne_eqb}
 use Rattle.lists.specs.Lists.{tabulate, range, all_of, split, total}
 use Rattle.lists.proofs.Lists.{split_length}
-use Rattle.lists.proofs.Columns.{map_tabulate, map_below, tabulate_suc, tabulate_length, tabulate_of, get_tabulate, tabulate_cong}
+use Rattle.lists.proofs.Columns.{map_tabulate, map_below, tabulate_length, tabulate_of, get_tabulate, tabulate_cong}
 use Rattle.lists.proofs.Parts.{total_within, total_next}
 use Rattle.lists.proofs.Tests.{all_append}
 use Rattle.lists.proofs.Walks.{all_map, Walked, walk_none, walk_more, walk_done, walk_fails}
 use Rattle.expression.specs.Expr.{Expr}
 use Rattle.expression.specs.Nodes.{expr_of}
 use Rattle.expression.specs.Same.{same_expr, same_list}
-use Rattle.backend.specs.Circuit.{Pair, word, pair_at, pairs_of}
+use Rattle.backend.specs.Circuit.{Pair, pair_at, pairs_of}
 use Rattle.backend.specs.Constraints.{tables_of}
 use Rattle.backend.specs.Questions.{numbers_follow, group_numbers_good, tables_alike}
 use Rattle.backend.specs.Degrees.{lookup_numbered, group_from}

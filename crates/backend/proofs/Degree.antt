@@ -2,13 +2,13 @@
 use mathlib.Core.Path.{◌≡◌, refl, sym, ap, ap₂, ◌∙◌}
 use mathlib.Core.Bool.{Bool, true, false, ◌&&◌, ◌||◌, and-false, beq}
 use mathlib.Core.List.{List, [], ◌∷◌, ◌++◌, map, map-append, map-map}
-use mathlib.Core.Option.{Option, none, some}
+use mathlib.Core.Option.{none}
 use Prim.Native.Nat.{ℕ, zero, suc, ◌+◌, ◌-◌, ◌*◌, ◌/◌, ◌≤◌, ◌<◌, min, max}
 use native.Mathlib.Nat.{max-zero, zero-add, add-zero, add_assoc, not-suc-le-zero}
 use native.Mathlib.Numerals.{add-one}
 use native.Mathlib.Omega.{arith}
 use lib.Dec.{eqb, leb, ltb, eqb-suc-zero, leb-zero, leb-suc-suc}
-use lib.ListN.{length, get_or, take, drop, drop_of_length-le}
+use lib.ListN.{length, get_or, take, drop}
 use borrow.Author.Tests.{leb-true, le-leb, lt-leb, ltb-true}
 use Rattle.lists.specs.Lists.{tabulate, all_of, count_of, maximum, split, total, All}
 use Rattle.lists.proofs.Tests.{all_append, all_each, and_left, and_right, and_both}
@@ -20,7 +20,7 @@ use Rattle.lists.proofs.Totals.{maximum_append}
 use Rattle.lists.proofs.Walks.{all_map, total_next}
 use Rattle.lists.proofs.Searches.{tabulate_part}
 use Rattle.lists.proofs.Once.{same_tests}
-use Rattle.expression.specs.Expr.{Expr, Exprs, degree, evaluate, powers_first, values, running, degree_ops, exprs_of, distribute_powers, product_from, product_of, at}
+use Rattle.expression.specs.Expr.{Expr, degree, evaluate, values, running, degree_ops, exprs_of, distribute_powers, product_from, product_of, at}
 use Rattle.expression.specs.Nodes.{expr_of}
 use Rattle.backend.specs.Circuit.{Circuit, Pair, word, pair_at, pairs_of, stated_of, num_challenges, num_groups_in, group_sizes, num_groups, groups_of, m_number, h_number}
 use Rattle.backend.specs.Layout.{node_count, nodes_hold, kind_is, in_place, is_root, once, laid_out}

@@ -1,22 +1,21 @@
 -- Groups of lookups, by their numbers: how many there are, how many lookups each has, and what yes to question 18 says.
 use mathlib.Core.Path.{◌≡◌, refl, sym, ap, ap₂, ◌∙◌}
 use mathlib.Core.Logic.{◌⊎◌, inl, inr}
-use mathlib.Core.Bool.{Bool, true, false, cond, ◌&&◌, ◌||◌}
+use mathlib.Core.Bool.{Bool, true, cond, ◌||◌}
 use mathlib.Core.List.{List, [], ◌∷◌, map}
-use Prim.Native.Nat.{ℕ, zero, suc, ◌+◌, ◌≤◌, ◌<◌, max}
+use Prim.Native.Nat.{ℕ, zero, suc, ◌+◌, ◌≤◌, ◌<◌}
 use native.Mathlib.Omega.{arith}
 use native.Mathlib.Decide.{ℕ_discrete}
 use lib.Dec.{eqb}
-use lib.ListN.{length, get_or}
+use lib.ListN.{length}
 use borrow.Author.Tests.{eq-eqb, ne_eqb, eqb-true}
-use Rattle.lists.specs.Lists.{tabulate, all_of, count_of, filter, maximum, total, split, concat, All}
+use Rattle.lists.specs.Lists.{tabulate, count_of, filter, maximum, total, All}
 use Rattle.lists.proofs.All.{all_tabulate}
 use Rattle.lists.proofs.Columns.{tabulate_length, tabulate_cong}
-use Rattle.lists.proofs.Parts.{concat_split}
 use Rattle.lists.proofs.Tests.{and_left, and_right, count_append, count_one}
-use Rattle.backend.specs.Circuit.{Circuit, Pair, num_groups_in, group_sizes, num_groups, groups_of}
+use Rattle.backend.specs.Circuit.{num_groups_in, group_sizes}
 use Rattle.backend.proofs.Forest.{total_suc, total_plus}
-use Rattle.backend.specs.Questions.{numbers_follow, group_numbers_good, tables_alike, q18}
+use Rattle.backend.specs.Questions.{numbers_follow, group_numbers_good}
 
 pub sizes_length : (ns : List ℕ) → length (group_sizes ns) ≡ num_groups_in ns
 unfolding group_sizes

@@ -1,6 +1,6 @@
 -- Laws of the table of contents.
-use mathlib.Core.Path.{◌≡◌, refl, sym, ap, ap₂, ◌∙◌, subst}
-use mathlib.Core.Bool.{Bool, true, false, cond, ◌&&◌, and_assoc, and-true, and-false}
+use mathlib.Core.Path.{◌≡◌, refl, sym, ap, ap₂, ◌∙◌}
+use mathlib.Core.Bool.{Bool, true, false, ◌&&◌, and_assoc, and-true, and-false}
 use mathlib.Core.List.{List, [], ◌∷◌}
 use Prim.Native.Nat.{ℕ, zero, suc, ◌+◌, ◌-◌, ◌*◌, ◌/◌, ◌%◌, ◌^◌, ◌≤◌, ◌<◌, min}
 use native.Mathlib.Omega.{arith, min_cases}
@@ -8,13 +8,13 @@ use mathlib.Core.Logic.{◌⊎◌, inl, inr, ⊎_elim}
 use native.Mathlib.Decide.{dec_lt}
 use native.Mathlib.Nat.{one-mul, zero-mul, mul-mod_right, mod-eq_of_lt, min-eq_left, min-eq_right, min-le_left, le-div_iff_mul-le, div-lt_iff_lt-mul, mul-le-mul_right}
 use lib.ListN.{length, get_or, take, drop, length-take, length-drop}
-use lib.Dec.{eqb, leb, ltb}
+use lib.Dec.{eqb, leb}
 use lib.Pow.{pow_pos, pow-lt, pow_mono, pow-add}
 use borrow.Author.Tests.{eq-eqb, ne_eqb, eqb-true, leb-true}
 use Rattle.lists.specs.Lists.{all_of, within}
 use Rattle.lists.proofs.Tests.{and_left, and_right}
 use Rattle.backend.specs.Circuit.{Section, sections, place, section_at, entry, entries, contents, word_k, start_of, words_in, body_of}
-use Rattle.backend.specs.Questions.{largest_k, allowed, q1, q2, q3, follow, q4}
+use Rattle.backend.specs.Questions.{largest_k, q1, q2, q3, follow, q4}
 use Rattle.backend.specs.Laid.{ContentsValid, end_of, bounds_of}
 use Rattle.backend.specs.declared.Part.{Part}
 

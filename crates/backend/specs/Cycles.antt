@@ -1,5 +1,5 @@
 -- Question 11, put to one cell after another.
-use Rattle.std.specs.Prelude.{Bool, true, false, not, ◌&&◌, List, ℕ, ◌+◌, ◌-◌, ltb}
+use Rattle.std.specs.Prelude.{Bool, not, ◌&&◌, List, ℕ, ◌+◌, ◌-◌, ltb}
 use Rattle.lists.specs.Lists.{tabulate, all_of, within}
 use Rattle.backend.specs.Circuit.{Cell, cell_at, same_cell}
 

@@ -1,5 +1,5 @@
 -- Questions 7 and 8 over node words and roots.
-use Rattle.std.specs.Prelude.{Bool, true, false, cond, not, ◌&&◌, ◌||◌, List, [], ◌∷◌, ◌++◌, map, ℕ, zero, suc, ◌+◌, ◌/◌, ◌^◌, length, nat_abs, eqb, leb, ltb}
+use Rattle.std.specs.Prelude.{Bool, true, false, cond, not, ◌&&◌, ◌||◌, List, [], ◌∷◌, ◌++◌, map, ℕ, ◌/◌, ◌^◌, length, nat_abs, eqb, leb, ltb}
 use Rattle.std.specs.Bool.{beq}
 use Rattle.lists.specs.Lists.{range, tabulate, all_of, count_of, concat}
 use Rattle.expression.specs.Nodes.{word_of, Kind, kind_of, decode_signed}

@@ -1,5 +1,5 @@
 -- Cells in 1024 chains, by the remainder of their rows: each cell is linked to the last before it of its chain.
-use Rattle.std.specs.Prelude.{◌≡◌, Bool, cond, List, ℕ, zero, suc, ◌%◌, ◌<◌, eqb, length, get_or}
+use Rattle.std.specs.Prelude.{◌≡◌, cond, List, ℕ, zero, suc, ◌%◌, ◌<◌, eqb, length, get_or}
 use Rattle.backend.specs.Circuit.{cell_at}
 
 -- the chain of cell m

@@ -6,6 +6,8 @@
 // groups: 18
 // degrees: 10
 // cycles: 11
+#![tactic(auto)]
+
 mod bodies;
 mod contents;
 mod cycles;

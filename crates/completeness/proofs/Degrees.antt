@@ -6,7 +6,7 @@ use mathlib.Core.List.{List, [], ◌∷◌, ◌++◌, map}
 use Prim.Native.Nat.{ℕ, suc, ◌+◌, ◌-◌, ◌*◌, ◌≤◌, max, min}
 use native.Mathlib.Nat.{add-zero}
 use native.Mathlib.Omega.{arith}
-use lib.ListN.{length, get_or, take, drop, length-take}
+use lib.ListN.{length, get_or, drop, length-take}
 use lib.Dec.{eqb, ltb}
 use lib.IntN.{pos}
 use Rattle.lists.specs.Lists.{tabulate, range, maximum, All}

@@ -1,10 +1,10 @@
 -- One step of a reading: the words ahead, before and after a byte.
-use Rattle.std.proofs.Common.{◌≡◌, ℕ, ◌+◌, ◌-◌, ◌*◌, ◌%◌, ◌^◌, ◌<◌, ◌≤◌, Bool, true, false, cond, not, ◌&&◌, eqb, ltb, leb, List, [], ◌∷◌, ◌++◌, map, length, get_or, take, drop, set, sym, refl, ap, ◌∙◌, append-nil, add-one, arith, length-set, length-take-le, take_all, drop-cons, take-suc-set, le-ltb, lt-ltb, ne_eqb, eqb-true, leb-true}
+use Rattle.std.proofs.Common.{◌≡◌, ℕ, ◌+◌, ◌-◌, ◌*◌, ◌^◌, ◌<◌, ◌≤◌, Bool, true, false, cond, not, eqb, leb, List, [], ◌∷◌, ◌++◌, length, get_or, take, drop, set, sym, refl, ap, ◌∙◌, append-nil, add-one, arith, length-set, length-take-le, take_all, drop-cons, take-suc-set, le-ltb, lt-ltb, ne_eqb, eqb-true, leb-true}
 use lib.Seq.{drop-length}
-use borrow.Author.Tests.{eqb-false, lt-leb}
-use Rattle.lists.specs.Lists.{all_of, filter, within}
+use borrow.Author.Tests.{lt-leb}
+use Rattle.lists.specs.Lists.{all_of, filter}
 use Rattle.lists.proofs.Tests.{by_test, false_true, and_left, and_right}
-use Rattle.decimal.specs.Text.{is_newline, is_hash, is_blank, is_digit, no_digit, Parts, every, parts, lines, text_before, pieces, too_large, too_many, no_number, number, Word, word, wrong, word_after, line_words, LineWord, placed, placed_at, next_line, in_lines, Said, words, fault, kept_words, says}
+use Rattle.decimal.specs.Text.{is_newline, is_hash, is_blank, is_digit, no_digit, Parts, every, parts, lines, text_before, pieces, too_large, too_many, no_number, number, Word, word, wrong, word_after, line_words, LineWord, placed, placed_at, next_line, in_lines, kept_words, says}
 use Rattle.decimal.specs.Reading.{in_number, in_comment, value_begun, told, heard, follows, line_ahead, words_ahead, ahead, begun, Takes, Ended, Stopped}
 use Rattle.decimal.specs.declared.Scan.{Scan}
 

@@ -1,5 +1,7 @@
 // The words of a text: decimal numbers with white space between, and '#' comments to the end of the line. A text is read whole,
 // or part by part as a file comes.
+#![tactic(auto)]
+
 ghost use Rattle.std.specs.Prelude.{◌≡◌, ℕ, true, false, List, [], ◌∷◌, length};
 ghost use Rattle.decimal.specs.Text.{is_blank, is_digit, says};
 ghost use Rattle.decimal.specs.Reading.{in_comment, value_begun, heard, ahead, Takes, Stopped, Ended};

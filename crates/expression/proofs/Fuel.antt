@@ -1,14 +1,12 @@
 -- The reading of a node does not depend on the fuel: `expr-step` and `items-step` read one node.
-use mathlib.Core.Path.{◌≡◌, refl, sym, ap, ◌∙◌, fun_ext}
+use mathlib.Core.Path.{◌≡◌, refl, fun_ext}
 use mathlib.Core.Bool.{Bool, true, false}
 use mathlib.Core.List.{List}
-use Prim.Native.Nat.{ℕ, zero, suc, ◌+◌, ◌*◌, ◌≤◌, ◌<◌}
+use Prim.Native.Nat.{ℕ, zero, suc, ◌<◌}
 use native.Mathlib.Omega.{arith}
 use native.Mathlib.Nat.{le_refl}
-use lib.ListN.{get_or}
 use lib.Dec.{eqb, ltb}
-use borrow.Author.Tests.{ltb-true, lt-ltb, le-ltb}
-use Rattle.expression.specs.Expr.{Expr, Exprs}
+use borrow.Author.Tests.{ltb-true}
 use Rattle.expression.specs.Nodes.{word_of, kind_of, node_of, item_of, guard, under, no_expr, no_exprs, expr_at, items_at, expr_of, items_of}
 
 guard_ext : {A : Type 0} (t : Bool) (d : A) (f g : ℕ → A) (c : ℕ) → (t ≡ true → f c ≡ g c) → guard t d f c ≡ guard t d g c

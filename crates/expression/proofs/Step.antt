@@ -1,27 +1,14 @@
 -- A node as it is read, one node at a time: d holds its words.
 use mathlib.Core.Path.{◌≡◌, refl, sym, ap, ◌∙◌}
-use mathlib.Core.Bool.{Bool, true, false}
+use mathlib.Core.Bool.{Bool}
 use mathlib.Core.List.{List}
-use Prim.Native.Nat.{ℕ, zero, suc, ◌+◌, ◌*◌, ◌≤◌, ◌<◌}
-use lib.Dec.{eqb, ltb}
+use Prim.Native.Nat.{ℕ, zero, suc, ◌≤◌, ◌<◌}
+use lib.Dec.{eqb}
 use borrow.Author.Tests.{lt-ltb, le-ltb, eq-eqb, ne_eqb}
 use Rattle.expression.specs.declared.node.Node.{Node}
 use Rattle.expression.specs.Expr.{Expr, Exprs}
 use Rattle.expression.specs.Read.{node_at}
-use Rattle.expression.specs.Nodes.{
-  Kind,
-  word_of,
-  decode_signed,
-  kind_of,
-  node_of,
-  item_of,
-  guard,
-  under,
-  no_expr,
-  no_exprs,
-  expr_of,
-  items_of,
-}
+use Rattle.expression.specs.Nodes.{decode_signed, kind_of, node_of, item_of, guard, under, no_expr, no_exprs, expr_of, items_of}
 use Rattle.expression.proofs.Fuel.{expr_step, items_step}
 
 pub under_yes : {A : Type 0} (n : ℕ) (d : A) (f : ℕ → A) (a : ℕ) → a < n → under n d f a ≡ f a

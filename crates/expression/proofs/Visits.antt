@@ -5,7 +5,7 @@ use Prim.Native.Nat.{ℕ, suc, ◌+◌, ◌≤◌}
 use native.Mathlib.Nat.{zero-add}
 use native.Mathlib.Omega.{arith}
 use Rattle.expression.specs.Expr.{Expr, Exprs, Ops, running, evaluate, powers_first, values}
-use Rattle.expression.specs.Flat.{body, sizes, extra, size, root, words, flat, flats, chain}
+use Rattle.expression.specs.Flat.{body, sizes, size, root, words, flat, flats, chain}
 use Rattle.expression.specs.Visits.{visited, visited_first, visited_all, unit_ops, visits, not_items}
 use Rattle.expression.specs.Walks.{listed, weight, weights}
 

@@ -1,10 +1,10 @@
 -- What each way through the code computes is the fold, for any operations: d is the node as read, and the other hypotheses are what
 -- the calls ensure. The walks for the value, the degree and the queries cite these.
-use mathlib.Core.Path.{◌≡◌, refl, sym, ap, ap₂, ◌∙◌}
+use mathlib.Core.Path.{◌≡◌, sym, ap, ap₂, ◌∙◌}
 use mathlib.Core.List.{List}
-use Prim.Native.Nat.{ℕ, ◌+◌, ◌*◌, ◌≤◌, ◌<◌}
+use Prim.Native.Nat.{ℕ, ◌≤◌, ◌<◌}
 use Rattle.expression.specs.declared.node.Node.{Node}
-use Rattle.expression.specs.Expr.{Expr, Exprs, Ops, evaluate, powers_first, values, running, powers_rest}
+use Rattle.expression.specs.Expr.{Expr, Ops, evaluate, powers_first, values, running, powers_rest}
 use Rattle.expression.specs.Nodes.{decode_signed, node_of, kind_of, under, no_expr, no_exprs, expr_of, items_of}
 use Rattle.expression.specs.Read.{node_at}
 use Rattle.expression.proofs.Step.{under_yes, under_no, by_kind, low, low_items, node_read, of_kind, items_last, items_more}

@@ -1,5 +1,5 @@
 -- The queries that an expression uses, in rising order.
-use Rattle.std.specs.Prelude.{cond, List, [], ◌∷◌, ◌++◌, map, ℕ, ◌+◌, ◌-◌, ◌*◌, ◌/◌, ◌%◌, leb, length}
+use Rattle.std.specs.Prelude.{cond, List, [], ◌∷◌, map, ℕ, ◌+◌, ◌-◌, ◌*◌, ◌/◌, ◌%◌, leb, length}
 use Rattle.lists.specs.Lists.{tabulate, filter, concat, write_prefix}
 use Rattle.expression.specs.Expr.{Expr, Query, used_query}
 use Rattle.expression.specs.Nodes.{decode_signed, encode_signed}

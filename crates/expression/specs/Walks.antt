@@ -1,5 +1,5 @@
 -- The folds that the walks over node words compute; their laws are in proofs/.
-use Rattle.std.specs.Prelude.{Bool, true, false, ◌||◌, List, [], ℕ, suc, ◌+◌, min, max}
+use Rattle.std.specs.Prelude.{Bool, false, ◌||◌, ℕ, suc, ◌+◌, min, max}
 use Rattle.expression.specs.Expr.{Expr, Exprs, Ops, Query, same_query}
 use Rattle.expression.specs.Flat.{sizes, extra}
 

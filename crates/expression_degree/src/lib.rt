@@ -1,5 +1,7 @@
 // The degree of an expression (Rust `degree`), and how many nodes its tree takes, from its node words. Each is capped in every
 // step, so that no sum wraps.
+#![tactic(auto)]
+
 ghost use Rattle.std.specs.Prelude.{◌≡◌, suc, ◌+◌, ◌*◌, ◌≤◌, ◌<◌, min, max, length};
 ghost use Rattle.expression.specs.Expr.{evaluate, powers_first, powers_rest, degree};
 ghost use Rattle.expression.specs.Nodes.{expr_of, items_of, under, no_expr, no_exprs};

@@ -1,5 +1,7 @@
 // The value of an expression at a row (Rust `evaluate`), from its node words. The recursion hands words on, each standing for its
 // element; `value` gives the element.
+#![tactic(auto)]
+
 ghost use Rattle.std.specs.Prelude.{◌≡◌, ◌+◌, ◌*◌, ◌≤◌, ◌<◌, length, get_or};
 ghost use Rattle.field.specs.Field.{𝔾, el};
 ghost use Rattle.field.specs.Element.{elem};

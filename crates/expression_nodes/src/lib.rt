@@ -1,4 +1,6 @@
 // Node words, and the signed numbers kept in them.
+#![tactic(auto)]
+
 pub mod leaves;
 pub mod poly;
 

@@ -1,4 +1,6 @@
 // The queries of an expression (Rust `used_query`), from its node words.
+#![tactic(auto)]
+
 ghost use Rattle.std.specs.Prelude.{◌≡◌, cond, ◌&&◌, ◌||◌, ◌+◌, ◌-◌, ◌*◌, ◌≤◌, ◌<◌, eqb, leb, length};
 ghost use Rattle.lists.specs.Lists.{write_prefix};
 ghost use Rattle.expression.specs.Expr.{evaluate, powers_first, powers_rest};

@@ -1,4 +1,6 @@
 // Are two expressions one tree, by shape and words? Node n is kept as the place n + 1; place 0 is no node, and reads as Constant 0.
+#![tactic(auto)]
+
 ghost use Rattle.std.specs.Prelude.{◌≡◌, cond, ◌&&◌, suc, ◌+◌, ◌*◌, ◌-◌, ◌≤◌, ◌<◌, ltb, length};
 ghost use Rattle.expression.specs.Nodes.{expr_of, items_of, under, no_expr, no_exprs};
 ghost use Rattle.expression.specs.Read.{node_at};

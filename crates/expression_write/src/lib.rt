@@ -1,5 +1,7 @@
 // Trees written anew into a lent buffer, in document 01's order, whatever their order in the words that they are read from. The buffer
 // stands for the words from word `from` on; what falls outside it is left out.
+#![tactic(auto)]
+
 pub mod operations;
 
 ghost use Rattle.std.specs.Prelude.{◌≡◌, ◌+◌, ◌*◌, ◌≤◌, ◌<◌, [], ◌∷◌, length};

@@ -1,4 +1,6 @@
 // hyperplonk.rs: the calls, with what each promises. `entry` has them as include/hyperplonk.h declares them, for C and Rust.
+#![tactic(auto)]
+
 pub mod entry;
 
 ghost use Rattle.std.specs.Prelude.{◌≡◌};

@@ -1,4 +1,6 @@
 // The building call: the questions in their order, then the columns and the nodes.
+#![tactic(auto)]
+
 ghost use Rattle.std.specs.Prelude.{◌≡◌, true, ◌≤◌, take};
 ghost use Rattle.backend.specs.Circuit.{circuit_of, copied, max_polys};
 ghost use Rattle.hyperplonk_prepare.specs.Prepared.{Accepted, Prepared};

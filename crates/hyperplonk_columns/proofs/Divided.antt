@@ -6,7 +6,7 @@ use Prim.Native.Nat.{ℕ, suc, ◌+◌, ◌-◌, ◌*◌, ◌≤◌, ◌<◌}
 use native.Mathlib.Omega.{arith}
 use lib.ListN.{length, get_or, drop}
 use Rattle.field.specs.Field.{𝔾, el}
-use Rattle.lists.specs.Lists.{tabulate, concat, write_at}
+use Rattle.lists.specs.Lists.{concat, write_at}
 use Rattle.lists.proofs.Columns.{tabulate_cong}
 use Rattle.lists.proofs.Over.{drop_past}
 use Rattle.expression.specs.Value.{poly_of}

@@ -1,4 +1,6 @@
 // The columns of a build: the stages one after another on the one column buffer.
+#![tactic(auto)]
+
 pub mod stages;
 
 ghost use Rattle.std.specs.Prelude.{◌≡◌, true, List, ℕ, ◌+◌, ◌≤◌, length, take};

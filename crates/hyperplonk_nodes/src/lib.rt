@@ -1,4 +1,6 @@
 // The node words of accepted circuit words' composed expression: written, whole or in a window, and compared with lent ones.
+#![tactic(auto)]
+
 ghost use Rattle.std.specs.Prelude.{◌≡◌, ◌+◌, ◌-◌, ◌*◌, ◌≤◌, ◌<◌, length, take, drop};
 ghost use Rattle.lists.specs.Lists.{same_words};
 ghost use Rattle.expression.specs.Written.{most_words};

@@ -1,21 +1,18 @@
 -- What the functions compute from accepted circuit words is what the definitions say.
 use mathlib.Core.Path.{◌≡◌, sym, ap, ap₂, ◌∙◌}
 use mathlib.Core.Bool.{Bool, true, ◌&&◌}
-use mathlib.Core.List.{List, [], ◌∷◌, ◌++◌}
-use Prim.Native.Nat.{ℕ, ◌+◌, ◌-◌, ◌*◌, ◌/◌, ◌^◌, ◌≤◌, ◌<◌, min}
+use mathlib.Core.List.{List, [], ◌∷◌}
+use Prim.Native.Nat.{ℕ, ◌+◌, ◌-◌, ◌*◌, ◌/◌, ◌^◌, ◌≤◌, min}
 use native.Mathlib.Omega.{arith}
 use native.Mathlib.Nat.{mul-le-mul, sub-zero}
 use lib.ListN.{length, get_or, take}
 use lib.Dec.{eqb, leb, ltb}
 use lib.Seq.{take_all}
-use borrow.Author.Tests.{le-leb, leb-true}
 use Rattle.field.specs.Prime.{P}
 use Rattle.lists.specs.Lists.{all_of, total, concat, All}
 use Rattle.lists.proofs.All.{all_from}
 use Rattle.lists.proofs.Columns.{tabulate_length}
-use Rattle.lists.proofs.Once.{same_tests}
 use Rattle.lists.proofs.Parts.{concat_split}
-use Rattle.expression.specs.Flat.{largest_size}
 use Rattle.backend.specs.Circuit.{Section, word_k, body_of, word_each, cell_at, cells_of, stated_of, circuit_of, rows_of, num_witness, num_challenges, num_poly, num_lookups, num_groups_in, group_sizes, num_groups, groups_of, copied_in, copied, num_copied}
 use Rattle.backend.specs.Constraints.{max_degree}
 use Rattle.backend.specs.Degrees.{largest_degree, degrees_fit}

@@ -2,19 +2,17 @@
 use mathlib.Core.Path.{◌≡◌, refl, sym, ap, ap₂, ◌∙◌}
 use mathlib.Core.Bool.{Bool, true, false, not, ◌&&◌}
 use mathlib.Core.List.{List}
-use Prim.Native.Nat.{ℕ, ◌+◌, ◌-◌, ◌*◌, ◌^◌, ◌≤◌, ◌<◌, min}
-use native.Mathlib.Decide.{dec_lt}
+use Prim.Native.Nat.{ℕ, ◌+◌, ◌-◌, ◌*◌, ◌≤◌}
 use native.Mathlib.Omega.{arith}
 use lib.Dec.{eqb, ltb}
 use lib.ListN.{length, get_or}
-use borrow.Author.Tests.{eq-eqb, ne_eqb, eqb-true}
+use borrow.Author.Tests.{eq-eqb, eqb-true}
 use Rattle.field.specs.Prime.{P}
 use Rattle.lists.specs.Lists.{all_of, same_words}
 use Rattle.lists.proofs.Tests.{false_true, by_test, and_left, and_right}
 use Rattle.lists.proofs.Same.{words_same}
 use Rattle.expression.specs.declared.poly.Layout.{Layout}
 use Rattle.expression.proofs.FlatLength.{flat_length}
-use Rattle.expression.specs.Flat.{largest_size}
 use Rattle.backend.specs.Circuit.{Circuit, word_k, circuit_of, rows_of, num_witness, num_challenges}
 use Rattle.backend.specs.Questions.{small}
 use Rattle.backend.proofs.Answers.{says_no, says_yes}

@@ -1,4 +1,6 @@
 // The row sum: question 16, and the sum of the composed expression over the rows.
+#![tactic(auto)]
+
 ghost use Rattle.std.specs.Prelude.{◌≡◌, ◌-◌, ◌^◌, ◌≤◌, ◌<◌, take};
 ghost use Rattle.field.specs.Element.{elem};
 ghost use Rattle.backend.specs.Circuit.{circuit_of, copied, max_polys};

@@ -1,4 +1,6 @@
 // What a circuit asks for, from its words alone: column words, nodes and node visits. Nothing is built: no column, no node word.
+#![tactic(auto)]
+
 ghost use Rattle.std.specs.Prelude.{◌≡◌};
 ghost use Rattle.backend.specs.Circuit.{circuit_of, num_copied};
 ghost use Rattle.hyperplonk_prepare.specs.Prepared.{Accepted};

@@ -1,6 +1,6 @@
 -- The building call: a refusal but 15 and 17 writes nothing; what 15, 17 and success write; the words needed are those written.
 use mathlib.Core.Path.{◌≡◌, refl, sym, ap, ◌∙◌}
-use mathlib.Core.Logic.{◌≢◌, ◌⊎◌, inl, inr}
+use mathlib.Core.Logic.{◌≢◌}
 use mathlib.Core.Bool.{Bool, true, false}
 use mathlib.Core.List.{List}
 use Prim.Native.Nat.{ℕ, zero, suc, ◌*◌}
@@ -8,7 +8,6 @@ use native.Mathlib.Omega.{arith}
 use lib.ListN.{length, take, drop}
 use lib.Seq.{take_at, drop_at}
 use lib.Dec.{eqb-suc-zero}
-use Rattle.field.specs.ModP as ModP
 use Rattle.field.specs.Field.{𝔾}
 use Rattle.backend.specs.Circuit.{Circuit, circuit_of, rows_of}
 use Rattle.preprocessor.specs.Compose.{composed_words, composed_nodes}

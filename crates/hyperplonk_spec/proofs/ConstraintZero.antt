@@ -1,6 +1,6 @@
 -- When the lookup, start and part constraints are zero: LookupZero, StartZero and PartZero of Composed.
 use mathlib.Core.Path.{◌≡◌, refl, sym, ap, ap₂, ◌∙◌}
-use mathlib.Core.Logic.{◌≢◌, ◌↔◌}
+use mathlib.Core.Logic.{◌↔◌}
 use mathlib.Core.Bool.{Bool, true, false, cond}
 use mathlib.Core.List.{List, [], ◌∷◌, map}
 use Prim.Native.Nat.{ℕ, suc, ◌+◌, ◌^◌, ◌<◌}
@@ -12,7 +12,7 @@ use lib.IntN.{pos}
 use borrow.Author.Tests.{ne_eqb}
 use Rattle.field.specs.Algebra.{Field, zero_add, add_zero, add_assoc, add_comm, mul_assoc, mul_comm, one_mul, zero_mul, mul_one}
 use Rattle.field.specs.Algebra as Algebra
-use Rattle.field.proofs.Solve.{var, nought, ◌:+◌, ◌:*◌, minus, solve}
+use Rattle.field.proofs.Solve.{var, nought, ◌:+◌, minus, solve}
 use Rattle.bh.specs.Rows.{rotated, iter, next_row, row_at, mod_z, lagrange_row}
 use Rattle.identities.proofs.Fields.{sub_zero}
 use Rattle.lists.specs.Lists.{All}

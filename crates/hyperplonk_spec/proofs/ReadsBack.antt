@@ -1,15 +1,15 @@
 -- The node words that building writes are read as the composed tree: ReadsBack of Composed.
-use mathlib.Core.Path.{◌≡◌, refl, ◌∙◌}
+use mathlib.Core.Path.{refl}
 use mathlib.Core.Bool.{Bool, true, false, cond}
-use mathlib.Core.List.{List, [], ◌∷◌, ◌++◌, map}
-use Prim.Native.Nat.{ℕ, suc, ◌+◌, ◌-◌, ◌*◌, ◌≤◌, ◌<◌}
+use mathlib.Core.List.{List, [], ◌∷◌, map}
+use Prim.Native.Nat.{ℕ, suc}
 use lib.Dec.{eqb, ltb}
 use lib.IntN.{pos}
 use lib.ListN.{get_or}
 use Rattle.lists.specs.Lists.{tabulate, All}
 use Rattle.lists.proofs.All.{all_get_d, all_join, all_tabulate, all_split, all_mapped, all_map}
 use Rattle.expression.specs.Expr.{Expr, at, product_of}
-use Rattle.expression.specs.Nodes.{encode_signed, expr_of}
+use Rattle.expression.specs.Nodes.{expr_of}
 use Rattle.expression.proofs.Within.{powers_within, from_within, product_within}
 use Rattle.expression.proofs.ReadBack.{kept_signs, Kept, read_kept, read_back}
 use Rattle.backend.specs.Circuit.{

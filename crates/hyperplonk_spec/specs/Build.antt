@@ -1,7 +1,7 @@
 -- The building call: questions 12 to 15 and 17, and what is returned and written.
-use Rattle.std.specs.Prelude.{Bool, true, false, cond, ◌&&◌, List, [], ◌∷◌, ◌++◌, map, ℕ, ◌+◌, ◌*◌, length, get_or, take, drop, replicate, eqb, leb}
-use Rattle.field.specs.Field.{𝔾, el, val}
-use Rattle.lists.specs.Lists.{tabulate, concat, all_of, total, write_prefix, Question, question, question_of, first_no}
+use Rattle.std.specs.Prelude.{Bool, cond, ◌&&◌, List, [], ◌∷◌, ◌++◌, map, ℕ, ◌+◌, ◌*◌, length, get_or, take, replicate, eqb, leb}
+use Rattle.field.specs.Field.{𝔾, el}
+use Rattle.lists.specs.Lists.{all_of, total, write_prefix, Question, question, question_of, first_no}
 use Rattle.backend.specs.Circuit.{Circuit, circuit_of, rows_of, num_instance, num_witness, num_challenges, num_copied, num_lookups, num_groups}
 use Rattle.backend.specs.Questions.{circuit_questions, small}
 use Rattle.preprocessor.specs.Compose.{num_z, composed_words, composed_nodes}

@@ -1,6 +1,6 @@
 -- The composed constraints: their degrees, and "in value as the source has them", over any field and any columns. The claims are
 -- stated here and proved elsewhere.
-use Rattle.std.specs.Prelude.{◌≡◌, ◌≢◌, ◌↔◌, Bool, true, false, cond, List, [], ◌∷◌, ◌++◌, map, ℕ, suc, ◌+◌, ◌-◌, ◌≤◌, ◌<◌, length, get_or, ltb}
+use Rattle.std.specs.Prelude.{◌≡◌, ◌≢◌, ◌↔◌, cond, List, [], ◌∷◌, ◌++◌, map, ℕ, suc, ◌+◌, ◌-◌, ◌≤◌, ◌<◌, length, get_or, ltb}
 use Rattle.field.specs.Algebra.{Field}
 use Rattle.field.specs.Algebra as Algebra
 use Rattle.bh.specs.Rows.{next_row}
@@ -8,7 +8,7 @@ use Rattle.lists.specs.Lists.{tabulate}
 use Rattle.expression.specs.Expr.{Expr, degree, distribute_powers}
 use Rattle.expression.specs.Nodes.{expr_of}
 use Rattle.expression.specs.Value.{Environment, poly_of, value_at}
-use Rattle.backend.specs.Circuit.{Circuit, Pair, circuit_of, rows_of, num_challenges, num_copied, num_groups, groups_of, m_number, h_number, z_number}
+use Rattle.backend.specs.Circuit.{Circuit, Pair, circuit_of, num_challenges, num_copied, num_groups, groups_of, m_number, h_number, z_number}
 use Rattle.backend.specs.Constraints.{beta_of, inputs_of, tables_of, lookup_constraint, max_degree}
 use Rattle.preprocessor.specs.Compose.{
   num_z,

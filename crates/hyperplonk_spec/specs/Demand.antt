@@ -1,5 +1,5 @@
 -- Demand 3, as a single claim. It is stated here and proved elsewhere.
-use Rattle.std.specs.Prelude.{◌≡◌, ◌≢◌, ◌↔◌, List, [], ◌∷◌, ◌++◌, ℕ, ◌-◌, ◌*◌, ◌<◌, length, get_or, take, drop}
+use Rattle.std.specs.Prelude.{◌≡◌, ◌≢◌, ◌↔◌, List, [], ◌∷◌, ◌++◌, ℕ, ◌-◌, ◌*◌, ◌<◌, length, take, drop}
 use Rattle.field.specs.Prime.{P}
 use Rattle.field.specs.Field.{𝔾}
 use Rattle.expression.specs.Nodes.{expr_of}

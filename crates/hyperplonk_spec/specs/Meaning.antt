@@ -1,5 +1,5 @@
 -- "The words of demand 3", over any field: what is supposed of a log, and what then holds.
-use Rattle.std.specs.Prelude.{◌≡◌, ◌≢◌, ◌⊎◌, ◌↔◌, Bool, true, false, List, [], ◌∷◌, ℕ, suc, ◌+◌, ◌*◌, ◌<◌, length, get_or}
+use Rattle.std.specs.Prelude.{◌≡◌, ◌≢◌, ◌⊎◌, ◌↔◌, true, false, List, [], ℕ, suc, ◌*◌, ◌<◌, length, get_or}
 use Rattle.field.specs.Algebra.{Field}
 use Rattle.lists.specs.Lists.{first_no}
 use Rattle.expression.specs.Expr.{Expr}

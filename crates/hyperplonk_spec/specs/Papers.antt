@@ -1,6 +1,6 @@
 -- The papers' definitions, over any field, and the claims that the columns are these. The claims are stated here and proved
 -- elsewhere.
-use Rattle.std.specs.Prelude.{◌≡◌, ◌≢◌, ◌↔◌, true, cond, List, [], ◌∷◌, map, ℕ, zero, suc, ◌<◌, length, take}
+use Rattle.std.specs.Prelude.{◌≡◌, ◌≢◌, ◌↔◌, true, cond, List, [], ◌∷◌, map, ℕ, suc, ◌<◌, length, take}
 use Rattle.field.specs.Algebra.{Field, sum}
 use Rattle.field.specs.Algebra as Algebra
 use Rattle.bh.specs.Sums.{up_to}

@@ -1,5 +1,5 @@
 -- The row sum: question 16, and the sum of the composed expression over the rows.
-use Rattle.std.specs.Prelude.{Bool, true, false, cond, ◌&&◌, List, [], ◌∷◌, ◌++◌, map, ℕ, ◌+◌, ◌-◌, ◌*◌, length, get_or, eqb}
+use Rattle.std.specs.Prelude.{Bool, cond, ◌&&◌, List, [], ◌∷◌, ◌++◌, map, ℕ, ◌+◌, ◌-◌, ◌*◌, length, get_or, eqb}
 use Rattle.field.specs.Field.{𝔾, el, val}
 use Rattle.lists.specs.Lists.{tabulate, all_of, same_words, Question, question, question_of, first_no}
 use Rattle.expression.specs.Nodes.{expr_of}

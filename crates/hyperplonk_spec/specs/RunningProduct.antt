@@ -2,7 +2,7 @@
 use Rattle.std.specs.Prelude.{◌≡◌, List, [], ℕ, suc, ◌+◌, ◌*◌, ◌<◌, get_or}
 use Rattle.field.specs.Field.{𝔾, el}
 use Rattle.bh.specs.Rows.{row_at}
-use Rattle.backend.specs.Circuit.{Circuit, circuit_of, rows_of, num_instance, num_copied, num_lookups, num_groups}
+use Rattle.backend.specs.Circuit.{Circuit, rows_of, num_instance, num_copied, num_lookups, num_groups}
 use Rattle.preprocessor.specs.Compose.{num_z, z_cut}
 use Rattle.preprocessor.specs.Permutation.{first_label}
 use Rattle.prover.specs.Log.{Log}

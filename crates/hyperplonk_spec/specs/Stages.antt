@@ -1,5 +1,5 @@
 -- The stages called alone: `lookup_m_poly`, `lookup_h_poly` and `eq_xy`, "with k and columns of 2^k".
-use Rattle.std.specs.Prelude.{Bool, true, false, cond, ◌&&◌, List, [], ◌∷◌, ◌++◌, ℕ, ◌^◌, length, get_or, replicate, eqb, leb}
+use Rattle.std.specs.Prelude.{Bool, cond, ◌&&◌, List, [], ◌∷◌, ◌++◌, ℕ, ◌^◌, length, replicate, eqb, leb}
 use Rattle.field.specs.Field.{𝔾, el, val}
 use Rattle.lists.specs.Lists.{tabulate, all_of, write_prefix, question, first_no}
 use Rattle.multilinear.specs.EqXY.{eq_at}

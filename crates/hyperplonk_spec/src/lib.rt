@@ -1,4 +1,5 @@
 // What the calls of `hyperplonk` return; specs/ says what each call returns and writes.
+#![tactic(auto)]
 
 // What the building call returns.
 #[derive(Clone, Copy)]

@@ -1,4 +1,6 @@
 // The stages called alone: "they meet 2, 12, 13, 14 and, for counts, 15"; h meets 17, last.
+#![tactic(auto)]
+
 ghost use Rattle.std.specs.Prelude.{◌≡◌};
 ghost use Rattle.backend.specs.Questions.{good_k};
 ghost use Rattle.prover.specs.Answers.{outcome_number};

@@ -2,7 +2,7 @@
 use mathlib.Core.Path.{◌≡◌, refl, sym, ap, ap₂, ◌∙◌}
 use mathlib.Core.Logic.{◌≢◌}
 use mathlib.Core.List.{[], ◌∷◌}
-use Prim.Native.Nat.{ℕ, zero, ◌+◌, ◌≤◌, ◌<◌}
+use Prim.Native.Nat.{ℕ}
 use Rattle.field.specs.Algebra.{Field, one_mul, neg_unique}
 use Rattle.field.proofs.Solve.{var, ◌:+◌, ◌:*◌, minus, solve}
 use Rattle.bh.specs.Sums.{up_to}

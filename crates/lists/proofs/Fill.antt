@@ -1,12 +1,12 @@
 -- A column written into a buffer, one word after another.
 use mathlib.Core.Path.{◌≡◌, refl, sym, ap, ap₂, ◌∙◌}
-use mathlib.Core.List.{List, [], ◌∷◌, ◌++◌}
-use Prim.Native.Nat.{ℕ, zero, suc, ◌+◌, ◌≤◌, ◌<◌}
+use mathlib.Core.List.{List}
+use Prim.Native.Nat.{ℕ, ◌+◌, ◌≤◌, ◌<◌}
 use native.Mathlib.Numerals.{add-one}
 use native.Mathlib.Omega.{arith}
 use lib.ListN.{length, get_or, set, replicate, length-set}
 use Rattle.lists.specs.Lists.{tabulate, write_at}
-use Rattle.lists.proofs.Columns.{tabulate_length, tabulate_replicate}
+use Rattle.lists.proofs.Columns.{tabulate_replicate}
 use Rattle.lists.proofs.Over.{write_at_none, write_at_tabulate, write_at_before}
 
 -- the buffer when the first i words of the column f stand from `at` on

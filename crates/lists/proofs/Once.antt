@@ -1,17 +1,15 @@
 -- How many of a column pass a test, and that each is there once exactly when none is among those before it.
 use mathlib.Core.Path.{◌≡◌, refl, sym, ap, ◌∙◌}
 use mathlib.Core.Bool.{Bool, true, false, cond, not, ◌&&◌}
-use mathlib.Core.List.{List, [], ◌∷◌, ◌++◌}
+use mathlib.Core.List.{List, [], ◌∷◌}
 use Prim.Native.Nat.{ℕ, zero, suc, ◌+◌, ◌≤◌, ◌<◌}
 use native.Mathlib.Nat.{not-suc-le-zero}
-use native.Mathlib.Numerals.{add-one}
 use native.Mathlib.Decide.{dec_lt}
 use native.Mathlib.Omega.{arith}
 use lib.Dec.{eqb}
-use lib.ListN.{length, get_or}
 use borrow.Author.Tests.{eqb-true, eq-eqb, not-true}
-use Rattle.lists.specs.Lists.{tabulate, range, all_of, filter, count_of, All}
-use Rattle.lists.proofs.Tests.{by_test, false_true, and_left, and_right, and_both, all_each, true_all, count_append, count_one}
+use Rattle.lists.specs.Lists.{tabulate, range, all_of, filter, count_of}
+use Rattle.lists.proofs.Tests.{by_test, and_left, and_right, and_both, all_each, true_all, count_append, count_one}
 use Rattle.lists.proofs.All.{all_tabulate}
 use Rattle.lists.proofs.Columns.{tabulate_suc, tabulate_length, get_tabulate, below_length, below_get}
 

@@ -1,13 +1,12 @@
 -- Lists of words compared, whole and part by part.
-use mathlib.Core.Path.{◌≡◌, refl, sym, ap, ap₂, ◌∙◌, subst}
-use mathlib.Core.Bool.{Bool, true, false, ◌&&◌}
+use mathlib.Core.Path.{◌≡◌, refl, sym, ap, ap₂, ◌∙◌}
+use mathlib.Core.Bool.{true, false}
 use mathlib.Core.List.{List, [], ◌∷◌, ◌++◌}
-use Prim.Native.Nat.{ℕ, suc, ◌+◌, ◌-◌, ◌≤◌, ◌<◌}
+use Prim.Native.Nat.{ℕ, ◌+◌, ◌≤◌, ◌<◌}
 use native.Mathlib.Numerals.{add-one}
-use native.Mathlib.Omega.{arith}
 use lib.Dec.{eqb}
 use lib.ListN.{length, get_or, take, drop}
-use lib.Seq.{take-suc, take_all, take-add, get_or-take}
+use lib.Seq.{take-suc, take_all, take-add}
 use borrow.Author.Tests.{eqb-true}
 use Rattle.lists.specs.Lists.{same_words}
 use Rattle.lists.proofs.Tests.{false_true, by_test, and_left, and_right, same_words_is}

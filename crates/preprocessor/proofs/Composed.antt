@@ -1,16 +1,15 @@
 -- The trees over words are those of the circuit that the words are decoded to. Proved.
-use mathlib.Core.Path.{◌≡◌, refl, sym, ap, ◌∙◌, subst}
+use mathlib.Core.Path.{◌≡◌, refl, ap, ◌∙◌, subst}
 use mathlib.Core.List.{List, map}
-use Prim.Native.Nat.{ℕ, suc, ◌+◌, ◌-◌, ◌*◌, ◌/◌, ◌≤◌}
+use Prim.Native.Nat.{ℕ, ◌+◌, ◌-◌, ◌*◌, ◌/◌, ◌≤◌}
 use native.Mathlib.Omega.{arith}
 use lib.ListN.{length, take, drop}
-use Rattle.lists.specs.Lists.{tabulate, split, range, cut, ceil_div, write_at}
+use Rattle.lists.specs.Lists.{tabulate, split, range, ceil_div, write_at}
 use Rattle.lists.proofs.Columns.{below_length}
 use Rattle.lists.proofs.Totals.{cut_length}
 use Rattle.lists.proofs.Window.{write_window_write_at, write_window_part}
 use Rattle.expression.specs.Expr.{Expr}
 use Rattle.expression.specs.Nodes.{expr_of}
-use Rattle.expression.specs.Flat.{size, flat}
 use Rattle.expression.specs.Written.{ExprWritten}
 use Rattle.expression.proofs.FlatLength.{flat_length}
 use Rattle.backend.specs.Circuit.{Circuit, Pair, Section, circuit_of, body_of, entries, pair_at, copied, num_copied, group_sizes, groups_of}

@@ -1,9 +1,9 @@
 -- Counts that stop at 2^60, one expression after another, an Item counted as `item`. Proved.
 use mathlib.Core.Path.{◌≡◌, refl, sym, ap, ap₂, ◌∙◌}
 use mathlib.Core.Bool.{Bool, cond}
-use mathlib.Core.List.{List, [], ◌∷◌, ◌++◌, map}
+use mathlib.Core.List.{List, [], ◌∷◌, map}
 use borrow.Author.Tests.{eq-eqb, ne_eqb}
-use Prim.Native.Nat.{ℕ, zero, suc, ◌+◌, ◌-◌, ◌*◌, ◌≤◌, ◌<◌, min}
+use Prim.Native.Nat.{ℕ, zero, suc, ◌+◌, ◌*◌, ◌≤◌, ◌<◌, min}
 use native.Mathlib.Nat.{mul-le-mul_right, suc-mul, mul-one, zero-add}
 use native.Mathlib.Decide.{dec_le}
 use native.Mathlib.Numerals.{add-one}
@@ -17,7 +17,7 @@ use Rattle.expression.specs.Nodes.{expr_of}
 use Rattle.expression.specs.Flat.{largest_size}
 use Rattle.expression.specs.Walks.{weight}
 use Rattle.backend.specs.Circuit.{Circuit}
-use Rattle.preprocessor.specs.Compose.{compose, number_of_m, number_of_h, lookup_tree_of, compose_tree}
+use Rattle.preprocessor.specs.Compose.{compose, number_of_m, number_of_h, lookup_tree_of}
 use Rattle.preprocessor.specs.ComposeWords.{Limits, side_exprs, side_tree, input_side, table_side, input_sides, group_from_words, groups_from_words, constraints_from_words, num_constraints, permutation_nodes, DecodedFrom}
 use Rattle.preprocessor.specs.Count.{nodes_in, list_nodes, group_nodes}
 use Rattle.preprocessor.specs.declared.CircuitParams.{CircuitParams}

@@ -1,27 +1,19 @@
 -- Lists of expressions by their numbers, written as `distribute_powers` and as products. Proved.
-use mathlib.Core.Path.{◌≡◌, refl, sym, ap, ap₂, ◌∙◌, subst}
-use mathlib.Core.List.{List, [], ◌∷◌, ◌++◌, map}
+use mathlib.Core.Path.{◌≡◌, refl, sym, ap, ◌∙◌, subst}
+use mathlib.Core.List.{List, [], ◌∷◌, ◌++◌}
 use Prim.Native.Nat.{ℕ, zero, suc, ◌+◌, ◌-◌, ◌*◌, ◌≤◌, ◌<◌}
 use native.Mathlib.Decide.{dec_lt}
 use native.Mathlib.Nat.{add-zero}
 use native.Mathlib.Numerals.{add-one}
 use native.Mathlib.Omega.{arith}
-use lib.ListN.{length, get_or, take, drop, length-append, drop_of_length-le}
+use lib.ListN.{length, get_or, drop, drop_of_length-le}
 use lib.Seq.{drop-cons}
 use Rattle.lists.specs.Lists.{tabulate, All}
 use Rattle.lists.proofs.Columns.{tabulate_suc, tabulate_first}
 use Rattle.expression.specs.Expr.{Expr, Exprs, exprs_of, distribute_powers, product_from, product_of}
 use Rattle.expression.specs.Flat.{body, sizes, extra, size}
 use Rattle.expression.specs.Written.{Pushed, ExprWritten, WrittenBase, WrittenList}
-use Rattle.expression.proofs.Written.{
-  written_as,
-  written_constant,
-  written_factor,
-  written_single,
-  written_distribute,
-  list_last,
-  list_more,
-}
+use Rattle.expression.proofs.Written.{written_as, written_constant, written_factor, written_distribute, list_last, list_more}
 use Rattle.preprocessor.specs.ComposeWords.{exprs_from}
 
 -- expression i of a list

@@ -2,23 +2,23 @@
 use mathlib.Core.Path.{◌≡◌, refl, sym, ap, ap₂, ◌∙◌}
 use mathlib.Core.Bool.{Bool, true, false, cond}
 use mathlib.Core.List.{List, [], ◌∷◌, ◌++◌, map}
-use Prim.Native.Nat.{ℕ, zero, suc, ◌+◌, ◌-◌, ◌*◌, ◌≤◌, ◌<◌}
+use Prim.Native.Nat.{ℕ, zero, suc, ◌+◌, ◌*◌}
 use native.Mathlib.Nat.{suc-mul}
 use native.Mathlib.Omega.{arith}
 use lib.Dec.{eqb, ltb}
 use lib.IntN.{pos}
-use lib.ListN.{length, get_or, take, drop, length-append, length-map}
-use Rattle.lists.specs.Lists.{tabulate, total, cut, range, concat, ceil_div}
+use lib.ListN.{length, get_or, length-map}
+use Rattle.lists.specs.Lists.{tabulate, total, cut, range, ceil_div}
 use Rattle.lists.proofs.Lists.{concat_length}
-use Rattle.lists.proofs.Columns.{tabulate_length, tabulate_cong, tabulate_of, map_tabulate, below_length}
+use Rattle.lists.proofs.Columns.{tabulate_cong, tabulate_of, map_tabulate, below_length}
 use Rattle.lists.proofs.Totals.{total_append, concat_cut, cut_length}
 use Rattle.expression.specs.Expr.{Expr, at, exprs_of, distribute_powers, product_from, product_of}
 use Rattle.expression.specs.Flat.{body, size}
 use Rattle.expression.specs.Walks.{weight, weights}
-use Rattle.backend.specs.Circuit.{Circuit, Pair, num_challenges, num_groups, groups_of, num_copied, copied}
+use Rattle.backend.specs.Circuit.{Circuit, Pair, num_groups, groups_of, copied}
 use Rattle.backend.specs.Constraints.{inputs_of, tables_of, side_of, group_with}
 use Rattle.preprocessor.specs.Compose.{compose, composed_constraints, number_of_m, number_of_h, number_of_z, chunk, identity_tree, permutation_tree, next_tree, start_tree, part_tree, lookup_tree_of, permutation_trees, constraint_trees, zero_tree, outer_trees, compose_tree, params_of}
-use Rattle.preprocessor.specs.ComposeWords.{Limits, num_constraints, permutation_nodes}
+use Rattle.preprocessor.specs.ComposeWords.{Limits, permutation_nodes}
 use Rattle.preprocessor.specs.Count.{nodes_in, list_nodes, group_nodes}
 use Rattle.preprocessor.specs.declared.CircuitParams.{CircuitParams}
 use Rattle.preprocessor.proofs.Parts.{part_size_is, start_size}

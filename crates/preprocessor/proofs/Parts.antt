@@ -1,17 +1,17 @@
 -- The parts of the copied columns, and the constraints of the permutation. Proved.
 use mathlib.Core.Path.{◌≡◌, refl, sym, ap, ap₂, ◌∙◌, subst}
 use mathlib.Core.Bool.{Bool, true, false, cond}
-use mathlib.Core.List.{List, [], ◌∷◌, ◌++◌, map}
+use mathlib.Core.List.{List, map}
 use Prim.Native.Nat.{ℕ, zero, suc, ◌+◌, ◌-◌, ◌*◌, ◌≤◌, ◌<◌, min}
 use native.Mathlib.Nat.{mul-le-mul, mul-le-mul_left}
 use native.Mathlib.Omega.{arith}
 use lib.Dec.{ltb}
 use lib.IntN.{pos}
-use lib.ListN.{length, get_or, take, drop, length-take, length-drop}
+use lib.ListN.{length, take, drop, length-take, length-drop}
 use mir.Val.{Fits}
 use mir.Syntax.{w64}
 use borrow.Author.Tests.{lt-ltb, le-ltb}
-use Rattle.lists.specs.Lists.{tabulate, range, cut, ceil_div, All}
+use Rattle.lists.specs.Lists.{tabulate, range}
 use Rattle.lists.proofs.Columns.{tabulate_length, tabulate_first, map_tabulate, below_length}
 use Rattle.lists.proofs.Totals.{ceil_below, ceil_le, get_cut}
 use Rattle.lists.proofs.Runs.{drop_tabulate, take_min}

@@ -1,4 +1,6 @@
 // Rust `compose`: the composed expression, written as node words into a lent buffer.
+#![tactic(auto)]
+
 mod constraints;
 pub mod count;
 

@@ -1,4 +1,6 @@
 // hyperplonk/preprocessor.rs: the permutation and lookup constraints, written as node words.
+#![tactic(auto)]
+
 mod factors;
 pub mod group;
 pub mod lookup;

@@ -1,4 +1,6 @@
 // `permutation_polys`: the columns of labels of the copied columns, in the one column buffer.
+#![tactic(auto)]
+
 pub mod records;
 
 ghost use Rattle.std.specs.Prelude.{◌≡◌, ◌+◌, ◌*◌, ◌/◌, ◌^◌, ◌≤◌, ◌<◌, length, get_or, set};

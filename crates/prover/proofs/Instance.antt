@@ -1,14 +1,14 @@
 -- The instance columns: a value at its place, and one column after another.
-use mathlib.Core.Path.{◌≡◌, refl, sym, ap, ap₂, ◌∙◌, subst⁻¹}
+use mathlib.Core.Path.{◌≡◌, refl, sym, ap, ap₂, ◌∙◌}
 use mathlib.Core.Logic.{◌≢◌}
 use mathlib.Core.List.{List, [], ◌∷◌, ◌++◌, map, map-append}
-use Prim.Native.Nat.{ℕ, zero, suc, ◌+◌, ◌-◌, ◌*◌, ◌%◌, ◌^◌, ◌≤◌, ◌<◌}
+use Prim.Native.Nat.{ℕ, zero, suc, ◌+◌, ◌*◌, ◌%◌, ◌^◌, ◌≤◌, ◌<◌}
 use native.Mathlib.Nat.{suc-mul, mul-le-mul}
 use native.Mathlib.Decide.{dec_lt}
 use native.Mathlib.Numerals.{add-one}
 use native.Mathlib.Omega.{arith}
-use lib.ListN.{length, get_or, take, drop, set, replicate, length-take, length-drop, length-map, take-append-drop}
-use lib.Seq.{get_or-take, get_or-drop, take_all, take-suc, drop-drop, length-take-le}
+use lib.ListN.{length, get_or, take, drop, set, replicate, length-take, length-drop, length-map}
+use lib.Seq.{get_or-take, get_or-drop, take_all, length-take-le}
 use Rattle.field.specs.Prime.{P}
 use Rattle.field.specs.Field.{𝔾, el, val}
 use Rattle.field.proofs.Elements.{val_zero, val_el_mod}

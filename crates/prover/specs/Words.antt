@@ -1,5 +1,5 @@
 -- Columns as words.
-use Rattle.std.specs.Prelude.{Bool, true, false, cond, List, [], ◌∷◌, ◌++◌, map, ℕ, ◌+◌, ◌<◌, length, get_or, replicate}
+use Rattle.std.specs.Prelude.{cond, List, map, ℕ, ◌+◌, ◌<◌, get_or, replicate}
 use Rattle.field.specs.Prime.{P}
 use Rattle.field.specs.Field.{𝔾, el, val}
 use Rattle.lists.specs.Lists.{tabulate, concat}

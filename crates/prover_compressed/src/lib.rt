@@ -1,4 +1,6 @@
 // The compressed columns: the sum of beta^i times expression i, at each row.
+#![tactic(auto)]
+
 ghost use Rattle.std.specs.Prelude.{◌≡◌, [], ◌∷◌, ◌+◌, ◌*◌, ◌/◌, ◌%◌, ◌^◌, ◌≤◌, ◌<◌, length, take, drop};
 ghost use Rattle.field.specs.Field.{𝔾, val};
 ghost use Rattle.field.specs.Element.{elem};

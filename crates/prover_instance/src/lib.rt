@@ -1,4 +1,6 @@
 // prover.rs `instance_polys`: the instance columns.
+#![tactic(auto)]
+
 pub mod blank_column;
 
 ghost use Rattle.std.specs.Prelude.{◌≡◌, map, ℕ, ◌+◌, ◌*◌, ◌^◌, ◌<◌, ◌≤◌, length, get_or, take, drop};

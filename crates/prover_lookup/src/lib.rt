@@ -1,6 +1,8 @@
 // The count and h columns of all groups of lookups, in the one column buffer: lookup i's input starts at word compressed + i * 2 * rows,
 // its table at compressed + (i * 2 + 1) * rows; group j has the next sizes[j] lookups, its counts start at m + j * rows, its h at
 // h + j * rows.
+#![tactic(auto)]
+
 pub mod h;
 pub mod m;
 

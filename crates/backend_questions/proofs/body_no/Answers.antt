@@ -1,6 +1,5 @@
 use mathlib.Core.Path.{sym, ◌∙◌}
-use Rattle.backend.proofs.Answers.{says_no, says_yes, no_5, no_6, no_7, no_8, no_9, no_18, no_10, no_11, no_more}
-use borrow.Author.Rules.{rules}
+use Rattle.backend.proofs.Answers.{no_5, no_6, no_7, no_8, no_9, no_18, no_10, no_11, no_more}
 use Rattle.backend_questions.proofs.body_no.Goals as goal
 
 pub question_5-requires : goal.question_5-requires

@@ -1,6 +1,5 @@
 use mathlib.Core.Path.{sym, ◌∙◌}
 use Rattle.backend.proofs.Answers.{all_laid, refused_at, then_body}
-use borrow.Author.Rules.{rules}
 use Rattle.backend_questions.proofs.first_no.Goals as goal
 
 pub returns-then-no-ne0 : goal.returns-then-no-ne0

@@ -1,11 +1,10 @@
 -- Question 18 of circuit words, by the numbers and by the tables of the groups.
-use mathlib.Core.Path.{◌≡◌, refl, sym, ap, ap₂, ◌∙◌}
+use mathlib.Core.Path.{◌≡◌, sym, ap, ◌∙◌}
 use mathlib.Core.Bool.{Bool, true, false, ◌&&◌}
 use mathlib.Core.List.{List}
 use Prim.Native.Nat.{ℕ, ◌/◌}
 use native.Mathlib.Nat.{mul-div_cancel}
 use native.Mathlib.Omega.{arith}
-use lib.ListN.{length}
 use Rattle.lists.specs.Lists.{all_of, split, tabulate}
 use Rattle.backend.specs.Circuit.{Section, body_of, entries, pair_at, pairs_of, circuit_of, group_sizes, groups_of}
 use Rattle.backend.specs.Questions.{group_numbers_good, tables_alike, q18}

@@ -1,7 +1,6 @@
 use mathlib.Core.Path.{sym, ◌∙◌}
 use Rattle.backend.proofs.Sections.{laid}
-use Rattle.backend.proofs.Answers.{says_no, says_yes, no_1, no_2, no_3, no_4, no_3_bodies, no_4_bodies, no_none}
-use borrow.Author.Rules.{rules}
+use Rattle.backend.proofs.Answers.{no_1, no_2, no_3, no_4, no_3_bodies, no_4_bodies, no_none}
 use Rattle.backend_questions.proofs.layout_no.Goals as goal
 
 pub returns-then-not-question_1 : goal.returns-then-not-question_1

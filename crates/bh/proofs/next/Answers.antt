@@ -1,9 +1,8 @@
-use mathlib.Core.Path.{◌≡◌, ap, ◌∙◌, sym, subst, subst⁻¹}
+use mathlib.Core.Path.{ap, ◌∙◌, subst⁻¹}
 use Prim.Native.Nat.{ℕ, ◌*◌, ◌/◌, ◌%◌, ◌^◌, ◌<◌}
-use lib.Bits.{bit_xor, bit_and}
+use lib.Bits.{bit_xor}
 use mir.Syntax.{w64}
 use mir.Val.{Fits}
-use borrow.Author.Rules.{rules}
 use Rattle.bh.proofs.Words.{next_fits, next_code}
 use Rattle.bh.proofs.Order.{next_lt}
 use Rattle.bh.proofs.next.Goals as goal

@@ -1,9 +1,8 @@
-use mathlib.Core.Path.{◌≡◌, ap, ◌∙◌, sym, subst, subst⁻¹}
-use Prim.Native.Nat.{ℕ, ◌*◌, ◌/◌, ◌%◌, ◌^◌, ◌<◌}
+use mathlib.Core.Path.{ap, ◌∙◌, subst⁻¹}
+use Prim.Native.Nat.{ℕ, ◌*◌, ◌/◌, ◌^◌, ◌<◌}
 use lib.Bits.{bit_xor, bit_and}
 use mir.Syntax.{w64}
 use mir.Val.{Fits}
-use borrow.Author.Rules.{rules}
 use Rattle.bh.proofs.Words.{prev_fits, prev_code}
 use Rattle.bh.proofs.Order.{prev_lt}
 use Rattle.bh.proofs.prev.Goals as goal

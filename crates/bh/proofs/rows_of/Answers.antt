@@ -1,5 +1,4 @@
 -- `rows_of` meets its contract: the shift loses no bit.
-use borrow.Author.Rules.{rules}
 use native.Mathlib.Omega.{arith}
 use Rattle.bh.proofs.Words.{shifted}
 use Rattle.bh.proofs.rows_of.Goals as goal

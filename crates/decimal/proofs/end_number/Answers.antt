@@ -1,5 +1,5 @@
 -- `end_number`: the number begun is kept, or there is no room.
-use Rattle.std.proofs.Common.{rules, eq-eqb, ne_eqb}
+use Rattle.std.proofs.Common.{eq-eqb, ne_eqb}
 use Rattle.decimal.proofs.Steps.{full, keeps, none_begun}
 use Rattle.decimal.proofs.end_number.Goals as goal
 

@@ -1,6 +1,5 @@
 -- `read`: from the start, all bytes, the end.
 use Rattle.decimal.proofs.Steps.{read_whole}
-use Rattle.std.proofs.Common.{rules}
 use Rattle.decimal.proofs.read.Goals as goal
 
 pub returns : goal.returns

@@ -1,7 +1,7 @@
 -- `take_bytes`: the bytes from place i on are still to be taken.
-use Rattle.std.proofs.Common.{◌-◌, length, refl, arith, rules}
+use Rattle.std.proofs.Common.{refl, arith, rules}
 use borrow.Author.Tests.{not-true, not-false}
-use Rattle.decimal.proofs.Steps.{Come, come_more, come_halted, come_all}
+use Rattle.decimal.proofs.Steps.{come_more, come_halted, come_all}
 use Rattle.decimal.proofs.take_bytes.Goals as goal
 
 pub loop-i-init : goal.loop-i-init

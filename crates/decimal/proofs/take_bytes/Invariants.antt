@@ -1,6 +1,5 @@
-use Rattle.std.proofs.Common.{◌-◌, length, refl, arith, rules}
-use borrow.Author.Tests.{not-true, not-false}
-use Rattle.decimal.proofs.Steps.{Come, come_more, come_halted, come_all}
+use Rattle.std.proofs.Common.{◌-◌, length}
+use Rattle.decimal.proofs.Steps.{Come}
 use Rattle.decimal.proofs.take_bytes.Given as goal
 
 abbrev pub invariant-loop-i : goal.invariant-loop-i

@@ -1,5 +1,5 @@
 -- `take_digit`: the number grows, or passes 64 bits.
-use Rattle.std.proofs.Common.{◌≡◌, ◌+◌, ◌-◌, ◌*◌, ◌^◌, ◌≤◌, arith, rules}
+use Rattle.std.proofs.Common.{◌+◌, ◌-◌, ◌*◌, ◌^◌, ◌≤◌, arith}
 use Rattle.decimal.specs.Reading.{value_begun}
 use Rattle.decimal.proofs.Steps.{digit_bounds, large_takes, digit_takes}
 use Rattle.decimal.proofs.take_digit.Goals as goal

@@ -1,13 +1,8 @@
 -- The walk for the degree: each way through the code is the fold by `capOps`.
-use borrow.Author.Rules.{rules}
 use mathlib.Core.Path.{◌∙◌, ap, refl}
 use Rattle.expression.proofs.Ways as ways
 use Prim.Native.Nat.{max}
-use Rattle.expression.specs.Walks.{cap_sum, cap_ops}
-use Prim.Native.Nat.{ℕ, ◌+◌, ◌<◌}
-use Rattle.expression_degree.proofs.+chain_degree_items_degree_lower_degree_node_degree.{
-  statement,
-}
+use Rattle.expression.specs.Walks.{cap_ops}
 use Rattle.expression_degree.proofs.+chain_degree_items_degree_lower_degree_node_degree.Goals as goal
 
 pub chain_degree-returns-then-d-eq0 : goal.chain_degree-returns-then-d-eq0

@@ -1,12 +1,4 @@
-use borrow.Author.Rules.{rules}
-use mathlib.Core.Path.{◌∙◌, ap, refl}
-use Rattle.expression.proofs.Ways as ways
-use Prim.Native.Nat.{max}
-use Rattle.expression.specs.Walks.{cap_sum, cap_ops}
-use Prim.Native.Nat.{ℕ, ◌+◌, ◌<◌}
-use Rattle.expression_degree.proofs.+chain_degree_items_degree_lower_degree_node_degree.{
-  statement,
-}
+use Prim.Native.Nat.{◌+◌}
 use Rattle.expression_degree.proofs.+chain_degree_items_degree_lower_degree_node_degree.Given as goal
 
 abbrev pub decreases-chain_degree : goal.decreases-chain_degree

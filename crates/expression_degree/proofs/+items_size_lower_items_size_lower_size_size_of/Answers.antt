@@ -1,10 +1,5 @@
 -- The walk for the size: each way through the code is the size, capped.
-use borrow.Author.Rules.{rules}
 use Rattle.expression.proofs.Sizes.{size_lower, size_not_lower, listed_lower, listed_not_lower, listed_last, listed_more, size_negated, size_sum, size_product, size_scaled, size_powers, size_other}
-use Prim.Native.Nat.{ℕ, ◌+◌, ◌<◌}
-use Rattle.expression_degree.proofs.+items_size_lower_items_size_lower_size_size_of.{
-  statement,
-}
 use Rattle.expression_degree.proofs.+items_size_lower_items_size_lower_size_size_of.Goals as goal
 
 pub items_size-returns-then-d-eq0 : goal.items_size-returns-then-d-eq0

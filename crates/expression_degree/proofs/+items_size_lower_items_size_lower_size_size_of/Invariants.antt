@@ -1,9 +1,4 @@
-use borrow.Author.Rules.{rules}
-use Rattle.expression.proofs.Sizes.{size_lower, size_not_lower, listed_lower, listed_not_lower, listed_last, listed_more, size_negated, size_sum, size_product, size_scaled, size_powers, size_other}
-use Prim.Native.Nat.{ℕ, ◌+◌, ◌<◌}
-use Rattle.expression_degree.proofs.+items_size_lower_items_size_lower_size_size_of.{
-  statement,
-}
+use Prim.Native.Nat.{◌+◌}
 use Rattle.expression_degree.proofs.+items_size_lower_items_size_lower_size_size_of.Given as goal
 
 abbrev pub decreases-items_size : goal.decreases-items_size

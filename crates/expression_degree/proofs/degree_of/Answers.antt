@@ -1,4 +1,3 @@
-use borrow.Author.Rules.{rules}
 use mathlib.Core.Path.{◌∙◌}
 use Rattle.expression.proofs.Folds.{capped}
 use Rattle.expression_degree.proofs.degree_of.Goals as goal

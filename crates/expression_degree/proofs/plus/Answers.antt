@@ -1,6 +1,5 @@
 use native.Mathlib.Omega.{arith}
 use Rattle.expression.specs.Walks.{cap_sum}
-use borrow.Author.Rules.{rules}
 use Rattle.expression_degree.proofs.plus.Goals as goal
 
 pub returns-then-a-ge1025 : goal.returns-then-a-ge1025

@@ -1,12 +1,4 @@
-use borrow.Author.Rules.{rules}
-use mathlib.Core.Path.{◌∙◌, ap, refl}
-use Rattle.expression.proofs.Ways as ways
-use Rattle.field.specs.Field.{𝔾, el}
-use Rattle.expression.specs.Value.{value_ops}
-use Rattle.expression.specs.Point.{environment_of, poly_value, ops_of}
-use Rattle.expression.proofs.Leaves.{challenge_is}
-use Prim.Native.Nat.{ℕ, ◌+◌, ◌<◌}
-use Rattle.expression_evaluate.specs.Lent.{lent}
+use Prim.Native.Nat.{◌+◌}
 use Rattle.expression_evaluate.proofs.+chain_items_lower_node_value.Given as goal
 
 abbrev pub decreases-chain : goal.decreases-chain

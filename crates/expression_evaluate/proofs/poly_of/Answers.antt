@@ -5,7 +5,6 @@ use Rattle.expression.specs.Value.{poly_of}
 use Rattle.expression.specs.Reader.{polys_of}
 use Rattle.expression.proofs.Reader.{reads_instance, reads_preprocess, reads_witness, reads_permutation, reads_rest, reads_none}
 use Rattle.expression_evaluate.specs.Lent.{lent}
-use borrow.Author.Rules.{rules}
 use Rattle.expression_evaluate.proofs.poly_of.Goals as goal
 
 pub returns-then-at-instances : goal.returns-then-at-instances

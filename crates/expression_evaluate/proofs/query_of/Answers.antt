@@ -6,7 +6,6 @@ use Rattle.expression.specs.Reader.{polys_of, LayoutSmall}
 use Rattle.expression.specs.Point.{poly_value}
 use Rattle.expression.specs.declared.poly.Layout.{Layout}
 use Rattle.expression_evaluate.specs.Lent.{lent}
-use borrow.Author.Rules.{rules}
 use Rattle.expression_evaluate.proofs.query_of.Goals as goal
 
 pub poly_of-requires : goal.poly_of-requires

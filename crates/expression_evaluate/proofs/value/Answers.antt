@@ -1,5 +1,4 @@
 -- `value` meets its contract: the walk with the context of its layout and point.
-use borrow.Author.Rules.{rules}
 use mathlib.Core.Path.{ap, ◌∙◌, subst⁻¹}
 use mathlib.Core.List.{List}
 use Prim.Native.Nat.{ℕ}
@@ -10,11 +9,10 @@ use Rattle.expression.proofs.Context.{ready_context, at_context}
 use Rattle.expression_evaluate.proofs.value.Goals as goal
 
 pub node_value-requires : goal.node_value-requires
-node_value-requires c =
-    (
-      c.requires.0,
-      subst⁻¹ ContextReady c.context-c.ensures (ready_context c.args.layout c.args.point c.requires.1.0 c.requires.1.1),
-    )
+node_value-requires c = (
+  c.requires.0,
+  subst⁻¹ ContextReady c.context-c.ensures (ready_context c.args.layout c.args.point c.requires.1.0 c.requires.1.1),
+)
 
 pub returns : goal.returns
 returns c =

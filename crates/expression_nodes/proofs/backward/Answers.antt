@@ -1,5 +1,4 @@
 use Rattle.expression.proofs.Signed.{back_fits, back_is}
-use borrow.Author.Rules.{rules}
 use Rattle.expression_nodes.proofs.backward.Goals as goal
 
 pub overflow_sub-result : goal.overflow_sub-result

@@ -1,5 +1,4 @@
 use Rattle.expression.proofs.Signed.{on_is}
-use borrow.Author.Rules.{rules}
 use Rattle.expression_nodes.proofs.forward.Goals as goal
 
 pub returns : goal.returns

@@ -1,7 +1,6 @@
 use mathlib.Core.Path.{refl}
 use native.Mathlib.Nat.{mod-mod, mod-lt}
 use native.Mathlib.Omega.{arith}
-use borrow.Author.Rules.{rules}
 use Rattle.expression_nodes.proofs.mod_period.Goals as goal
 
 pub returns-then-d-n : goal.returns-then-d-n

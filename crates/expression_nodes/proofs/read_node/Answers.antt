@@ -1,6 +1,5 @@
 use Prim.Native.Nat.{◌*◌}
 use native.Mathlib.Nat.{add-zero}
-use borrow.Author.Rules.{rules}
 use Rattle.expression_nodes.proofs.read_node.Goals as goal
 
 pub returns : goal.returns

@@ -2,7 +2,6 @@ use mathlib.Core.Path.{◌≡◌, subst, subst⁻¹}
 use Prim.Native.Nat.{ℕ, ◌-◌, ◌%◌, ◌≤◌}
 use lib.Pow.{pow_pos}
 use Rattle.expression.proofs.Signed.{one_shifted, round_small, keeps_on, keeps_back, number_on, number_back}
-use borrow.Author.Rules.{rules}
 use Rattle.expression_nodes.proofs.rotation_of.Goals as goal
 
 pub overflow_sub-n : goal.overflow_sub-n

@@ -1,5 +1,4 @@
 -- The walk for a query: each way through the code is the fold by `usedOps`.
-use borrow.Author.Rules.{rules}
 use mathlib.Core.Path.{◌∙◌, ap, refl}
 use Rattle.expression.proofs.Ways as ways
 use mathlib.Core.Path.{sym}
@@ -8,7 +7,6 @@ use lib.Dec.{eqb}
 use Rattle.expression.specs.Queries.{query_of}
 use Rattle.expression.specs.Walks.{used_ops}
 use Rattle.expression.proofs.Signed.{signed_same}
-use Prim.Native.Nat.{ℕ, ◌+◌, ◌<◌}
 use Rattle.expression_query.proofs.+chain_uses_items_uses_lower_uses_node_uses.Goals as goal
 
 pub chain_uses-returns-then-d-eq0 : goal.chain_uses-returns-then-d-eq0

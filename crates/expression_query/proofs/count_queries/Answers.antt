@@ -1,13 +1,11 @@
-use borrow.Author.Rules.{rules}
 use mathlib.Core.Path.{◌≡◌, sym, ap, ◌∙◌}
-use mathlib.Core.Logic.{⊎_elim}
-use Prim.Native.Nat.{ℕ, ◌+◌, ◌-◌, ◌*◌, ◌/◌, ◌%◌, ◌≤◌}
+use Prim.Native.Nat.{ℕ, ◌+◌, ◌*◌}
 use native.Mathlib.Nat.{mod-lt}
 use native.Mathlib.Omega.{arith}
 use Rattle.lists.specs.Lists.{tabulate, count_of}
 use Rattle.expression.specs.Expr.{used_query}
 use Rattle.expression.specs.Nodes.{expr_of}
-use Rattle.expression.specs.Queries.{query_of, candidates, used_queries}
+use Rattle.expression.specs.Queries.{candidates, used_queries}
 use Rattle.expression.proofs.Folds.{used}
 use Rattle.expression.proofs.Queries.{candidate, end_small, count_start, count_yes, count_no}
 use Rattle.expression_query.proofs.count_queries.Goals as goal
@@ -41,7 +39,7 @@ loop-i-preserved c =
     let f = candidate a.k in
     let t = sym (used (f l.i) e) ∙ sym c.node_uses.ensures in
     elim c.if-node_uses.branch [
-      then-node_uses w ↦ (omega arith, omega arith, w.count-is ∙ count_yes p f l.count l.i (t ∙ w.if-node_uses.true) l.invariant.2)
+      | then-node_uses w ↦ (omega arith, omega arith, w.count-is ∙ count_yes p f l.count l.i (t ∙ w.if-node_uses.true) l.invariant.2)
       | else-node_uses w ↦ (omega arith, omega arith, w.count-is ∙ count_no p f l.count l.i (t ∙ w.if-node_uses.false) l.invariant.2)
     ]
 

@@ -1,15 +1,9 @@
-use borrow.Author.Rules.{rules}
-use mathlib.Core.Path.{◌≡◌, sym, ap, ◌∙◌}
-use mathlib.Core.Logic.{⊎_elim}
-use Prim.Native.Nat.{ℕ, ◌+◌, ◌-◌, ◌*◌, ◌/◌, ◌%◌, ◌≤◌}
-use native.Mathlib.Nat.{mod-lt}
-use native.Mathlib.Omega.{arith}
+use mathlib.Core.Path.{◌≡◌}
+use Prim.Native.Nat.{◌+◌, ◌-◌, ◌/◌, ◌%◌, ◌≤◌}
 use Rattle.lists.specs.Lists.{tabulate, count_of}
 use Rattle.expression.specs.Expr.{used_query}
 use Rattle.expression.specs.Nodes.{expr_of}
-use Rattle.expression.specs.Queries.{query_of, candidates, used_queries}
-use Rattle.expression.proofs.Folds.{used}
-use Rattle.expression.proofs.Queries.{candidate, end_small, count_start, count_yes, count_no}
+use Rattle.expression.specs.Queries.{query_of}
 use Rattle.expression_query.proofs.count_queries.Given as goal
 
 abbrev pub invariant-loop-i : goal.invariant-loop-i

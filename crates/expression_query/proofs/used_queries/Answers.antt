@@ -1,6 +1,4 @@
-use borrow.Author.Rules.{rules}
 use mathlib.Core.Path.{◌≡◌, refl, sym, ap, ◌∙◌}
-use mathlib.Core.Logic.{⊎_elim}
 use Prim.Native.Nat.{ℕ, ◌+◌, ◌-◌, ◌*◌, ◌/◌, ◌%◌, ◌≤◌, ◌<◌}
 use native.Mathlib.Nat.{mod-lt}
 use native.Mathlib.Omega.{arith}
@@ -8,9 +6,9 @@ use lib.ListN.{length, length-set}
 use Rattle.lists.specs.Lists.{tabulate, filter, write_at}
 use Rattle.expression.specs.Expr.{used_query}
 use Rattle.expression.specs.Nodes.{expr_of}
-use Rattle.expression.specs.Queries.{query_of, candidates, used_queries, query_words}
+use Rattle.expression.specs.Queries.{candidates, used_queries, query_words}
 use Rattle.expression.proofs.Folds.{used}
-use Rattle.expression.proofs.Queries.{candidate, end_small, Into, into_start, into_no, into_room, into_yes, into_all, into_none, into_keeps, room_is}
+use Rattle.expression.proofs.Queries.{candidate, end_small, into_start, into_no, into_room, into_yes, into_all, into_none, into_keeps, room_is}
 use Rattle.expression_query.proofs.used_queries.Goals as goal
 use Rattle.expression_query.proofs.used_queries.Goals.{then-node_uses, else-node_uses}
 
@@ -36,51 +34,67 @@ overflow_add-word c =
 
 pub offset_bounds-out-at : goal.offset_bounds-out-at
 unfolding used_queries candidates
-offset_bounds-out-at c = omega (arith, (let a = c.args in
-    let l = c.loop-i in
-    let e = expr_of a.ws.now a.n in
-    let f = candidate a.k in
-    into_room (used_query e) f a.out.now l.out l.i l.at (a.polys * (a.k + a.k + 1))
-    (sym (used (f l.i) e) ∙ sym c.node_uses.ensures ∙ c.if-node_uses.true)
-    l.invariant.2
-    c.loop-i-test.true
-    (room_is (used_queries e a.polys a.k) c.count_queries-count.result (length a.out.now) c.count_queries-count.ensures c.if-out-count.false)), c.loop-i.invariant.1)
+offset_bounds-out-at c = omega (
+  arith,
+  (let a = c.args in
+      let l = c.loop-i in
+      let e = expr_of a.ws.now a.n in
+      let f = candidate a.k in
+      into_room (used_query e) f a.out.now l.out l.i l.at (a.polys * (a.k + a.k + 1))
+      (sym (used (f l.i) e) ∙ sym c.node_uses.ensures ∙ c.if-node_uses.true)
+      l.invariant.2
+      c.loop-i-test.true
+      (room_is (used_queries e a.polys a.k) c.count_queries-count.result (length a.out.now) c.count_queries-count.ensures c.if-out-count.false)),
+  c.loop-i.invariant.1,
+)
 
 pub bounds-out-at : goal.bounds-out-at
 unfolding used_queries candidates
-bounds-out-at c = omega (arith, (let a = c.args in
-    let l = c.loop-i in
-    let e = expr_of a.ws.now a.n in
-    let f = candidate a.k in
-    into_room (used_query e) f a.out.now l.out l.i l.at (a.polys * (a.k + a.k + 1))
-    (sym (used (f l.i) e) ∙ sym c.node_uses.ensures ∙ c.if-node_uses.true)
-    l.invariant.2
-    c.loop-i-test.true
-    (room_is (used_queries e a.polys a.k) c.count_queries-count.result (length a.out.now) c.count_queries-count.ensures c.if-out-count.false)), c.loop-i.invariant.1)
+bounds-out-at c = omega (
+  arith,
+  (let a = c.args in
+      let l = c.loop-i in
+      let e = expr_of a.ws.now a.n in
+      let f = candidate a.k in
+      into_room (used_query e) f a.out.now l.out l.i l.at (a.polys * (a.k + a.k + 1))
+      (sym (used (f l.i) e) ∙ sym c.node_uses.ensures ∙ c.if-node_uses.true)
+      l.invariant.2
+      c.loop-i-test.true
+      (room_is (used_queries e a.polys a.k) c.count_queries-count.result (length a.out.now) c.count_queries-count.ensures c.if-out-count.false)),
+  c.loop-i.invariant.1,
+)
 
 pub overflow_add-out : goal.overflow_add-out
 unfolding used_queries candidates
-overflow_add-out c = omega (arith, (let a = c.args in
-    let l = c.loop-i in
-    let e = expr_of a.ws.now a.n in
-    let f = candidate a.k in
-    into_room (used_query e) f a.out.now l.out l.i l.at (a.polys * (a.k + a.k + 1))
-    (sym (used (f l.i) e) ∙ sym c.node_uses.ensures ∙ c.if-node_uses.true)
-    l.invariant.2
-    c.loop-i-test.true
-    (room_is (used_queries e a.polys a.k) c.count_queries-count.result (length a.out.now) c.count_queries-count.ensures c.if-out-count.false)), c.loop-i.invariant.1)
+overflow_add-out c = omega (
+  arith,
+  (let a = c.args in
+      let l = c.loop-i in
+      let e = expr_of a.ws.now a.n in
+      let f = candidate a.k in
+      into_room (used_query e) f a.out.now l.out l.i l.at (a.polys * (a.k + a.k + 1))
+      (sym (used (f l.i) e) ∙ sym c.node_uses.ensures ∙ c.if-node_uses.true)
+      l.invariant.2
+      c.loop-i-test.true
+      (room_is (used_queries e a.polys a.k) c.count_queries-count.result (length a.out.now) c.count_queries-count.ensures c.if-out-count.false)),
+  c.loop-i.invariant.1,
+)
 
 pub offset_bounds-out-at-then-node_uses : goal.offset_bounds-out-at-then-node_uses
 unfolding used_queries candidates
-offset_bounds-out-at-then-node_uses c = omega (arith, (let a = c.args in
-    let l = c.loop-i in
-    let e = expr_of a.ws.now a.n in
-    let f = candidate a.k in
-    into_room (used_query e) f a.out.now l.out l.i l.at (a.polys * (a.k + a.k + 1))
-    (sym (used (f l.i) e) ∙ sym c.node_uses.ensures ∙ c.if-node_uses.true)
-    l.invariant.2
-    c.loop-i-test.true
-    (room_is (used_queries e a.polys a.k) c.count_queries-count.result (length a.out.now) c.count_queries-count.ensures c.if-out-count.false)), c.loop-i.invariant.1)
+offset_bounds-out-at-then-node_uses c = omega (
+  arith,
+  (let a = c.args in
+      let l = c.loop-i in
+      let e = expr_of a.ws.now a.n in
+      let f = candidate a.k in
+      into_room (used_query e) f a.out.now l.out l.i l.at (a.polys * (a.k + a.k + 1))
+      (sym (used (f l.i) e) ∙ sym c.node_uses.ensures ∙ c.if-node_uses.true)
+      l.invariant.2
+      c.loop-i-test.true
+      (room_is (used_queries e a.polys a.k) c.count_queries-count.result (length a.out.now) c.count_queries-count.ensures c.if-out-count.false)),
+  c.loop-i.invariant.1,
+)
 
 pub bounds-out-at-then-node_uses : goal.bounds-out-at-then-node_uses
 unfolding used_queries candidates
@@ -96,15 +110,19 @@ bounds-out-at-then-node_uses c = simp length-set (let a = c.args in
 
 pub overflow_add-at : goal.overflow_add-at
 unfolding used_queries candidates
-overflow_add-at c = omega (arith, (let a = c.args in
-    let l = c.loop-i in
-    let e = expr_of a.ws.now a.n in
-    let f = candidate a.k in
-    into_room (used_query e) f a.out.now l.out l.i l.at (a.polys * (a.k + a.k + 1))
-    (sym (used (f l.i) e) ∙ sym c.node_uses.ensures ∙ c.if-node_uses.true)
-    l.invariant.2
-    c.loop-i-test.true
-    (room_is (used_queries e a.polys a.k) c.count_queries-count.result (length a.out.now) c.count_queries-count.ensures c.if-out-count.false)), c.loop-i.invariant.1)
+overflow_add-at c = omega (
+  arith,
+  (let a = c.args in
+      let l = c.loop-i in
+      let e = expr_of a.ws.now a.n in
+      let f = candidate a.k in
+      into_room (used_query e) f a.out.now l.out l.i l.at (a.polys * (a.k + a.k + 1))
+      (sym (used (f l.i) e) ∙ sym c.node_uses.ensures ∙ c.if-node_uses.true)
+      l.invariant.2
+      c.loop-i-test.true
+      (room_is (used_queries e a.polys a.k) c.count_queries-count.result (length a.out.now) c.count_queries-count.ensures c.if-out-count.false)),
+  c.loop-i.invariant.1,
+)
 
 pub overflow_add-i : goal.overflow_add-i
 overflow_add-i c = omega (arith, end_small c.args.polys c.args.k c.requires.1.0 c.requires.1.1)
@@ -121,12 +139,12 @@ loop-i-preserved c =
     let m = a.polys * (a.k + a.k + 1) in
     let r = room_is (used_queries e a.polys a.k) c.count_queries-count.result (length a.out.now) c.count_queries-count.ensures c.if-out-count.false in
     elim c.if-node_uses.branch [
-      then-node_uses w ↦
-    let y = into_yes p f a.out.now l.out l.i l.at m (t ∙ w.if-node_uses.true) l.invariant.2 c.loop-i-test.true r (l.i / (a.k + a.k + 1)) (2147483648 - a.k + l.i % (a.k + a.k + 1)) refl in
-    (omega arith, ap length w.out-is ∙ into_keeps a.out.now l.out l.at _ _ l.invariant.1, (w.out-is ∙ y.0, w.at-is ∙ y.1))
+      | then-node_uses w ↦
+          let y = into_yes p f a.out.now l.out l.i l.at m (t ∙ w.if-node_uses.true) l.invariant.2 c.loop-i-test.true r (l.i / (a.k + a.k + 1)) (2147483648 - a.k + l.i % (a.k + a.k + 1)) refl in
+          (omega arith, ap length w.out-is ∙ into_keeps a.out.now l.out l.at _ _ l.invariant.1, (w.out-is ∙ y.0, w.at-is ∙ y.1))
       | else-node_uses w ↦
-    let y = into_no p f a.out.now l.out l.i l.at (t ∙ w.if-node_uses.false) l.invariant.2 in
-    (omega arith, ap length w.out-is ∙ l.invariant.1, (w.out-is ∙ y.0, w.at-is ∙ y.1))
+          let y = into_no p f a.out.now l.out l.i l.at (t ∙ w.if-node_uses.false) l.invariant.2 in
+          (omega arith, ap length w.out-is ∙ l.invariant.1, (w.out-is ∙ y.0, w.at-is ∙ y.1))
     ]
 
 pub shape_of-out : goal.shape_of-out

@@ -1,11 +1,9 @@
 -- The walk by two places at once: each way through the code is `sameExpr` and `sameExprs`.
 use borrow.Author.Rules.{rules}
-use borrow.Author.Tests.{not-true, not-false}
 use native.Mathlib.Omega.{arith}
 use Rattle.expression.specs.Nodes.{expr_of, items_of, no_expr, no_exprs}
 use Rattle.expression.specs.Same.{same_expr, same_exprs}
 use Rattle.expression_same.proofs.Ways.{kind_placed, value_placed, same_apart, same_leaf, same_negated, same_scaled, same_sum, same_product, same_powers, chain_last, chain_shorter, chain_longer, chain_more, lower_same}
-use Prim.Native.Nat.{ℕ, ◌+◌, ◌-◌, ◌*◌, ◌<◌}
 use Rattle.expression_same.proofs.+lower_items_same_at_same_items_same_lower.Goals as goal
 
 pub lower_items-returns : goal.lower_items-returns

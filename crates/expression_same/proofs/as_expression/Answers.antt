@@ -1,4 +1,3 @@
-use borrow.Author.Rules.{rules}
 use native.Mathlib.Omega.{arith}
 use Rattle.expression.specs.Nodes.{node_of, kind_of}
 use Rattle.expression_same.specs.Places.{alone}

@@ -1,4 +1,3 @@
-use borrow.Author.Rules.{rules}
 use native.Mathlib.Omega.{arith}
 use Rattle.expression_same.proofs.Ways.{place_low, place_none}
 use Rattle.expression_same.proofs.place.Goals as goal

@@ -1,5 +1,4 @@
 -- Each kind's words compared: the nodes, as expressions', are the same by what they keep.
-use borrow.Author.Rules.{rules}
 use Rattle.expression_same.proofs.Ways.{top_apart, top_identity, top_poly, top_challenge, top_negated, top_sum, top_product, top_powers, top_value}
 use Rattle.expression_same.proofs.same_top.Goals as goal
 

@@ -1,4 +1,3 @@
-use borrow.Author.Rules.{rules}
 use mathlib.Core.Path.{◌∙◌, ap₂}
 use Rattle.expression.specs.Nodes.{expr_of, no_expr}
 use Rattle.expression.specs.Same.{same_expr}

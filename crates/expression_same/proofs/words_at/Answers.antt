@@ -1,4 +1,3 @@
-use borrow.Author.Rules.{rules}
 use mathlib.Core.Path.{◌∙◌}
 use Rattle.expression.specs.Read.{node_at}
 use Rattle.expression_same.specs.Places.{no_node}

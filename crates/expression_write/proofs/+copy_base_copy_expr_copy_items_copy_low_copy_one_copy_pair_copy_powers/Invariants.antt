@@ -1,15 +1,7 @@
-use borrow.Author.Rules.{rules}
-use mathlib.Core.Path.{◌≡◌, refl, sym, ap, ◌∙◌}
-use Prim.Native.Nat.{ℕ, ◌+◌, ◌*◌, ◌≤◌, ◌<◌}
-use native.Mathlib.Omega.{arith}
+use Prim.Native.Nat.{◌+◌, ◌*◌}
 use Rattle.expression.specs.Nodes.{expr_of}
 use Rattle.expression.specs.Flat.{size, sizes, extra}
 use Rattle.expression.proofs.Step.{low, low_items}
-use Rattle.expression.proofs.Written as written
-use Rattle.expression.proofs.Copied as law
-use Rattle.expression_write.proofs.+copy_base_copy_expr_copy_items_copy_low_copy_one_copy_pair_copy_powers.{
-  statement,
-}
 use Rattle.expression_write.proofs.+copy_base_copy_expr_copy_items_copy_low_copy_one_copy_pair_copy_powers.Given as goal
 
 abbrev pub decreases-copy_base : goal.decreases-copy_base

@@ -1,4 +1,3 @@
-use borrow.Author.Rules.{rules}
 use Rattle.expression.proofs.Written.{pushed}
 use Rattle.expression_write.proofs.push.Goals as goal
 

@@ -1,9 +1,7 @@
 -- `build_and_sum` meets its contracts: what it returns and leaves is that of its definition, and demand 3 holds of it.
-use mathlib.Core.Logic.{⊎_elim}
 use Prim.Native.Nat.{◌-◌}
 use native.Mathlib.Omega.{arith}
 use lib.ListN.{take}
-use borrow.Author.Rules.{rules}
 use Rattle.hyperplonk_spec.specs.Build.{Output}
 use Rattle.completeness.proofs.Called.{built_is, room, refused_left, summed_code}
 use Rattle.completeness.proofs.Whole.{both}

@@ -1,10 +1,8 @@
 -- `build` meets its contract: the first no gives its number, and demand 3 holds of what is returned and left.
-use mathlib.Core.Path.{◌≡◌, refl, sym, ◌∙◌}
+use mathlib.Core.Path.{◌≡◌, sym, ◌∙◌}
 use mathlib.Core.List.{List}
 use Prim.Native.Nat.{ℕ}
 use native.Mathlib.Omega.{arith}
-use borrow.Author.Rules.{rules}
-use Rattle.backend.proofs.Answers.{says_no, says_yes}
 use Rattle.hyperplonk_spec.specs.Build.{Output, build_of, lent_build}
 use Rattle.hyperplonk_spec.specs.Demand.{DemandThreeAt}
 use Rattle.completeness.proofs.DemandThree.{demand_three_at}

@@ -1,7 +1,6 @@
 -- `build_checked` meets its contract.
 use mathlib.Core.Path.{ap}
 use native.Mathlib.Omega.{arith}
-use borrow.Author.Rules.{rules}
 use Rattle.preprocessor.specs.Compose.{params_of}
 use Rattle.preprocessor.specs.declared.CircuitParams.{CircuitParams}
 use Rattle.hyperplonk_build.proofs.Built.{columns_room, nodes_room, is_refused, is_made}

@@ -2,8 +2,6 @@
 use mathlib.Core.Path.{◌≡◌, refl, sym, ◌∙◌}
 use Prim.Native.Nat.{ℕ}
 use native.Mathlib.Omega.{arith}
-use borrow.Author.Rules.{rules}
-use Rattle.backend.proofs.Answers.{says_no, says_yes}
 use Rattle.hyperplonk_prepare.proofs.Asked.{no_14, no_none}
 use Rattle.hyperplonk_prepare.proofs.Computed.{prepared}
 use Rattle.hyperplonk_build.proofs.Built.{refuses, checked, count_is}

@@ -1,6 +1,5 @@
 -- `columns_after_m` meets its contract: h of all groups first, and z where no denominator of theirs is zero.
-use borrow.Author.Rules.{rules}
-use mathlib.Core.Path.{◌≡◌, sym, ◌∙◌, refl}
+use mathlib.Core.Path.{sym, ◌∙◌, refl}
 use native.Mathlib.Omega.{arith}
 use lib.ListN.{length}
 use Rattle.hyperplonk_columns.proofs.Accepted.{user_few, user_is, hs_asked, hs_answer, hs_written, hs_behind, h_stopped, z_asked, z_decides}

@@ -1,6 +1,4 @@
 -- `write_columns` meets its contract: question 15 by the counts, question 17 by h and z.
-use borrow.Author.Rules.{rules}
-use borrow.Author.Tests.{not-true, not-false}
 use mathlib.Core.Path.{sym, ◌∙◌}
 use native.Mathlib.Omega.{arith}
 use lib.ListN.{length}
@@ -77,12 +75,11 @@ returns-then-not-covered c =
     c.clear.ensures
 
 pub columns_after_m-last-requires : goal.columns_after_m-last-requires
-columns_after_m-last-requires c =
-    (
-      c.requires.0,
-      exact_challenges _ c.args.instance.now c.args.witness.now c.args.challenges.now c.requires.1,
-      omega (arith, c.requires.2, c.lookup_m_polys-covered.auto.columns, c.columns_before_m.auto.columns),
-    )
+columns_after_m-last-requires c = (
+  c.requires.0,
+  exact_challenges _ c.args.instance.now c.args.witness.now c.args.challenges.now c.requires.1,
+  omega (arith, c.requires.2, c.lookup_m_polys-covered.auto.columns, c.columns_before_m.auto.columns),
+)
 
 pub clear-requires-in-ZeroDenominator : goal.clear-requires-in-ZeroDenominator
 clear-requires-in-ZeroDenominator c =

@@ -1,5 +1,4 @@
 -- `compose_nodes` meets its contract.
-use borrow.Author.Rules.{rules}
 use Rattle.hyperplonk_prepare.proofs.Accepted.{laid_of}
 use Rattle.hyperplonk_nodes.proofs.ComposeInput.{asked, decoded_from}
 use Rattle.hyperplonk_nodes.proofs.compose_nodes.Goals as goal

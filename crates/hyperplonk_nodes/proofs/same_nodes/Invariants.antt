@@ -1,13 +1,8 @@
-use mathlib.Core.Path.{◌≡◌, refl, sym, ap, ◌∙◌}
+use mathlib.Core.Path.{◌≡◌}
 use Prim.Native.Nat.{◌-◌, ◌≤◌}
-use native.Mathlib.Omega.{arith}
 use lib.ListN.{length, take}
-use borrow.Author.Tests.{not-true, not-false}
-use Rattle.lists.proofs.Same.{run_differs, same_all}
 use Rattle.backend.specs.Circuit.{circuit_of}
 use Rattle.preprocessor.specs.Compose.{composed_words}
-use Rattle.preprocessor.proofs.Composed.{composed_length}
-use Rattle.hyperplonk_nodes.proofs.Compared.{up_to}
 use Rattle.hyperplonk_nodes.proofs.same_nodes.Given as goal
 
 abbrev pub invariant-loop-at : goal.invariant-loop-at

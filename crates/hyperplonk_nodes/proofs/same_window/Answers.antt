@@ -1,7 +1,6 @@
 use Prim.Native.Nat.{◌-◌}
 use native.Mathlib.Omega.{arith}
 use Rattle.hyperplonk_nodes.proofs.Compared.{compared}
-use borrow.Author.Rules.{rules}
 use Rattle.hyperplonk_nodes.proofs.same_window.Goals as goal
 
 pub returns : goal.returns

@@ -1,7 +1,5 @@
-use mathlib.Core.Path.{◌≡◌, refl, sym}
-use Prim.Native.Nat.{◌-◌, ◌≤◌}
+use mathlib.Core.Path.{refl, sym}
 use native.Mathlib.Omega.{arith}
-use lib.ListN.{length, take}
 use Rattle.lists.proofs.Same.{same_next, same_all, differ_at}
 use Rattle.hyperplonk_nodes.proofs.same_words.Goals as goal
 

@@ -1,7 +1,6 @@
 use native.Mathlib.Omega.{arith}
 use Rattle.hyperplonk_prepare.proofs.Accepted.{laid_counted, laid_of, two_degree, degree_most, few_copied}
 use Rattle.hyperplonk_prepare.proofs.Computed.{lookups_are, params_from}
-use borrow.Author.Rules.{rules}
 use Rattle.hyperplonk_prepare.proofs.circuit_params.Goals as goal
 
 pub nonzero_div-parts : goal.nonzero_div-parts

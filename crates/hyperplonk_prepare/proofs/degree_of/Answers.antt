@@ -1,5 +1,4 @@
 -- `degree_of` meets its contract.
-use borrow.Author.Rules.{rules}
 use Rattle.hyperplonk_prepare.proofs.Accepted.{laid_of, counted_of, answers}
 use Rattle.hyperplonk_prepare.proofs.Computed.{degrees_fit_is, degree_from}
 use Rattle.hyperplonk_prepare.proofs.degree_of.Goals as goal

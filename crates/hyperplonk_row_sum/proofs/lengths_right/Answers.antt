@@ -1,7 +1,6 @@
 -- `lengths_right` meets its contract.
 use native.Mathlib.Omega.{arith}
 use Rattle.hyperplonk_row_sum.proofs.Sixteen.{numbers_few, words_fit, lengths_are}
-use borrow.Author.Rules.{rules}
 use Rattle.hyperplonk_row_sum.proofs.lengths_right.Goals as goal
 
 pub overflow_mul-result : goal.overflow_mul-result

@@ -1,7 +1,6 @@
 -- `question_16` meets its contract: node words of another length are not those that building writes.
 use Rattle.backend.specs.Circuit.{circuit_of}
 use Rattle.hyperplonk_row_sum.proofs.Sixteen.{lengths_no, nodes_no, rest_is, nodes_many}
-use borrow.Author.Rules.{rules}
 use Rattle.hyperplonk_row_sum.proofs.question_16.Goals as goal
 
 pub returns-then-not-lengths_right : goal.returns-then-not-lengths_right

@@ -1,5 +1,4 @@
 -- `row_sum` meets its contracts: the answer is that of its definition, and so is what demand 3 says of it.
-use borrow.Author.Rules.{rules}
 use Rattle.hyperplonk_row_sum.proofs.Answer.{refused_early}
 use Rattle.hyperplonk_row_sum.proofs.RowSumClaim.{both}
 use Rattle.hyperplonk_row_sum.proofs.row_sum.Goals as goal

@@ -1,5 +1,4 @@
 -- `sum_named` meets its contract.
-use borrow.Author.Rules.{rules}
 use native.Mathlib.Omega.{arith}
 use Rattle.hyperplonk_prepare.proofs.Computed.{prepared}
 use Rattle.hyperplonk_row_sum.proofs.Answer.{count_is}

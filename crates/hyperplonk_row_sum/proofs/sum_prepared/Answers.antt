@@ -2,7 +2,6 @@
 use mathlib.Core.Path.{ap, ◌∙◌}
 use Rattle.field.specs.Field.{val}
 use Rattle.hyperplonk_row_sum.proofs.Answer.{refused_late, summable, answered}
-use borrow.Author.Rules.{rules}
 use Rattle.hyperplonk_row_sum.proofs.sum_prepared.Goals as goal
 
 pub returns-then-not-question_16 : goal.returns-then-not-question_16

@@ -1,18 +1,9 @@
 -- `sum_rows` meets its contract: after t turns the sum is that over the first t rows of the order.
-use borrow.Author.Rules.{rules}
-use mathlib.Core.Path.{◌≡◌, refl, sym, ◌∙◌}
-use Prim.Native.Nat.{◌-◌, ◌^◌, ◌≤◌, ◌<◌}
+use mathlib.Core.Path.{refl, sym, ◌∙◌}
+use Prim.Native.Nat.{◌^◌, ◌<◌}
 use native.Mathlib.Omega.{arith}
-use Rattle.field.specs.Field.{𝔾}
-use Rattle.field.specs.Element.{elem}
-use Rattle.bh.specs.Rows.{row_at}
 use Rattle.bh.proofs.Order.{row_zero}
-use Rattle.expression.specs.Nodes.{expr_of}
-use Rattle.expression.specs.Value.{value_at}
-use Rattle.backend.specs.Circuit.{circuit_of}
-use Rattle.preprocessor.specs.Compose.{composed_nodes}
-use Rattle.hyperplonk_spec.specs.RowSum.{row_sum_environment}
-use Rattle.hyperplonk_row_sum.proofs.Rows.{Added, added_none, added_more}
+use Rattle.hyperplonk_row_sum.proofs.Rows.{added_none, added_more}
 use Rattle.hyperplonk_row_sum.proofs.Summed.{k_low, k_high, values_there, root_there, root_node, layout_small, placed, value_is, sum_is}
 use Rattle.hyperplonk_row_sum.proofs.sum_rows.Goals as goal
 

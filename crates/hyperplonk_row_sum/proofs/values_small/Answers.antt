@@ -1,6 +1,5 @@
 -- `values_small` meets its contract.
 use Rattle.hyperplonk_row_sum.proofs.Sixteen.{small_all}
-use borrow.Author.Rules.{rules}
 use Rattle.hyperplonk_row_sum.proofs.values_small.Goals as goal
 
 pub returns : goal.returns

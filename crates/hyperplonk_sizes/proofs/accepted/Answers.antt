@@ -1,7 +1,6 @@
 -- `accepted` meets its contract.
 use mathlib.Core.Path.{◌≡◌, refl}
 use Prim.Native.Nat.{ℕ}
-use borrow.Author.Rules.{rules}
 use Rattle.hyperplonk_spec.specs.declared.Sizes.{Sizes}
 use Rattle.hyperplonk_sizes.proofs.accepted.Goals as goal
 

@@ -2,7 +2,6 @@
 use mathlib.Core.Path.{◌≡◌, sym, ◌∙◌}
 use mathlib.Core.List.{List}
 use Prim.Native.Nat.{ℕ}
-use borrow.Author.Rules.{rules}
 use Rattle.hyperplonk_spec.specs.Sizes.{sizes_of, Foretells}
 use Rattle.hyperplonk_spec.specs.declared.Sizes.{Sizes}
 use Rattle.hyperplonk_prepare.proofs.Foretold.{sizes_yes, sizes_refused, foretold}

@@ -1,13 +1,6 @@
-use mathlib.Core.Path.{◌≡◌, refl, ◌∙◌, sym}
-use mathlib.Core.Bool.{true}
+use mathlib.Core.Path.{refl, ◌∙◌, sym}
 use native.Mathlib.Omega.{arith}
-use lib.Dec.{eqb}
-use lib.ListN.{length}
-use borrow.Author.Rules.{rules}
 use borrow.Author.Tests.{eq-eqb, ne_eqb}
-use Rattle.lists.specs.Lists.{all_of}
-use Rattle.backend.specs.Questions.{good_k, small}
-use Rattle.backend.proofs.Answers.{says_no, says_yes}
 use Rattle.hyperplonk_spec.specs.Stages.{eq_of}
 use Rattle.hyperplonk_stages.proofs.Answers.{no_2, no_12, no_13, no_14, all_yes, k_le, column_done}
 use Rattle.hyperplonk_stages.proofs.eq_xy.Goals as goal
@@ -35,12 +28,11 @@ returns-then-out-rows_of c =
     no_14 _ _ _ _ _ ((sym c.good_k.ensures ∙ c.if-not-good_k.false)) ((eq-eqb _ _ c.if-y-size.false)) ((sym c.all_elements.ensures.below ∙ c.if-not-all_elements.false)) (omega (arith, c.if-out-rows_of.true, c.rows_of.ensures))
 
 pub eq_xy-requires : goal.eq_xy-requires
-eq_xy-requires c =
-    (
-      omega (arith, k_le c.args.k ((sym c.good_k.ensures ∙ c.if-not-good_k.false))),
-      omega (arith, c.if-y-size.false),
-      omega (arith, c.if-out-rows_of.false, c.rows_of.ensures),
-    )
+eq_xy-requires c = (
+  omega (arith, k_le c.args.k ((sym c.good_k.ensures ∙ c.if-not-good_k.false))),
+  omega (arith, c.if-y-size.false),
+  omega (arith, c.if-out-rows_of.false, c.rows_of.ensures),
+)
 
 pub returns : goal.returns
 unfolding eq_of

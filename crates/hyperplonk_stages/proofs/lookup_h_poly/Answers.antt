@@ -1,14 +1,8 @@
-use mathlib.Core.Path.{◌≡◌, ap, ◌∙◌, sym}
-use mathlib.Core.Bool.{true, ◌&&◌}
-use mathlib.Core.List.{[], ◌∷◌, ◌++◌}
+use mathlib.Core.Path.{ap, ◌∙◌, sym}
 use Prim.Native.Nat.{◌^◌}
 use native.Mathlib.Omega.{arith}
-use borrow.Author.Rules.{rules}
 use Rattle.field.specs.Field.{𝔾}
-use Rattle.lists.specs.Lists.{all_of}
-use Rattle.backend.specs.Questions.{good_k, small}
-use Rattle.backend.proofs.Answers.{says_no, says_yes}
-use Rattle.hyperplonk_spec.specs.Stages.{fits, h_of}
+use Rattle.hyperplonk_spec.specs.Stages.{h_of}
 use Rattle.hyperplonk_stages.proofs.Answers.{no_2, no_12, no_13, no_14, all_yes, k_le, three_exact, three_small, three_columns, divided, h_done}
 use Rattle.hyperplonk_stages.proofs.lookup_h_poly.Goals as goal
 

@@ -1,12 +1,8 @@
 use mathlib.Core.Path.{◌≡◌, ◌∙◌, sym}
 use mathlib.Core.Bool.{true, ◌&&◌}
-use mathlib.Core.List.{◌++◌}
 use native.Mathlib.Omega.{arith}
-use borrow.Author.Rules.{rules}
-use Rattle.lists.specs.Lists.{all_of}
-use Rattle.backend.specs.Questions.{good_k, small}
 use Rattle.backend.proofs.Answers.{says_no, says_yes}
-use Rattle.hyperplonk_spec.specs.Stages.{fits, m_of}
+use Rattle.hyperplonk_spec.specs.Stages.{m_of}
 use Rattle.hyperplonk_stages.proofs.Answers.{no_2, no_12, no_13, no_14, all_yes, k_le, two_exact, two_small, two_columns, counted, uncovered}
 use Rattle.hyperplonk_stages.proofs.lookup_m_poly.Goals as goal
 

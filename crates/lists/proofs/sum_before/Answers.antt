@@ -1,6 +1,5 @@
-use borrow.Author.Rules.{rules}
 use mathlib.Core.Path.{◌≡◌, refl, sym, ap, ◌∙◌}
-use Prim.Native.Nat.{ℕ, suc, ◌-◌, ◌≤◌}
+use Prim.Native.Nat.{ℕ}
 use native.Mathlib.Omega.{arith}
 use lib.ListN.{take}
 use Rattle.lists.specs.Lists.{total}
@@ -11,7 +10,6 @@ use Rattle.lists.proofs.sum_before.Goals as goal
 pub loop-i-init : goal.loop-i-init
 loop-i-init c = (omega arith, sym (total_none c.args.words.now))
 
-
 pub overflow_add-sum : goal.overflow_add-sum
 overflow_add-sum c =
     let loop = c.loop-i in
@@ -20,12 +18,10 @@ overflow_add-sum c =
     let s = loop.invariant.1 in
     omega arith
 
-
 pub loop-i-preserved : goal.loop-i-preserved
 loop-i-preserved c =
     let loop = c.loop-i in
     (omega arith, total_step c.args.words.now loop.i loop.sum _ (omega arith) loop.invariant.1 refl)
-
 
 pub returns : goal.returns
 returns c =

@@ -1,11 +1,7 @@
-use borrow.Author.Rules.{rules}
-use mathlib.Core.Path.{◌≡◌, refl, sym, ap, ◌∙◌}
-use Prim.Native.Nat.{ℕ, suc, ◌-◌, ◌≤◌}
-use native.Mathlib.Omega.{arith}
+use mathlib.Core.Path.{◌≡◌}
+use Prim.Native.Nat.{◌-◌, ◌≤◌}
 use lib.ListN.{take}
 use Rattle.lists.specs.Lists.{total}
-use Rattle.lists.proofs.Parts.{total_within}
-use Rattle.lists.proofs.Runs.{total_none, total_step}
 use Rattle.lists.proofs.sum_before.Given as goal
 
 abbrev pub invariant-loop-i : goal.invariant-loop-i

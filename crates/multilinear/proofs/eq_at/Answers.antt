@@ -1,8 +1,6 @@
 -- `eq_at` meets its contract: the product over the bits passed, and the bits left.
-use borrow.Author.Rules.{rules}
 use mathlib.Core.Path.{◌≡◌, ap, ◌∙◌}
-use mathlib.Core.Logic.{⊎_elim}
-use Prim.Native.Nat.{ℕ, ◌-◌, ◌/◌, ◌^◌, ◌≤◌}
+use Prim.Native.Nat.{ℕ}
 use native.Mathlib.Omega.{arith}
 use Rattle.field.specs.Field.{𝔾, el_one}
 use Rattle.field.specs.Element.{elem}
@@ -24,7 +22,7 @@ loop-i-preserved c =
       half s.y.now s.b l.left l.i l.invariant.1,
       c.mul-acc.ensures
           ∙ (elim c.if-left-eq1.branch [
-            then-left-eq1 w ↦ ap times (ap elem w.f-is) ∙ row_set s.y.now s.b l.left l.i _ _ l.invariant.1 l.invariant.2 v.ensures w.if-left-eq1.true
+            | then-left-eq1 w ↦ ap times (ap elem w.f-is) ∙ row_set s.y.now s.b l.left l.i _ _ l.invariant.1 l.invariant.2 v.ensures w.if-left-eq1.true
             | else-left-eq1 w ↦ ap times (ap elem w.f-is ∙ other.ensures)
                 ∙ row_unset s.y.now s.b l.left l.i _ _ l.invariant.1 l.invariant.2 v.ensures w.if-left-eq1.false _ el_one
           ]),

@@ -1,11 +1,7 @@
-use borrow.Author.Rules.{rules}
-use mathlib.Core.Path.{◌≡◌, ap, ◌∙◌}
-use mathlib.Core.Logic.{⊎_elim}
-use Prim.Native.Nat.{ℕ, ◌-◌, ◌/◌, ◌^◌, ◌≤◌}
-use native.Mathlib.Omega.{arith}
-use Rattle.field.specs.Field.{𝔾, el_one}
+use mathlib.Core.Path.{◌≡◌}
+use Prim.Native.Nat.{◌-◌, ◌/◌, ◌^◌, ◌≤◌}
 use Rattle.field.specs.Element.{elem}
-use Rattle.multilinear.proofs.Rows.{row, row_start, half, row_set, row_unset}
+use Rattle.multilinear.proofs.Rows.{row}
 use Rattle.multilinear.proofs.eq_at.Given as goal
 
 abbrev pub invariant-loop-i : goal.invariant-loop-i

@@ -1,18 +1,15 @@
 -- `eq_xy` meets its contract: after i turns the first 2^i words are the table of the first i values.
-use borrow.Author.Rules.{rules}
 use mathlib.Core.Path.{◌≡◌, refl, sym, ap, ◌∙◌}
 use mathlib.Core.List.{List}
-use Prim.Native.Nat.{ℕ, suc, ◌+◌, ◌-◌, ◌*◌, ◌^◌, ◌≤◌, ◌<◌}
+use Prim.Native.Nat.{ℕ, suc, ◌+◌, ◌*◌, ◌^◌, ◌≤◌, ◌<◌}
 use native.Mathlib.Nat.{pow-suc}
 use native.Mathlib.Numerals.{add-one}
 use native.Mathlib.Omega.{arith}
 use lib.ListN.{length, set, length-set}
 use lib.Pow.{pow_mono, pow_pos}
-use Rattle.field.specs.Field.{el, val, el_one}
-use Rattle.field.specs.Element.{elem}
+use Rattle.field.specs.Field.{el_one}
 use Rattle.lists.specs.Lists.{tabulate, write_at}
-use Rattle.multilinear.proofs.Rows.{points}
-use Rattle.multilinear.proofs.Doubling.{word, Doubled, double_start, double_more, double_end, table_start}
+use Rattle.multilinear.proofs.Doubling.{word, double_start, double_more, double_end, table_start}
 use Rattle.multilinear.proofs.eq_xy.Goals as goal
 
 room : (i k n : ℕ) → i < k → 2 ^ k ≤ n → 2 ^ i + 2 ^ i ≤ n

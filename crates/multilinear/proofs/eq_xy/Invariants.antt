@@ -1,17 +1,12 @@
-use borrow.Author.Rules.{rules}
-use mathlib.Core.Path.{◌≡◌, refl, sym, ap, ◌∙◌}
+use mathlib.Core.Path.{◌≡◌}
 use mathlib.Core.List.{List}
-use Prim.Native.Nat.{ℕ, suc, ◌+◌, ◌-◌, ◌*◌, ◌^◌, ◌≤◌, ◌<◌}
-use native.Mathlib.Nat.{pow-suc}
-use native.Mathlib.Numerals.{add-one}
-use native.Mathlib.Omega.{arith}
-use lib.ListN.{length, set, length-set}
-use lib.Pow.{pow_mono, pow_pos}
-use Rattle.field.specs.Field.{el, val, el_one}
+use Prim.Native.Nat.{ℕ, ◌+◌, ◌-◌, ◌^◌, ◌≤◌}
+use lib.ListN.{length, set}
+use Rattle.field.specs.Field.{el, val}
 use Rattle.field.specs.Element.{elem}
 use Rattle.lists.specs.Lists.{tabulate, write_at}
 use Rattle.multilinear.proofs.Rows.{points}
-use Rattle.multilinear.proofs.Doubling.{word, Doubled, double_start, double_more, double_end, table_start}
+use Rattle.multilinear.proofs.Doubling.{word, Doubled}
 use Rattle.multilinear.proofs.eq_xy.Given as goal
 
 abbrev pub invariant-loop-b : goal.invariant-loop-b

@@ -1,11 +1,10 @@
-use Prim.Native.Nat.{ℕ, suc, ◌+◌, ◌-◌, ◌<◌}
+use Prim.Native.Nat.{suc, ◌+◌, ◌<◌}
 use Rattle.expression.specs.Expr.{Expr}
 use Rattle.expression.specs.Flat.{body}
 use Rattle.preprocessor.proofs.ComposeWords as trees
 use Rattle.preprocessor.proofs.Lists as lists
 use Rattle.preprocessor.specs.Compose.{zero_tree, outer_trees, number_of_h}
 use Rattle.preprocessor.specs.ComposeWords.{constraints_from_words}
-use borrow.Author.Rules.{rules}
 use lib.IntN.{pos}
 use mathlib.Core.Path.{◌≡◌}
 use native.Mathlib.Omega.{arith}

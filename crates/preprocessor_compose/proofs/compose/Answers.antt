@@ -1,4 +1,3 @@
-use borrow.Author.Rules.{rules}
 use Rattle.preprocessor.proofs.Composed.{composed_written}
 use Rattle.preprocessor_compose.proofs.compose.Goals as goal
 

@@ -8,7 +8,6 @@ use Rattle.preprocessor.specs.Compose.{outer_trees, compose_tree}
 use Rattle.preprocessor.specs.ComposeWords.{constraints_from_words}
 use mathlib.Core.Path.{ap}
 use native.Mathlib.Omega.{arith}
-use borrow.Author.Rules.{rules}
 use Rattle.preprocessor_compose.proofs.outer.Goals as goal
 
 pub zero_check-requires : goal.zero_check-requires

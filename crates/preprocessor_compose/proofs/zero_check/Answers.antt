@@ -3,7 +3,6 @@ use Rattle.preprocessor.proofs.ComposeWords as trees
 use Rattle.preprocessor.specs.Compose.{zero_tree}
 use Rattle.preprocessor.specs.ComposeWords.{constraints_from_words}
 use native.Mathlib.Omega.{arith}
-use borrow.Author.Rules.{rules}
 use Rattle.preprocessor_compose.proofs.zero_check.Goals as goal
 
 pub constraint_powers-x-requires : goal.constraint_powers-x-requires

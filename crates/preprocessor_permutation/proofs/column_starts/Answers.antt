@@ -1,11 +1,11 @@
 -- The columns passed have their first words.
 use mathlib.Core.Path.{refl}
-use Prim.Native.Nat.{◌-◌, ◌^◌, ◌<◌}
+use Prim.Native.Nat.{◌^◌, ◌<◌}
 use native.Mathlib.Omega.{arith}
 use borrow.Author.Rules.{rules}
-use lib.ListN.{length, get_or}
+use lib.ListN.{get_or}
 use Rattle.lists.proofs.All.{all_get}
-use Rattle.preprocessor.proofs.Walks.{Begun, begun_start, begun_next, begun_end, begins}
+use Rattle.preprocessor.proofs.Walks.{begun_start, begun_next, begun_end, begins}
 use Rattle.preprocessor_permutation.proofs.column_starts.Goals as goal
 
 pub loop-i-init : goal.loop-i-init

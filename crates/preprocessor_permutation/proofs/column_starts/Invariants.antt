@@ -1,10 +1,6 @@
-use mathlib.Core.Path.{refl}
-use Prim.Native.Nat.{◌-◌, ◌^◌, ◌<◌}
-use native.Mathlib.Omega.{arith}
-use borrow.Author.Rules.{rules}
-use lib.ListN.{length, get_or}
-use Rattle.lists.proofs.All.{all_get}
-use Rattle.preprocessor.proofs.Walks.{Begun, begun_start, begun_next, begun_end, begins}
+use Prim.Native.Nat.{◌-◌}
+use lib.ListN.{length}
+use Rattle.preprocessor.proofs.Walks.{Begun}
 use Rattle.preprocessor_permutation.proofs.column_starts.Given as goal
 
 abbrev pub invariant-loop-i : goal.invariant-loop-i

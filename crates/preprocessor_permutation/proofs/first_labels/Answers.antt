@@ -1,7 +1,5 @@
 -- The first j words are 0, 1, …, j - 1.
-use Prim.Native.Nat.{◌-◌}
-use borrow.Author.Rules.{rules}
-use Rattle.preprocessor.proofs.Walks.{First, first_start, first_next, first_end}
+use Rattle.preprocessor.proofs.Walks.{first_start, first_next, first_end}
 use Rattle.preprocessor_permutation.proofs.first_labels.Goals as goal
 
 pub loop-j-init : goal.loop-j-init

@@ -1,6 +1,5 @@
 use Prim.Native.Nat.{◌-◌}
-use borrow.Author.Rules.{rules}
-use Rattle.preprocessor.proofs.Walks.{First, first_start, first_next, first_end}
+use Rattle.preprocessor.proofs.Walks.{First}
 use Rattle.preprocessor_permutation.proofs.first_labels.Given as goal
 
 abbrev pub invariant-loop-j : goal.invariant-loop-j

@@ -1,10 +1,6 @@
 -- After i cycles the columns hold the labels of the first i cycles.
-use mathlib.Core.List.{List}
-use Prim.Native.Nat.{ℕ, ◌+◌, ◌*◌, ◌-◌, ◌≤◌}
 use native.Mathlib.Omega.{arith}
-use borrow.Author.Rules.{rules}
-use lib.ListN.{length, get_or}
-use Rattle.preprocessor.proofs.Walks.{Turning, first_room, turning_start, turning_end, turn_fits, turn_asks, turn_next}
+use Rattle.preprocessor.proofs.Walks.{first_room, turning_start, turning_end, turn_fits, turn_asks, turn_next}
 use Rattle.preprocessor_permutation.proofs.permutation_polys.Goals as goal
 
 pub overflow_mul-copied : goal.overflow_mul-copied

@@ -1,9 +1,6 @@
-use mathlib.Core.List.{List}
-use Prim.Native.Nat.{ℕ, ◌+◌, ◌*◌, ◌-◌, ◌≤◌}
-use native.Mathlib.Omega.{arith}
-use borrow.Author.Rules.{rules}
-use lib.ListN.{length, get_or}
-use Rattle.preprocessor.proofs.Walks.{Turning, first_room, turning_start, turning_end, turn_fits, turn_asks, turn_next}
+use Prim.Native.Nat.{◌-◌}
+use lib.ListN.{length}
+use Rattle.preprocessor.proofs.Walks.{Turning}
 use Rattle.preprocessor_permutation.proofs.permutation_polys.Given as goal
 
 abbrev pub invariant-loop-i : goal.invariant-loop-i

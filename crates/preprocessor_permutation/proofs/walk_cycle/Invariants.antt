@@ -1,8 +1,5 @@
-use Prim.Native.Nat.{◌-◌, ◌/◌}
-use native.Mathlib.Omega.{arith}
-use borrow.Author.Rules.{rules}
-use lib.ListN.{length}
-use Rattle.preprocessor.proofs.Walks.{Walking, walking_start, walking_next, walking_end, cell_fits, walking_fits}
+use Prim.Native.Nat.{◌-◌}
+use Rattle.preprocessor.proofs.Walks.{Walking}
 use Rattle.preprocessor_permutation.proofs.walk_cycle.Given as goal
 
 abbrev pub invariant-loop-i : goal.invariant-loop-i

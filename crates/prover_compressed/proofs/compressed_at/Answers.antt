@@ -1,5 +1,4 @@
 -- `compressed_at` meets its contract: the sum with the context of its layout and point.
-use borrow.Author.Rules.{rules}
 use mathlib.Core.Path.{refl, ap, ◌∙◌, subst⁻¹}
 use mathlib.Core.List.{List}
 use Prim.Native.Nat.{ℕ}

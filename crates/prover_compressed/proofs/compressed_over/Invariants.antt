@@ -1,10 +1,8 @@
-use borrow.Author.Rules.{rules}
 use Prim.Native.Nat.{◌-◌, ◌≤◌}
-use native.Mathlib.Omega.{arith}
 use Rattle.field.specs.Element.{elem}
 use Rattle.expression.specs.Point.{environment_of, point_of, layout_in}
 use Rattle.expression_evaluate.specs.Lent.{lent}
-use Rattle.prover.proofs.PowerSums.{Summed, root_value, sum_start, sum_more, sum_end}
+use Rattle.prover.proofs.PowerSums.{Summed, root_value}
 use Rattle.prover_compressed.proofs.compressed_over.Given as goal
 
 abbrev pub invariant-loop-i : goal.invariant-loop-i

@@ -1,14 +1,12 @@
 -- `lookup_compressed_poly` meets its contract: a row a turn, and the instance columns stay as they are.
-use borrow.Author.Rules.{rules}
-use mathlib.Core.Path.{◌≡◌, sym, ap, ◌∙◌}
-use Prim.Native.Nat.{ℕ, ◌+◌, ◌-◌, ◌^◌}
+use mathlib.Core.Path.{sym, ap, ◌∙◌}
+use Prim.Native.Nat.{ℕ, ◌+◌}
 use native.Mathlib.Omega.{arith}
 use Rattle.field.specs.Field.{𝔾, val}
 use Rattle.field.specs.Element.{elem}
-use Rattle.bh.specs.Rows.{row_at, place_of}
 use Rattle.bh.proofs.Order.{row_zero}
 use Rattle.bh.proofs.Rows.{row_in, placed_at}
-use Rattle.lists.proofs.Turns.{Turned, turn_start, turn_more, turn_before, turn_end}
+use Rattle.lists.proofs.Turns.{turn_start, turn_more, turn_before, turn_end}
 use Rattle.prover.specs.Lent.{environment_from_words, compressed_in, roots_of}
 use Rattle.prover.proofs.Rows.{row_turns, read_there, read_word}
 use Rattle.prover.proofs.PowerSums.{compressed_here}

@@ -1,19 +1,12 @@
-use borrow.Author.Rules.{rules}
-use mathlib.Core.Path.{◌≡◌, refl, sym, ap, ap₂, ◌∙◌}
-use mathlib.Core.List.{List}
-use Prim.Native.Nat.{ℕ, ◌+◌, ◌-◌, ◌*◌, ◌^◌, ◌≤◌}
-use native.Mathlib.Nat.{add-zero, zero-mul}
-use native.Mathlib.Omega.{arith}
+use mathlib.Core.Path.{◌≡◌}
+use Prim.Native.Nat.{◌+◌, ◌-◌, ◌*◌, ◌^◌, ◌≤◌}
 use lib.ListN.{length, take}
-use lib.Seq.{take_all}
 use Rattle.field.specs.Field.{𝔾}
 use Rattle.field.specs.Element.{elem}
 use Rattle.lists.specs.Lists.{write_at, split, total}
-use Rattle.lists.proofs.Parts.{total_more, part_there}
 use Rattle.backend.specs.Circuit.{pairs_of}
 use Rattle.prover.specs.Words.{words_of}
 use Rattle.prover.specs.Lent.{environment_from_words, compressed_polys_in}
-use Rattle.prover.proofs.PowerSums.{all_start, all_more, lookup_there, lookup_next}
 use Rattle.prover_compressed.proofs.lookup_compressed_polys.Given as goal
 
 abbrev pub invariant-loop-i : goal.invariant-loop-i

@@ -1,5 +1,4 @@
 -- `value_of_root` meets its contract: past the last node the words read as 0.
-use borrow.Author.Rules.{rules}
 use mathlib.Core.Path.{◌∙◌}
 use native.Mathlib.Omega.{arith}
 use Rattle.expression_evaluate.specs.Lent.{lent}

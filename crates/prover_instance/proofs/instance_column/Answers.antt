@@ -1,11 +1,8 @@
 -- `instance_column` meets its contract: the values are put at their places, through the row order once.
-use borrow.Author.Rules.{rules}
-use mathlib.Core.Path.{◌≡◌, refl, sym, ap, ap₂, ◌∙◌}
-use mathlib.Core.List.{List}
-use Prim.Native.Nat.{ℕ, suc, ◌+◌, ◌-◌, ◌*◌, ◌%◌, ◌^◌, ◌≤◌, ◌<◌}
-use native.Mathlib.Nat.{zero-add}
+use mathlib.Core.Path.{refl, sym, ap, ◌∙◌}
+use Prim.Native.Nat.{ℕ, suc, ◌+◌, ◌%◌, ◌<◌}
 use native.Mathlib.Omega.{arith}
-use lib.ListN.{length, get_or, take, drop, replicate, length-set}
+use lib.ListN.{get_or, take, drop, replicate, length-set}
 use native.Mathlib.Numerals.{add-one}
 use lib.Pow.{pow-lt}
 use Rattle.field.specs.Prime.{P}
@@ -14,8 +11,8 @@ use Rattle.field.proofs.Elements.{val_el_mod}
 use Rattle.bh.specs.Rows.{row_at, next_row}
 use Rattle.bh.proofs.Order.{row_suc, row_next}
 use Rattle.bh.proofs.Iter.{iter_zero}
-use Rattle.lists.specs.Lists.{tabulate, write_at}
-use Rattle.prover.proofs.Instance.{placed, place_start, place_more, place_end, part_length, part_get}
+use Rattle.lists.specs.Lists.{write_at}
+use Rattle.prover.proofs.Instance.{place_start, place_more, place_end, part_length, part_get}
 use Rattle.prover_instance.proofs.instance_column.Goals as goal
 
 pub clear-requires : goal.clear-requires

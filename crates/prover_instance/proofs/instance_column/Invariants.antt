@@ -1,20 +1,10 @@
-use borrow.Author.Rules.{rules}
-use mathlib.Core.Path.{◌≡◌, refl, sym, ap, ap₂, ◌∙◌}
+use mathlib.Core.Path.{◌≡◌}
 use mathlib.Core.List.{List}
-use Prim.Native.Nat.{ℕ, suc, ◌+◌, ◌-◌, ◌*◌, ◌%◌, ◌^◌, ◌≤◌, ◌<◌}
-use native.Mathlib.Nat.{zero-add}
-use native.Mathlib.Omega.{arith}
-use lib.ListN.{length, get_or, take, drop, replicate, length-set}
-use native.Mathlib.Numerals.{add-one}
-use lib.Pow.{pow-lt}
-use Rattle.field.specs.Prime.{P}
-use Rattle.field.specs.Field.{val}
-use Rattle.field.proofs.Elements.{val_el_mod}
-use Rattle.bh.specs.Rows.{row_at, next_row}
-use Rattle.bh.proofs.Order.{row_suc, row_next}
-use Rattle.bh.proofs.Iter.{iter_zero}
+use Prim.Native.Nat.{ℕ, suc, ◌+◌, ◌-◌, ◌^◌, ◌≤◌, ◌<◌}
+use lib.ListN.{length, take, drop, replicate}
+use Rattle.bh.specs.Rows.{row_at}
 use Rattle.lists.specs.Lists.{tabulate, write_at}
-use Rattle.prover.proofs.Instance.{placed, place_start, place_more, place_end, part_length, part_get}
+use Rattle.prover.proofs.Instance.{placed}
 use Rattle.prover_instance.proofs.instance_column.Given as goal
 
 abbrev pub invariant-loop-t : goal.invariant-loop-t

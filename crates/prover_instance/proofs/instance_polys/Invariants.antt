@@ -1,16 +1,9 @@
-use borrow.Author.Rules.{rules}
-use mathlib.Core.Path.{◌≡◌, refl, sym, ap, ap₂, ◌∙◌}
-use mathlib.Core.List.{List}
-use Prim.Native.Nat.{ℕ, suc, ◌+◌, ◌-◌, ◌*◌, ◌^◌, ◌≤◌, ◌<◌}
-use native.Mathlib.Nat.{zero-mul, suc-mul}
-use native.Mathlib.Numerals.{add-one}
-use native.Mathlib.Omega.{arith}
-use lib.ListN.{length, get_or, take}
-use lib.Seq.{take_all}
+use mathlib.Core.Path.{◌≡◌}
+use Prim.Native.Nat.{◌-◌, ◌*◌, ◌^◌, ◌≤◌}
+use lib.ListN.{length, take}
 use Rattle.lists.specs.Lists.{write_at, total}
 use Rattle.prover.specs.Words.{words_of}
-use Rattle.prover.proofs.Instance.{polys, instance_start, instance_more, words_there}
-use Rattle.lists.proofs.Parts.{total_more, part_there}
+use Rattle.prover.proofs.Instance.{polys}
 use Rattle.prover_instance.proofs.instance_polys.Given as goal
 
 abbrev pub invariant-loop-i : goal.invariant-loop-i

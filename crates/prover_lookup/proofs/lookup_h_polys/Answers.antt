@@ -1,23 +1,9 @@
 -- `lookup_h_polys` meets its contract: after j turns h of the first j groups stands there, and no denominator of theirs is zero.
-use borrow.Author.Rules.{rules}
-use Prim.Native.Nat.{◌+◌, ◌-◌, ◌*◌, ◌≤◌}
 use native.Mathlib.Omega.{arith}
-use lib.ListN.{length, get_or}
+use lib.ListN.{get_or}
 use Rattle.field.specs.Element.{elem}
 use Rattle.prover_lookup.proofs.Places.{pair_turn}
-use Rattle.prover_lookup.proofs.Hs.{
-  HsUpto,
-  hs_start,
-  hs_end,
-  hs_size,
-  hs_more,
-  hs_stop,
-  size_some,
-  group_behind,
-  counts_there,
-  h_there,
-  h_behind,
-}
+use Rattle.prover_lookup.proofs.Hs.{hs_start, hs_end, hs_size, hs_more, hs_stop, size_some, group_behind, counts_there, h_there, h_behind}
 use Rattle.prover_lookup.proofs.lookup_h_polys.Goals as goal
 
 pub loop-j-init : goal.loop-j-init

@@ -1,22 +1,7 @@
-use borrow.Author.Rules.{rules}
-use Prim.Native.Nat.{◌+◌, ◌-◌, ◌*◌, ◌≤◌}
-use native.Mathlib.Omega.{arith}
-use lib.ListN.{length, get_or}
+use Prim.Native.Nat.{◌-◌}
+use lib.ListN.{length}
 use Rattle.field.specs.Element.{elem}
-use Rattle.prover_lookup.proofs.Places.{pair_turn}
-use Rattle.prover_lookup.proofs.Hs.{
-  HsUpto,
-  hs_start,
-  hs_end,
-  hs_size,
-  hs_more,
-  hs_stop,
-  size_some,
-  group_behind,
-  counts_there,
-  h_there,
-  h_behind,
-}
+use Rattle.prover_lookup.proofs.Hs.{HsUpto}
 use Rattle.prover_lookup.proofs.lookup_h_polys.Given as goal
 
 abbrev pub invariant-loop-j : goal.invariant-loop-j

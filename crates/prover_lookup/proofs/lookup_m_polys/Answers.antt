@@ -1,22 +1,8 @@
 -- `lookup_m_polys` meets its contract: after j turns the counts of the first j groups stand there, all of them covered.
-use borrow.Author.Rules.{rules}
-use borrow.Author.Tests.{not-true, not-false}
-use Prim.Native.Nat.{◌+◌, ◌-◌, ◌*◌, ◌≤◌}
 use native.Mathlib.Omega.{arith}
-use lib.ListN.{length, get_or}
+use lib.ListN.{get_or}
 use Rattle.prover_lookup.proofs.Places.{pair_turn}
-use Rattle.prover_lookup.proofs.Counted.{
-  CountedUpto,
-  counted_start,
-  counted_end,
-  counted_size,
-  counted_more,
-  counted_stop,
-  group_behind,
-  counts_there,
-  counts_behind,
-  group_small,
-}
+use Rattle.prover_lookup.proofs.Counted.{counted_start, counted_end, counted_size, counted_more, counted_stop, group_behind, counts_there, counts_behind, group_small}
 use Rattle.prover_lookup.proofs.lookup_m_polys.Goals as goal
 
 pub loop-j-init : goal.loop-j-init

@@ -1,4 +1,3 @@
-use borrow.Author.Rules.{rules}
 use Rattle.backend.proofs.Degree.{users_high, looks_high, users_low}
 use Rattle.backend_nodes.proofs.degrees.degrees_fit.Goals as goal
 

@@ -10,20 +10,16 @@ use Rattle.backend.specs.Questions.{group_numbers_good}
 use Rattle.backend.proofs.Answers.{seven, pairs_enough, user_degree_of, groups_degree_of, numbers_many, numbers_few, numbers_good_is, groups_read}
 use Rattle.backend.proofs.Degree.{left_roots, right_roots}
 use Rattle.backend.proofs.Groups.{sizes_total, sizes_some}
-use borrow.Author.Rules.{rules}
 use Rattle.backend_nodes.proofs.degrees.degrees_of.Goals as goal
 
 pub group_sizes-grouped-requires : goal.group_sizes-grouped-requires
 group_sizes-grouped-requires c = (ap group_numbers_good c.groups_of-numbers.ensures ∙ numbers_good_is _ c.requires.0 c.requires.1.1.1, let q = ap length c.groups_of-numbers.ensures in let r = numbers_few _ c.requires.0 in omega arith)
 
-
 pub user_degree-user-requires : goal.user_degree-user-requires
 user_degree-user-requires c = left_roots _ _ _ (seven _ _ _ _ c.nodes_of-nodes.ensures c.constraints_of-users.ensures c.pairs_of-pairs.ensures _ refl ∙ c.requires.1.1.0)
 
-
 pub slice_bounds-groups_degree-end : goal.slice_bounds-groups_degree-end
 slice_bounds-groups_degree-end c = let e = c.group_sizes-grouped.ensures in let p = e.0 in let q = e.1 in omega arith
-
 
 pub groups_degree-lookups-requires : goal.groups_degree-lookups-requires
 groups_degree-lookups-requires c =
@@ -42,7 +38,6 @@ groups_degree-lookups-requires c =
         ),
       ),
     )
-
 
 pub returns : goal.returns
 returns c = (

@@ -1,10 +1,6 @@
-use borrow.Author.Rules.{rules}
-use mathlib.Core.Path.{◌≡◌, refl, sym, ap, ◌∙◌}
-use Prim.Native.Nat.{ℕ, ◌+◌, ◌*◌, ◌-◌, ◌/◌, ◌≤◌, ◌<◌}
-use native.Mathlib.Omega.{arith}
-use lib.ListN.{length, get_or, take}
-use Rattle.lists.proofs.All.{all_get}
-use Rattle.backend.proofs.Degree.{Grouped, grouped_none, grouped_fits, grouped_more, grouped_all}
+use Prim.Native.Nat.{◌-◌}
+use lib.ListN.{length}
+use Rattle.backend.proofs.Degree.{Grouped}
 use Rattle.backend_nodes.proofs.degrees.groups_degree.Given as goal
 
 abbrev pub invariant-loop-j : goal.invariant-loop-j

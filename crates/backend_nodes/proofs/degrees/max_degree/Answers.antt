@@ -1,6 +1,4 @@
-use borrow.Author.Rules.{rules}
 use mathlib.Core.Path.{◌∙◌}
-use mathlib.Core.Logic.{⊎_elim}
 use Rattle.backend.proofs.Degree.{d_of, least_high, least_low}
 use Rattle.backend_nodes.proofs.degrees.max_degree.Goals as goal
 use Rattle.backend_nodes.proofs.degrees.max_degree.Goals.{then-stated-gt3, else-stated-gt3}

@@ -1,9 +1,5 @@
-use borrow.Author.Rules.{rules}
-use mathlib.Core.Path.{◌≡◌, refl, sym, ap, ◌∙◌}
-use Prim.Native.Nat.{ℕ, ◌+◌, ◌*◌, ◌-◌, ◌/◌, ◌≤◌, ◌<◌}
-use native.Mathlib.Omega.{arith}
-use lib.ListN.{length, get_or, take}
-use Rattle.backend.proofs.Degree.{Passed, passed_none, passed_room, passed_more, passed_all}
+use Prim.Native.Nat.{◌-◌}
+use Rattle.backend.proofs.Degree.{Passed}
 use Rattle.backend_nodes.proofs.degrees.pairs_in.Given as goal
 
 abbrev pub invariant-loop-i : goal.invariant-loop-i

@@ -1,12 +1,9 @@
-use borrow.Author.Rules.{rules}
-use mathlib.Core.Path.{◌≡◌, refl, sym, ap, ◌∙◌}
-use mathlib.Core.Bool.{Bool, true, false}
-use Prim.Native.Nat.{ℕ, ◌+◌, ◌*◌, ◌-◌, ◌/◌, ◌≤◌, ◌<◌}
+use Prim.Native.Nat.{◌+◌, ◌*◌}
 use native.Mathlib.Omega.{arith}
-use lib.ListN.{length, get_or, take}
+use lib.ListN.{get_or}
 use Rattle.expression.specs.Expr.{degree as degree_at}
 use Rattle.expression.specs.Nodes.{expr_of}
-use Rattle.backend.proofs.Degree.{Most, most_none, most_more, most_all, root_in}
+use Rattle.backend.proofs.Degree.{most_none, most_more, most_all, root_in}
 use Rattle.backend_nodes.proofs.degrees.side_degree.Goals as goal
 
 pub loop-i-init : goal.loop-i-init

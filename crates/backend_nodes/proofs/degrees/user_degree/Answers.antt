@@ -1,13 +1,9 @@
-use borrow.Author.Rules.{rules}
-use mathlib.Core.Path.{◌≡◌, refl, sym, ap, ◌∙◌}
-use mathlib.Core.Bool.{Bool, true, false}
-use Prim.Native.Nat.{ℕ, ◌+◌, ◌*◌, ◌-◌, ◌/◌, ◌≤◌, ◌<◌}
-use native.Mathlib.Omega.{arith}
-use lib.ListN.{length, get_or, take}
+use mathlib.Core.Path.{ap, ◌∙◌}
+use lib.ListN.{length, get_or}
 use Prim.Native.Nat.{min}
 use Rattle.expression.specs.Expr.{degree as degree_at}
 use Rattle.expression.specs.Nodes.{expr_of}
-use Rattle.backend.proofs.Degree.{Most, most_none, most_more, most_all, root_in, roots_degree}
+use Rattle.backend.proofs.Degree.{most_none, most_more, most_all, root_in, roots_degree}
 use Rattle.backend_nodes.proofs.degrees.user_degree.Goals as goal
 
 pub loop-i-init : goal.loop-i-init

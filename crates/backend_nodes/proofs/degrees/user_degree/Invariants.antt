@@ -1,13 +1,8 @@
-use borrow.Author.Rules.{rules}
-use mathlib.Core.Path.{◌≡◌, refl, sym, ap, ◌∙◌}
-use mathlib.Core.Bool.{Bool, true, false}
-use Prim.Native.Nat.{ℕ, ◌+◌, ◌*◌, ◌-◌, ◌/◌, ◌≤◌, ◌<◌}
-use native.Mathlib.Omega.{arith}
-use lib.ListN.{length, get_or, take}
-use Prim.Native.Nat.{min}
+use Prim.Native.Nat.{◌-◌}
+use lib.ListN.{length, get_or}
 use Rattle.expression.specs.Expr.{degree as degree_at}
 use Rattle.expression.specs.Nodes.{expr_of}
-use Rattle.backend.proofs.Degree.{Most, most_none, most_more, most_all, root_in, roots_degree}
+use Rattle.backend.proofs.Degree.{Most}
 use Rattle.backend_nodes.proofs.degrees.user_degree.Given as goal
 
 abbrev pub invariant-loop-i : goal.invariant-loop-i

@@ -1,7 +1,5 @@
 -- One name, counted in its place.
-use native.Mathlib.Omega.{arith}
 use Rattle.backend_nodes.proofs.layout.Counts.{tally_name, tally_past}
-use borrow.Author.Rules.{rules}
 use Rattle.backend_nodes.proofs.layout.count_name.Goals as goal
 
 pub overflow_add-counts : goal.overflow_add-counts

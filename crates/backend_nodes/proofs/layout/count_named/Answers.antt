@@ -1,11 +1,11 @@
 -- The names of one node, kind by kind.
 use mathlib.Core.Path.{refl, sym, ap}
 use mathlib.Core.Bool.{Bool, cond}
-use mathlib.Core.List.{List, [], ◌∷◌}
+use mathlib.Core.List.{[], ◌∷◌}
 use native.Mathlib.Omega.{arith}
 use borrow.Author.Tests.{eq-eqb, ne_eqb}
 use Rattle.expression.specs.Nodes.{kind_of}
-use Rattle.backend.specs.Layout.{Name, plain, as_item}
+use Rattle.backend.specs.Layout.{plain, as_item}
 use Rattle.backend_nodes.proofs.layout.Nodes.{leaf}
 use Rattle.backend_nodes.proofs.layout.Counts.{tally_kind, tally_none, tally_item, tally_both, tally_is, room_less, room_after}
 use Rattle.backend_nodes.proofs.layout.count_named.Goals as goal

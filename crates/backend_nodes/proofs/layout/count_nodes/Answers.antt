@@ -1,7 +1,5 @@
 -- The names of the nodes passed are counted.
-use Prim.Native.Nat.{◌-◌}
-use borrow.Author.Rules.{rules}
-use Rattle.backend_nodes.proofs.layout.Counts.{Noded, noded_none, noded_room, noded_more, noded_all}
+use Rattle.backend_nodes.proofs.layout.Counts.{noded_none, noded_room, noded_more, noded_all}
 use Rattle.backend_nodes.proofs.layout.count_nodes.Goals as goal
 
 pub loop-m-init : goal.loop-m-init

@@ -1,6 +1,5 @@
 use Prim.Native.Nat.{◌-◌}
-use borrow.Author.Rules.{rules}
-use Rattle.backend_nodes.proofs.layout.Counts.{Noded, noded_none, noded_room, noded_more, noded_all}
+use Rattle.backend_nodes.proofs.layout.Counts.{Noded}
 use Rattle.backend_nodes.proofs.layout.count_nodes.Given as goal
 
 abbrev pub invariant-loop-m : goal.invariant-loop-m

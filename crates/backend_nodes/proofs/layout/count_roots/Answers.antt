@@ -1,8 +1,5 @@
 -- The roots passed are counted.
-use Prim.Native.Nat.{◌-◌}
-use borrow.Author.Rules.{rules}
-use lib.ListN.{length}
-use Rattle.backend_nodes.proofs.layout.Counts.{Rooted, rooted_none, rooted_room, rooted_more, rooted_all}
+use Rattle.backend_nodes.proofs.layout.Counts.{rooted_none, rooted_room, rooted_more, rooted_all}
 use Rattle.backend_nodes.proofs.layout.count_roots.Goals as goal
 
 pub loop-i-init : goal.loop-i-init

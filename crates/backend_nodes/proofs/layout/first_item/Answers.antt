@@ -5,7 +5,6 @@ use lib.Dec.{eqb}
 use lib.ListN.{get_or}
 use Rattle.backend.specs.Layout.{as_item}
 use Rattle.backend_nodes.proofs.layout.Nodes.{item_low, not_low}
-use borrow.Author.Rules.{rules}
 use Rattle.backend_nodes.proofs.layout.first_item.Goals as goal
 
 pub returns-then-node-limit : goal.returns-then-node-limit

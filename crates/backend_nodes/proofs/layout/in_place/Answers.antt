@@ -1,10 +1,8 @@
-use borrow.Author.Tests.{not-true, not-false}
 use mathlib.Core.Path.{refl}
 use Prim.Native.Nat.{◌+◌, ◌*◌}
 use lib.ListN.{get_or}
 use Rattle.expression.specs.Nodes.{kind_of}
 use Rattle.backend_nodes.proofs.layout.Nodes.{not_shaped, in_place_at, rest_one, rest_two, rest_leaf, rest_powers, rest_item}
-use borrow.Author.Rules.{rules}
 use Rattle.backend_nodes.proofs.layout.in_place.Goals as goal
 
 pub returns-then-not-shaped : goal.returns-then-not-shaped

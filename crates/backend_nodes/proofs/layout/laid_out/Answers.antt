@@ -1,9 +1,5 @@
-use borrow.Author.Rules.{rules}
 use mathlib.Core.Path.{◌≡◌, refl, sym, ap, ◌∙◌}
 use mathlib.Core.Bool.{Bool, true, false}
-use Prim.Native.Nat.{ℕ, ◌+◌, ◌*◌, ◌-◌, ◌/◌, ◌≤◌, ◌<◌}
-use native.Mathlib.Omega.{arith}
-use lib.ListN.{length, get_or, take}
 use Rattle.backend_nodes.proofs.layout.Nodes.{not_in_place, not_root, not_root_too, named_last}
 use Rattle.backend_nodes.proofs.layout.laid_out.Goals as goal
 

@@ -1,15 +1,14 @@
 -- Each place has the number of its node's names, and the places passed have 1.
-use mathlib.Core.Path.{◌≡◌, refl, sym, ap, ◌∙◌}
+use mathlib.Core.Path.{refl, sym, ap, ◌∙◌}
 use mathlib.Core.List.{◌++◌}
-use Prim.Native.Nat.{ℕ, ◌+◌, ◌-◌, ◌<◌, ◌^◌}
+use Prim.Native.Nat.{ℕ}
 use native.Mathlib.Omega.{arith}
 use borrow.Author.Rules.{rules}
 use borrow.Author.Tests.{eq-eqb, ne_eqb}
 use lib.Dec.{eqb}
-use lib.ListN.{length, get_or}
-use Rattle.lists.specs.Lists.{count_of}
-use Rattle.lists.proofs.Walks.{Walked, walk_none, walk_more, walk_done, walk_fails}
-use Rattle.backend.specs.Layout.{node_count, once, names, is_name}
+use lib.ListN.{get_or}
+use Rattle.lists.proofs.Walks.{walk_none, walk_more, walk_done, walk_fails}
+use Rattle.backend.specs.Layout.{node_count, once}
 use Rattle.backend_nodes.proofs.layout.Counts.{room_nodes, room_first, room_second, all_counted}
 use Rattle.backend_nodes.proofs.layout.named_once.Goals as goal
 
@@ -28,7 +27,6 @@ pub loop-n-init : goal.loop-n-init
 loop-n-init c =
     let a = c.args in
     walk_none (once a.nodes.now (a.constraints.now ++ a.pairs.now)) (λ i. i) (node_count a.nodes.now)
-
 
 pub returns-then-counts-n-ne1 : goal.returns-then-counts-n-ne1
 returns-then-counts-n-ne1 c =

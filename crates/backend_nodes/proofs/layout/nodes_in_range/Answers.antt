@@ -1,11 +1,5 @@
-use borrow.Author.Rules.{rules}
-use mathlib.Core.Path.{◌≡◌, refl, sym, ap, ◌∙◌}
-use mathlib.Core.Bool.{Bool, true, false}
-use Prim.Native.Nat.{ℕ, ◌+◌, ◌*◌, ◌-◌, ◌/◌, ◌≤◌, ◌<◌}
-use native.Mathlib.Omega.{arith}
-use lib.ListN.{length, get_or, take}
-use borrow.Author.Tests.{not-true, not-false}
-use Rattle.lists.proofs.Walks.{Walked, walk_none, walk_more, walk_done, walk_fails}
+use mathlib.Core.Path.{sym, ◌∙◌}
+use Rattle.lists.proofs.Walks.{walk_none, walk_more, walk_done, walk_fails}
 use Rattle.backend.specs.Layout.{node_count, by_words, in_range, nodes_in_range}
 use Rattle.backend_nodes.proofs.layout.nodes_in_range.Goals as goal
 

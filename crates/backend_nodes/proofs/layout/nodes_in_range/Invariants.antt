@@ -1,12 +1,6 @@
-use borrow.Author.Rules.{rules}
-use mathlib.Core.Path.{◌≡◌, refl, sym, ap, ◌∙◌}
-use mathlib.Core.Bool.{Bool, true, false}
-use Prim.Native.Nat.{ℕ, ◌+◌, ◌*◌, ◌-◌, ◌/◌, ◌≤◌, ◌<◌}
-use native.Mathlib.Omega.{arith}
-use lib.ListN.{length, get_or, take}
-use borrow.Author.Tests.{not-true, not-false}
-use Rattle.lists.proofs.Walks.{Walked, walk_none, walk_more, walk_done, walk_fails}
-use Rattle.backend.specs.Layout.{node_count, by_words, in_range, nodes_in_range}
+use Prim.Native.Nat.{◌-◌}
+use Rattle.lists.proofs.Walks.{Walked}
+use Rattle.backend.specs.Layout.{by_words, in_range}
 use Rattle.backend_nodes.proofs.layout.nodes_in_range.Given as goal
 
 abbrev pub invariant-loop-n : goal.invariant-loop-n

@@ -1,7 +1,6 @@
 use Rattle.backend.specs.Layout.{plain}
 use mathlib.Core.Path.{refl}
 use Rattle.backend_nodes.proofs.layout.Nodes.{plain_low, not_low}
-use borrow.Author.Rules.{rules}
 use Rattle.backend_nodes.proofs.layout.plain.Goals as goal
 
 pub returns-then-node-limit : goal.returns-then-node-limit

@@ -1,11 +1,6 @@
-use borrow.Author.Rules.{rules}
-use mathlib.Core.Path.{◌≡◌, refl, sym, ap, ◌∙◌}
-use mathlib.Core.Bool.{Bool, true, false}
-use Prim.Native.Nat.{ℕ, ◌+◌, ◌*◌, ◌-◌, ◌/◌, ◌≤◌, ◌<◌}
-use native.Mathlib.Omega.{arith}
-use lib.ListN.{length, get_or, take}
-use borrow.Author.Tests.{not-true, not-false}
-use Rattle.lists.proofs.Walks.{Walked, walk_none, walk_more, list_done, list_fails}
+use mathlib.Core.Path.{sym, ◌∙◌}
+use lib.ListN.{length, get_or}
+use Rattle.lists.proofs.Walks.{walk_none, walk_more, list_done, list_fails}
 use Rattle.backend.specs.Layout.{is_root}
 use Rattle.backend_nodes.proofs.layout.roots_right.Goals as goal
 

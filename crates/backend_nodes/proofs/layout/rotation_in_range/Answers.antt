@@ -1,9 +1,3 @@
-use borrow.Author.Rules.{rules}
-use mathlib.Core.Path.{◌≡◌, refl, sym, ap, ◌∙◌}
-use mathlib.Core.Bool.{Bool, true, false}
-use Prim.Native.Nat.{ℕ, ◌+◌, ◌*◌, ◌-◌, ◌/◌, ◌≤◌, ◌<◌}
-use native.Mathlib.Omega.{arith}
-use lib.ListN.{length, get_or, take}
 use Rattle.backend_nodes.proofs.layout.Nodes.{near_low, near_high}
 use Rattle.backend_nodes.proofs.layout.rotation_in_range.Goals as goal
 

@@ -1,4 +1,3 @@
-use native.Mathlib.Omega.{arith}
 use Rattle.expression.specs.Nodes.{kind_of}
 use Rattle.backend_nodes.proofs.layout.Nodes.{no_kind}
 use Rattle.backend_nodes.proofs.layout.shaped.Goals as goal

@@ -1,13 +1,8 @@
 -- The cycles passed are good, and their cells linked.
 use mathlib.Core.Path.{refl}
-use Prim.Native.Nat.{◌+◌, ◌-◌}
 use native.Mathlib.Omega.{arith}
-use borrow.Author.Rules.{rules}
-use borrow.Author.Tests.{not-false}
-use lib.ListN.{length, get_or}
-use Rattle.backend_questions.specs.Chains.{Linked}
 use Rattle.backend_questions.proofs.cycles.Chains.{link_none}
-use Rattle.backend_questions.proofs.cycles.Turns.{Before, before_first, room, before_next, bad_cycle, no_cycle_left}
+use Rattle.backend_questions.proofs.cycles.Turns.{before_first, room, before_next, bad_cycle, no_cycle_left}
 use Rattle.backend_questions.proofs.cycles.cycles_good.Goals as goal
 
 pub loop-i-init : goal.loop-i-init
@@ -31,11 +26,10 @@ overflow_add-start c =
     record { fits = omega arith }
 
 pub loop-i-preserved : goal.loop-i-preserved
-loop-i-preserved c =
-    (
-      before_next c.args.polys c.args.rows c.args.lengths.now c.args.cells.now c.loop-i.start c.loop-i.i c.loop-i.invariant.0 c.loop-i-test.true c.good_cycle.result c.good_cycle.ensures.value (mathlib.Core.Path.ap mathlib.Core.Bool.not c.if-not-good_cycle.false),
-      c.good_cycle.ensures.linked (c.if-not-good_cycle.false),
-    )
+loop-i-preserved c = (
+  before_next c.args.polys c.args.rows c.args.lengths.now c.args.cells.now c.loop-i.start c.loop-i.i c.loop-i.invariant.0 c.loop-i-test.true c.good_cycle.result c.good_cycle.ensures.value (mathlib.Core.Path.ap mathlib.Core.Bool.not c.if-not-good_cycle.false),
+  c.good_cycle.ensures.linked (c.if-not-good_cycle.false),
+)
 
 pub returns : goal.returns
 returns c =

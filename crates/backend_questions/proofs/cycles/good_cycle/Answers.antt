@@ -1,12 +1,9 @@
 -- The cells passed are good, and linked.
 use mathlib.Core.Path.{sym, ◌∙◌}
-use Prim.Native.Nat.{◌+◌, ◌-◌, ◌≤◌}
+use Prim.Native.Nat.{◌+◌}
 use native.Mathlib.Omega.{arith}
-use borrow.Author.Rules.{rules}
-use borrow.Author.Tests.{not-true, not-false}
 use Rattle.lists.proofs.Tests.{false_true}
-use Rattle.lists.proofs.Walks.{Walked, walk_none, walk_more, walk_done, walk_fails}
-use Rattle.backend_questions.specs.Chains.{Linked}
+use Rattle.lists.proofs.Walks.{walk_none, walk_more, walk_done, walk_fails}
 use Rattle.backend_questions.proofs.cycles.Chains.{linked_at}
 use Rattle.backend_questions.proofs.cycles.Turns.{turn, no_cell_is, bad_cell, good_cells}
 use Rattle.backend_questions.proofs.cycles.good_cycle.Goals as goal
@@ -43,12 +40,11 @@ link-requires c =
     (omega arith, omega arith, c.loop-i.invariant.1)
 
 pub loop-i-preserved : goal.loop-i-preserved
-loop-i-preserved c =
-    (
-      walk_more (turn c.args.polys c.args.rows c.args.cells.now c.args.start) (λ i. i) c.args.n c.loop-i.i c.loop-i.invariant.0 c.loop-i-test.true
-          (sym c.good_cell.ensures ∙ c.if-not-good_cell.false),
-      linked_at c.args.cells.now c.link.new.heads c.link.new.earlier (c.args.start + c.loop-i.i + 1) (c.args.start + (c.loop-i.i + 1)) c.link.ensures (omega arith),
-    )
+loop-i-preserved c = (
+  walk_more (turn c.args.polys c.args.rows c.args.cells.now c.args.start) (λ i. i) c.args.n c.loop-i.i c.loop-i.invariant.0 c.loop-i-test.true
+      (sym c.good_cell.ensures ∙ c.if-not-good_cell.false),
+  linked_at c.args.cells.now c.link.new.heads c.link.new.earlier (c.args.start + c.loop-i.i + 1) (c.args.start + (c.loop-i.i + 1)) c.link.ensures (omega arith),
+)
 
 pub returns : goal.returns
 returns c =

@@ -5,34 +5,26 @@ use Rattle.backend_questions.proofs.groups.numbers_good.Goals as goal
 pub returns-then-numbers-eq0 : goal.returns-then-numbers-eq0
 returns-then-numbers-eq0 c = numbers_none _ c.if-numbers-eq0.true
 
-
 pub returns-then-numbers-ne0 : goal.returns-then-numbers-ne0
 returns-then-numbers-ne0 c = numbers_first _ c.if-numbers-eq0.false c.if-numbers-ne0.true
-
 
 pub loop-i-init : goal.loop-i-init
 loop-i-init c = followed_first _ c.if-numbers-eq0.false c.if-numbers-ne0.false
 
-
 pub overflow_sub-before : goal.overflow_sub-before
 overflow_sub-before c = c.loop-i.invariant.some
-
 
 pub bounds-numbers-i : goal.bounds-numbers-i
 bounds-numbers-i c = let t = c.loop-i-test.true in omega arith
 
-
 pub returns-then-number-before : goal.returns-then-number-before
 returns-then-number-before c = breaks_low _ _ c.loop-i.invariant c.loop-i-test.true c.if-number-before.true
-
 
 pub returns-then-number-before-gt1 : goal.returns-then-number-before-gt1
 returns-then-number-before-gt1 c = breaks_high _ _ c.loop-i.invariant c.loop-i-test.true c.if-number-before.false c.if-number-before-gt1.true
 
-
 pub loop-i-preserved : goal.loop-i-preserved
 loop-i-preserved c = followed_more _ _ c.loop-i.invariant c.loop-i-test.true c.if-number-before.false c.if-number-before-gt1.false
-
 
 pub returns : goal.returns
 returns c = followed_all _ _ c.loop-i.invariant c.loop-i-test.false

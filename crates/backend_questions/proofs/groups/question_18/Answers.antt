@@ -14,10 +14,8 @@ use Rattle.backend_questions.proofs.groups.question_18.Goals as goal
 pub returns-then-not-good : goal.returns-then-not-good
 returns-then-not-good c = rule_broken _ _ c.groups_of-numbers.ensures _ c.numbers_good-good.ensures (c.if-not-good.true)
 
-
 pub group_sizes-grouped-requires : goal.group_sizes-grouped-requires
 group_sizes-grouped-requires c = (sym c.numbers_good-good.ensures ∙ c.if-not-good.false, let q = ap length c.groups_of-numbers.ensures in let r = numbers_few _ c.requires.0 in omega arith)
-
 
 pub groups_alike-requires : goal.groups_alike-requires
 groups_alike-requires c =
@@ -33,7 +31,6 @@ groups_alike-requires c =
         (ap total s ∙ sizes_total (body_of ws Section.groups) ∙ numbers_many ws a ∙ sym w, subst (All (λ n. 0 < n)) (sym s) (sizes_some (body_of ws Section.groups) good)),
       ),
     )
-
 
 pub returns : goal.returns
 returns c =

@@ -1,6 +1,5 @@
 -- The preprocess words and the nodes' values below p are question 6.
 use Rattle.backend.proofs.Numbers.{six}
-use borrow.Author.Rules.{rules}
 use Rattle.backend_questions.proofs.sections.question_6.Goals as goal
 
 pub returns : goal.returns

@@ -1,9 +1,4 @@
-use native.Mathlib.Omega.{arith}
-use borrow.Author.Rules.{rules}
-use Prim.Native.Nat.{ℕ, ◌-◌, ◌/◌}
-use lib.ListN.{length}
-use Rattle.lists.proofs.Walks.{Walked, walk_none, walk_more, walk_done, walk_fails}
-use Rattle.backend.specs.Questions.{small_value}
+use Rattle.lists.proofs.Walks.{walk_none, walk_more, walk_done, walk_fails}
 use Rattle.backend.proofs.Numbers.{value_large, value_small}
 use Rattle.backend_questions.proofs.sections.values_small.Goals as goal
 

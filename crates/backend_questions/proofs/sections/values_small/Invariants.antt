@@ -1,10 +1,7 @@
-use native.Mathlib.Omega.{arith}
-use borrow.Author.Rules.{rules}
 use Prim.Native.Nat.{ℕ, ◌-◌, ◌/◌}
 use lib.ListN.{length}
-use Rattle.lists.proofs.Walks.{Walked, walk_none, walk_more, walk_done, walk_fails}
+use Rattle.lists.proofs.Walks.{Walked}
 use Rattle.backend.specs.Questions.{small_value}
-use Rattle.backend.proofs.Numbers.{value_large, value_small}
 use Rattle.backend_questions.proofs.sections.values_small.Given as goal
 
 abbrev pub invariant-loop-i : goal.invariant-loop-i

@@ -1,5 +1,4 @@
 use Rattle.backend.proofs.Numbers.{polys}
-use borrow.Author.Rules.{rules}
 use Rattle.backend_sections.proofs.bodies.num_poly.Goals as goal
 
 pub returns : goal.returns

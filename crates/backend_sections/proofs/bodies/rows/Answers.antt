@@ -1,7 +1,6 @@
 -- Rows of the k of circuit words.
 use mathlib.Core.Path.{ap, ◌∙◌}
 use Prim.Native.Nat.{ℕ, ◌^◌}
-use borrow.Author.Rules.{rules}
 use Rattle.backend_sections.proofs.bodies.rows.Goals as goal
 
 pub returns : goal.returns

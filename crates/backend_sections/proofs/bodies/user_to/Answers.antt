@@ -1,6 +1,5 @@
 -- The sum of the second word of each round.
 use Rattle.backend.proofs.Numbers.{user_sum}
-use borrow.Author.Rules.{rules}
 use Rattle.backend_sections.proofs.bodies.user_to.Goals as goal
 
 pub returns : goal.returns

@@ -1,6 +1,5 @@
 -- The sum of the first word of each round.
 use Rattle.backend.proofs.Numbers.{witness_sum}
-use borrow.Author.Rules.{rules}
 use Rattle.backend_sections.proofs.bodies.witness_to.Goals as goal
 
 pub returns : goal.returns

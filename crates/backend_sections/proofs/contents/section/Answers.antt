@@ -1,5 +1,4 @@
 use Rattle.backend.proofs.Sections.{one_section, last_section}
-use borrow.Author.Rules.{rules}
 use Rattle.backend_sections.proofs.contents.section.Goals as goal
 
 pub returns-then-s-eq-GROUPS : goal.returns-then-s-eq-GROUPS

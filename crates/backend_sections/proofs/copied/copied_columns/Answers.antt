@@ -1,10 +1,7 @@
-use borrow.Author.Rules.{rules}
-use mathlib.Core.Path.{◌≡◌, refl, sym, ap, ◌∙◌}
-use mathlib.Core.Bool.{Bool, true, false}
-use Prim.Native.Nat.{ℕ, ◌+◌, ◌*◌, ◌-◌, ◌/◌, ◌≤◌, ◌<◌}
+use mathlib.Core.Path.{refl, sym, ◌∙◌}
+use mathlib.Core.Bool.{Bool, false}
+use Prim.Native.Nat.{ℕ, ◌+◌}
 use native.Mathlib.Omega.{arith}
-use lib.ListN.{length, get_or, take}
-use mathlib.Core.Logic.{⊎_elim}
 use mathlib.Core.Path.{subst, subst₂}
 use mathlib.Core.List.{List}
 use lib.ListN.{replicate}
@@ -19,7 +16,7 @@ pub loop-i-preserved : goal.loop-i-preserved
 loop-i-preserved c =
     let a = c.args in
     elim c.if-q.branch [
-      then-q w ↦ subst (λ (l : List Bool). Named a.cells.now l (c.loop-i.i + 1)) (sym w.named-is) (named_set a.cells.now c.loop-i.named c.loop-i.i c.loop-i.invariant c.loop-i-test.true w.if-q.true)
+      | then-q w ↦ subst (λ (l : List Bool). Named a.cells.now l (c.loop-i.i + 1)) (sym w.named-is) (named_set a.cells.now c.loop-i.named c.loop-i.i c.loop-i.invariant c.loop-i-test.true w.if-q.true)
       | else-q w ↦ subst (λ (l : List Bool). Named a.cells.now l (c.loop-i.i + 1)) (sym w.named-is) (named_past a.cells.now c.loop-i.named c.loop-i.i c.loop-i.invariant c.loop-i-test.true w.if-q.false)
     ]
 
@@ -30,12 +27,12 @@ pub loop-q-preserved : goal.loop-q-preserved
 loop-q-preserved c =
     let a = c.args in
     elim c.if-named-q.branch [
-      then-named-q w ↦
-    subst₂ (λ (l : List ℕ) (n : ℕ). Gathered a.cells.now a.polys l n (c.loop-q.q + 1)) (sym w.of-is) (sym w.count-is)
-    (gathered_more a.cells.now a.polys c.loop-q.of c.loop-q.count c.loop-q.q c.loop-q.invariant c.loop-q-test.true c.requires (sym (named_all a.cells.now c.loop-i.named c.loop-i.i c.loop-i.invariant c.loop-i-test.false c.loop-q.q (let t = c.loop-q-test.true in let m = c.requires in omega arith)) ∙ w.if-named-q.true))
+      | then-named-q w ↦
+          subst₂ (λ (l : List ℕ) (n : ℕ). Gathered a.cells.now a.polys l n (c.loop-q.q + 1)) (sym w.of-is) (sym w.count-is)
+          (gathered_more a.cells.now a.polys c.loop-q.of c.loop-q.count c.loop-q.q c.loop-q.invariant c.loop-q-test.true c.requires (sym (named_all a.cells.now c.loop-i.named c.loop-i.i c.loop-i.invariant c.loop-i-test.false c.loop-q.q (let t = c.loop-q-test.true in let m = c.requires in omega arith)) ∙ w.if-named-q.true))
       | else-named-q w ↦
-    subst₂ (λ (l : List ℕ) (n : ℕ). Gathered a.cells.now a.polys l n (c.loop-q.q + 1)) (sym w.of-is) (sym w.count-is)
-    (gathered_same a.cells.now a.polys c.loop-q.of c.loop-q.count c.loop-q.q c.loop-q.invariant c.loop-q-test.true (sym (named_all a.cells.now c.loop-i.named c.loop-i.i c.loop-i.invariant c.loop-i-test.false c.loop-q.q (let t = c.loop-q-test.true in let m = c.requires in omega arith)) ∙ w.if-named-q.false))
+          subst₂ (λ (l : List ℕ) (n : ℕ). Gathered a.cells.now a.polys l n (c.loop-q.q + 1)) (sym w.of-is) (sym w.count-is)
+          (gathered_same a.cells.now a.polys c.loop-q.of c.loop-q.count c.loop-q.q c.loop-q.invariant c.loop-q-test.true (sym (named_all a.cells.now c.loop-i.named c.loop-i.i c.loop-i.invariant c.loop-i-test.false c.loop-q.q (let t = c.loop-q-test.true in let m = c.requires in omega arith)) ∙ w.if-named-q.false))
     ]
 
 pub returns : goal.returns

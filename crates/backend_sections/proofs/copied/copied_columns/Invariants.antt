@@ -1,14 +1,5 @@
-use borrow.Author.Rules.{rules}
-use mathlib.Core.Path.{◌≡◌, refl, sym, ap, ◌∙◌}
-use mathlib.Core.Bool.{Bool, true, false}
-use Prim.Native.Nat.{ℕ, ◌+◌, ◌*◌, ◌-◌, ◌/◌, ◌≤◌, ◌<◌}
-use native.Mathlib.Omega.{arith}
-use lib.ListN.{length, get_or, take}
-use mathlib.Core.Logic.{⊎_elim}
-use mathlib.Core.Path.{subst, subst₂}
-use mathlib.Core.List.{List}
-use lib.ListN.{replicate}
-use Rattle.backend_sections.proofs.copied.Cells.{Named, Gathered, named_none, named_set, named_past, named_all, gathered_none, gathered_more, gathered_same, gathered_all}
+use Prim.Native.Nat.{◌-◌}
+use Rattle.backend_sections.proofs.copied.Cells.{Named, Gathered}
 use Rattle.backend_sections.proofs.copied.copied_columns.Given as goal
 
 abbrev pub invariant-loop-i : goal.invariant-loop-i

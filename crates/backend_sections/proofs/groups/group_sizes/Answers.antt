@@ -1,9 +1,7 @@
-use borrow.Author.Rules.{rules}
 use mathlib.Core.Path.{refl}
-use Prim.Native.Nat.{ℕ, ◌-◌}
 use native.Mathlib.Omega.{arith}
-use lib.ListN.{length, replicate}
-use Rattle.backend_sections.proofs.groups.Sized.{Sized, sized_none, number_low, sized_low, sized_more, sized_all}
+use lib.ListN.{replicate}
+use Rattle.backend_sections.proofs.groups.Sized.{sized_none, number_low, sized_low, sized_more, sized_all}
 use Rattle.backend_sections.proofs.groups.group_sizes.Goals as goal
 
 pub loop-i-init : goal.loop-i-init

@@ -1,9 +1,6 @@
-use borrow.Author.Rules.{rules}
-use mathlib.Core.Path.{refl}
-use Prim.Native.Nat.{ℕ, ◌-◌}
-use native.Mathlib.Omega.{arith}
-use lib.ListN.{length, replicate}
-use Rattle.backend_sections.proofs.groups.Sized.{Sized, sized_none, number_low, sized_low, sized_more, sized_all}
+use Prim.Native.Nat.{◌-◌}
+use lib.ListN.{length}
+use Rattle.backend_sections.proofs.groups.Sized.{Sized}
 use Rattle.backend_sections.proofs.groups.group_sizes.Given as goal
 
 abbrev pub invariant-loop-i : goal.invariant-loop-i

@@ -1,5 +1,4 @@
 -- The part of the words between the section's start and its end is its body.
-use borrow.Author.Rules.{rules}
 use Rattle.backend.proofs.Sections.{body_part}
 use Rattle.backend_sections.proofs.reader.section_words.Goals as goal
 

@@ -1,9 +1,5 @@
-use native.Mathlib.Omega.{arith}
-use Prim.Native.Nat.{ℕ, ◌+◌, ◌-◌, ◌*◌}
-use lib.ListN.{length, get_or}
-use lib.Dec.{ltb}
 use borrow.Author.Tests.{lt-ltb, le-ltb}
-use Rattle.lists.proofs.Walks.{Walked, walk_none, walk_more, list_done, list_fails}
+use Rattle.lists.proofs.Walks.{walk_none, walk_more, list_done, list_fails}
 use Rattle.backend_sections.proofs.words.all_below.Goals as goal
 
 pub loop-i-init : goal.loop-i-init

@@ -1,9 +1,7 @@
-use native.Mathlib.Omega.{arith}
-use Prim.Native.Nat.{ℕ, ◌+◌, ◌-◌, ◌*◌}
+use Prim.Native.Nat.{ℕ, ◌-◌}
 use lib.ListN.{length, get_or}
 use lib.Dec.{ltb}
-use borrow.Author.Tests.{lt-ltb, le-ltb}
-use Rattle.lists.proofs.Walks.{Walked, walk_none, walk_more, list_done, list_fails}
+use Rattle.lists.proofs.Walks.{Walked}
 use Rattle.backend_sections.proofs.words.all_below.Given as goal
 
 abbrev pub invariant-loop-i : goal.invariant-loop-i

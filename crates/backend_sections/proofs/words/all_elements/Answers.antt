@@ -1,13 +1,6 @@
 -- `all_elements` meets its contract.
 use mathlib.Core.Path.{sym, ◌∙◌}
-use native.Mathlib.Omega.{arith}
-use Prim.Native.Nat.{ℕ, ◌-◌}
-use lib.ListN.{length, get_or}
-use lib.Dec.{ltb}
-use borrow.Author.Rules.{rules}
-use Rattle.field.specs.Prime.{P}
-use Rattle.lists.proofs.Walks.{Walked, walk_none, walk_more, list_done, list_fails}
-use Rattle.backend.proofs.Answers.{says_yes, says_no}
+use Rattle.lists.proofs.Walks.{walk_none, walk_more, list_done, list_fails}
 use Rattle.backend_sections.proofs.words.Elements.{words_number}
 use Rattle.backend_sections.proofs.words.all_elements.Goals as goal
 

@@ -1,12 +1,8 @@
-use native.Mathlib.Omega.{arith}
 use Prim.Native.Nat.{ℕ, ◌-◌}
 use lib.ListN.{length, get_or}
 use lib.Dec.{ltb}
-use borrow.Author.Rules.{rules}
 use Rattle.field.specs.Prime.{P}
-use Rattle.lists.proofs.Walks.{Walked, walk_none, walk_more, list_done, list_fails}
-use Rattle.backend.proofs.Answers.{says_yes, says_no}
-use Rattle.backend_sections.proofs.words.Elements.{words_number}
+use Rattle.lists.proofs.Walks.{Walked}
 use Rattle.backend_sections.proofs.words.all_elements.Given as goal
 
 abbrev pub invariant-loop-i : goal.invariant-loop-i

@@ -1,8 +1,6 @@
 use native.Mathlib.Omega.{arith}
-use Prim.Native.Nat.{ℕ, ◌+◌, ◌-◌, ◌*◌}
-use lib.ListN.{length, get_or}
-use lib.Dec.{ltb}
-use Rattle.lists.proofs.Walks.{Walked, walk_none, walk_more, walk_done, walk_fails, entry_inside, is_nought, not_nought}
+use lib.ListN.{length}
+use Rattle.lists.proofs.Walks.{walk_none, walk_more, walk_done, walk_fails, entry_inside, is_nought, not_nought}
 use Rattle.backend_sections.proofs.words.all_positive.Goals as goal
 
 pub loop-i-init : goal.loop-i-init

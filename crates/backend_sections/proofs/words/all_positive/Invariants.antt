@@ -1,8 +1,7 @@
-use native.Mathlib.Omega.{arith}
 use Prim.Native.Nat.{ℕ, ◌+◌, ◌-◌, ◌*◌}
-use lib.ListN.{length, get_or}
+use lib.ListN.{get_or}
 use lib.Dec.{ltb}
-use Rattle.lists.proofs.Walks.{Walked, walk_none, walk_more, walk_done, walk_fails, entry_inside, is_nought, not_nought}
+use Rattle.lists.proofs.Walks.{Walked}
 use Rattle.backend_sections.proofs.words.all_positive.Given as goal
 
 abbrev pub invariant-loop-i : goal.invariant-loop-i

@@ -1,6 +1,5 @@
 -- `is_element` meets its contract.
 use mathlib.Core.Path.{sym, ◌∙◌}
-use borrow.Author.Rules.{rules}
 use Rattle.backend_sections.proofs.words.Elements.{answer_element, answer_large}
 use Rattle.backend_sections.proofs.words.is_element.Goals as goal
 

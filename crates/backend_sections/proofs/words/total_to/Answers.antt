@@ -1,7 +1,6 @@
 use native.Mathlib.Omega.{arith}
-use Prim.Native.Nat.{ℕ, ◌+◌, ◌-◌, ◌*◌}
-use lib.ListN.{length, get_or}
-use Rattle.lists.proofs.Walks.{Summed, sum_none, sum_more, sum_past, sum_done, entry_inside}
+use lib.ListN.{length}
+use Rattle.lists.proofs.Walks.{sum_none, sum_more, sum_past, sum_done, entry_inside}
 use Rattle.backend_sections.proofs.words.total_to.Goals as goal
 
 pub loop-i-init : goal.loop-i-init

@@ -1,10 +1,8 @@
-use mathlib.Core.Path.{◌≡◌, ap, ◌∙◌, sym, subst, subst⁻¹}
-use Prim.Native.Nat.{ℕ, ◌+◌, ◌-◌, ◌^◌, ◌≤◌, ◌<◌}
-use native.Mathlib.Nat.{le_antisymm}
+use mathlib.Core.Path.{◌≡◌, ap, ◌∙◌, sym}
+use Prim.Native.Nat.{ℕ}
 use native.Mathlib.Omega.{arith}
 use Rattle.bh.specs.Rows.{iter, prev_row}
 use Rattle.bh.proofs.Iter.{iter_zero, iter_next}
-use borrow.Author.Rules.{rules}
 use Rattle.bh.proofs.rotations.backwards.Goals as goal
 
 pub loop-i-init : goal.loop-i-init

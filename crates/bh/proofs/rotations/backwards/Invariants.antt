@@ -1,10 +1,6 @@
-use mathlib.Core.Path.{◌≡◌, ap, ◌∙◌, sym, subst, subst⁻¹}
-use Prim.Native.Nat.{ℕ, ◌+◌, ◌-◌, ◌^◌, ◌≤◌, ◌<◌}
-use native.Mathlib.Nat.{le_antisymm}
-use native.Mathlib.Omega.{arith}
+use mathlib.Core.Path.{◌≡◌}
+use Prim.Native.Nat.{◌-◌, ◌^◌, ◌≤◌, ◌<◌}
 use Rattle.bh.specs.Rows.{iter, prev_row}
-use Rattle.bh.proofs.Iter.{iter_zero, iter_next}
-use borrow.Author.Rules.{rules}
 use Rattle.bh.proofs.rotations.backwards.Given as goal
 
 abbrev pub invariant-loop-i : goal.invariant-loop-i

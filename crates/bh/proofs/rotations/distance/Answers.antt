@@ -1,5 +1,4 @@
 use Rattle.bh.proofs.Signs.{widens, minus_fits, minus_casts, minus_is, plus_casts}
-use borrow.Author.Rules.{rules}
 use Rattle.bh.proofs.rotations.distance.Goals as goal
 
 pub overflow_cast-result : goal.overflow_cast-result

@@ -1,10 +1,10 @@
 use Rattle.bh.proofs.Place.{place_zero, place_start, place_here, place_step, place_end}
 use Rattle.bh.proofs.Words.{shifted}
-use mathlib.Core.Path.{◌≡◌, ap, ◌∙◌, sym, subst, subst⁻¹}
-use Prim.Native.Nat.{ℕ, suc, ◌+◌, ◌-◌, ◌*◌, ◌%◌, ◌^◌, ◌≤◌, ◌<◌}
+use mathlib.Core.Path.{ap, ◌∙◌, sym, subst⁻¹}
+use Prim.Native.Nat.{ℕ, ◌+◌, ◌-◌, ◌*◌, ◌%◌, ◌^◌, ◌≤◌}
 use native.Mathlib.Omega.{arith}
 use lib.Pow.{pow_pos, pow-lt}
-use Rattle.bh.specs.Rows.{place_of, seek, next_row}
+use Rattle.bh.specs.Rows.{seek}
 use Rattle.bh.proofs.rotations.place_of.Goals as goal
 
 pub returns-then-row-eq0 : goal.returns-then-row-eq0

@@ -1,10 +1,6 @@
-use Rattle.bh.proofs.Place.{place_zero, place_start, place_here, place_step, place_end}
-use Rattle.bh.proofs.Words.{shifted}
-use mathlib.Core.Path.{◌≡◌, ap, ◌∙◌, sym, subst, subst⁻¹}
-use Prim.Native.Nat.{ℕ, suc, ◌+◌, ◌-◌, ◌*◌, ◌%◌, ◌^◌, ◌≤◌, ◌<◌}
-use native.Mathlib.Omega.{arith}
-use lib.Pow.{pow_pos, pow-lt}
-use Rattle.bh.specs.Rows.{place_of, seek, next_row}
+use mathlib.Core.Path.{◌≡◌}
+use Prim.Native.Nat.{◌+◌, ◌-◌, ◌^◌, ◌≤◌, ◌<◌}
+use Rattle.bh.specs.Rows.{place_of, seek}
 use Rattle.bh.proofs.rotations.place_of.Given as goal
 
 abbrev pub invariant-loop-place : goal.invariant-loop-place

@@ -1,8 +1,7 @@
-use mathlib.Core.Path.{◌≡◌, ap, ◌∙◌, sym, subst, subst⁻¹}
+use mathlib.Core.Path.{◌∙◌}
 use mir.Syntax.{w32}
 use mir.Val.{SFits}
 use Rattle.bh.proofs.Signs.{rotates_back, rotates_on}
-use borrow.Author.Rules.{rules}
 use Rattle.bh.proofs.rotations.rotate.Goals as goal
 
 pub returns-then-n-lt0 : goal.returns-then-n-lt0

@@ -1,6 +1,5 @@
 -- The element that the field type's method makes.
 use mathlib.Core.Path.{ap₂, ◌∙◌}
-use borrow.Author.Rules.{rules}
 use Rattle.field.specs.Field.{𝔾}
 use Rattle.expression_nodes.proofs.leaves.add.Goals as goal
 

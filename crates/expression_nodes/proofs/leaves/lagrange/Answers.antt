@@ -4,7 +4,6 @@ use Prim.Native.Nat.{ℕ, ◌≤◌}
 use lib.Pow.{pow_pos}
 use Rattle.expression.proofs.Signed.{one_shifted}
 use Rattle.expression.proofs.Leaves.{lagrange_one, lagrange_zero}
-use borrow.Author.Rules.{rules}
 use Rattle.expression_nodes.proofs.leaves.lagrange.Goals as goal
 
 pub overflow_sub-k : goal.overflow_sub-k

@@ -5,7 +5,6 @@ use lib.Pow.{pow_mono}
 use Rattle.bh.specs.Rows.{rotated, iter}
 use Rattle.expression.specs.Nodes.{decode_signed}
 use Rattle.expression.specs.Point.{point_of}
-use borrow.Author.Rules.{rules}
 use Rattle.expression_nodes.proofs.leaves.rotated_row.Goals as goal
 
 stays : (k b : ℕ) → b ≡ rotated k b (decode_signed 2147483648)

@@ -1,6 +1,5 @@
 use native.Mathlib.Omega.{arith}
 use Rattle.expression.proofs.Reader.{place_small}
-use borrow.Author.Rules.{rules}
 use Rattle.expression_nodes.proofs.poly.cell.Goals as goal
 
 pub overflow_mul-i : goal.overflow_mul-i

@@ -6,7 +6,6 @@ use Rattle.field.specs.Field.{𝔾}
 use Rattle.expression.specs.Value.{poly_of}
 use Rattle.expression.specs.Reader.{polys_of}
 use Rattle.expression.proofs.Reader.{reads_instance, reads_preprocess, reads_witness, reads_none}
-use borrow.Author.Rules.{rules}
 use Rattle.expression_nodes.proofs.poly.given_at.Goals as goal
 
 pub returns-then-at-instances : goal.returns-then-at-instances

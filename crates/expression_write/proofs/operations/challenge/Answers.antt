@@ -1,5 +1,4 @@
 use Rattle.expression.proofs.Written as written
-use borrow.Author.Rules.{rules}
 use Rattle.expression_write.proofs.operations.challenge.Goals as goal
 
 pub returns : goal.returns

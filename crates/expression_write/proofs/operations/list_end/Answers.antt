@@ -1,7 +1,6 @@
 use Rattle.expression.proofs.Written as written
 use Rattle.expression.specs.Flat.{body}
 use native.Mathlib.Omega.{arith}
-use borrow.Author.Rules.{rules}
 use Rattle.expression_write.proofs.operations.list_end.Goals as goal
 
 pub push-next-requires : goal.push-next-requires

@@ -1,7 +1,6 @@
 -- `answer_one` meets its contract.
 use native.Mathlib.Omega.{arith}
 use Rattle.hyperplonk.proofs.Answered.{kept, one}
-use borrow.Author.Rules.{rules}
 use Rattle.hyperplonk.proofs.entry.answer_one.Goals as goal
 
 pub returns-then-answer-ge1 : goal.returns-then-answer-ge1

@@ -2,7 +2,6 @@
 use native.Mathlib.Omega.{arith}
 use lib.ListN.{length-set}
 use Rattle.hyperplonk.proofs.Answered.{kept, three}
-use borrow.Author.Rules.{rules}
 use Rattle.hyperplonk.proofs.entry.answer_three.Goals as goal
 
 pub bounds-answer-1 : goal.bounds-answer-1

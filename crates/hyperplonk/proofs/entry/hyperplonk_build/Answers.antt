@@ -1,6 +1,5 @@
 -- `hyperplonk_build` meets its contract.
 use Rattle.hyperplonk.proofs.Answered.{entry_built}
-use borrow.Author.Rules.{rules}
 use Rattle.hyperplonk.proofs.entry.hyperplonk_build.Goals as goal
 
 pub returns : goal.returns

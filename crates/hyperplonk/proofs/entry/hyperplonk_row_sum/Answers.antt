@@ -1,6 +1,5 @@
 -- `hyperplonk_row_sum` meets its contract.
 use Rattle.hyperplonk.proofs.Answered.{entry_summed}
-use borrow.Author.Rules.{rules}
 use Rattle.hyperplonk.proofs.entry.hyperplonk_row_sum.Goals as goal
 
 pub returns : goal.returns

@@ -1,6 +1,5 @@
 -- `hyperplonk_sizes` meets its contract.
 use Rattle.hyperplonk.proofs.Answered.{entry_told}
-use borrow.Author.Rules.{rules}
 use Rattle.hyperplonk.proofs.entry.hyperplonk_sizes.Goals as goal
 
 pub returns : goal.returns

@@ -3,7 +3,6 @@ use mathlib.Core.Path.{◌∙◌}
 use native.Mathlib.Omega.{arith}
 use Rattle.hyperplonk_prepare.proofs.Accepted as accepted
 use Rattle.hyperplonk_columns.proofs.stages.Stages.{compressed_fit, compressed_room, compressed_all}
-use borrow.Author.Rules.{rules}
 use Rattle.hyperplonk_columns.proofs.stages.compressed_columns.Goals as goal
 
 pub num_user-requires : goal.num_user-requires

@@ -1,7 +1,6 @@
 -- `compressed_from` meets its contract.
 use Rattle.hyperplonk_prepare.proofs.Accepted as accepted
 use Rattle.hyperplonk_columns.proofs.stages.Stages.{compressed_asks, compressed_written}
-use borrow.Author.Rules.{rules}
 use Rattle.hyperplonk_columns.proofs.stages.compressed_from.Goals as goal
 
 pub nodes_of-nodes-requires : goal.nodes_of-nodes-requires

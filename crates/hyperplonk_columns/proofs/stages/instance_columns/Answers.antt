@@ -2,7 +2,6 @@
 use mathlib.Core.Path.{◌∙◌}
 use Rattle.hyperplonk_prepare.proofs.Accepted as accepted
 use Rattle.hyperplonk_columns.proofs.stages.Stages.{instance_asks, instance_written}
-use borrow.Author.Rules.{rules}
 use Rattle.hyperplonk_columns.proofs.stages.instance_columns.Goals as goal
 
 pub instances_of-lengths-requires : goal.instances_of-lengths-requires

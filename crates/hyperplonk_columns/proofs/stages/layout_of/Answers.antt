@@ -2,7 +2,6 @@
 use mathlib.Core.Path.{◌∙◌}
 use Rattle.hyperplonk_prepare.proofs.Accepted as accepted
 use Rattle.hyperplonk_columns.proofs.stages.Stages.{layout_is}
-use borrow.Author.Rules.{rules}
 use Rattle.hyperplonk_columns.proofs.stages.layout_of.Goals as goal
 
 pub rows-all-requires : goal.rows-all-requires

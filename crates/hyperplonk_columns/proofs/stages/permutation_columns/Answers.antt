@@ -2,7 +2,6 @@
 use native.Mathlib.Omega.{arith}
 use Rattle.hyperplonk_prepare.proofs.Accepted as accepted
 use Rattle.hyperplonk_columns.proofs.stages.Stages.{permutations_fit, permutation_asks, permutation_written}
-use borrow.Author.Rules.{rules}
 use Rattle.hyperplonk_columns.proofs.stages.permutation_columns.Goals as goal
 
 pub overflow_mul-at : goal.overflow_mul-at

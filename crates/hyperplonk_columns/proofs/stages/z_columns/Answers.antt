@@ -5,7 +5,6 @@ use lib.ListN.{length}
 use Rattle.field.specs.Field.{el}
 use Rattle.hyperplonk_prepare.proofs.Accepted as accepted
 use Rattle.hyperplonk_columns.proofs.stages.Stages.{zs_fit, z_asks, z_written}
-use borrow.Author.Rules.{rules}
 use Rattle.hyperplonk_columns.proofs.stages.z_columns.Goals as goal
 
 pub num_user-requires : goal.num_user-requires

@@ -1,7 +1,6 @@
 -- `instance_words` meets its contract.
 use Rattle.hyperplonk_prepare.proofs.Accepted.{laid_of}
 use Rattle.hyperplonk_prepare.proofs.Computed.{instances_from}
-use borrow.Author.Rules.{rules}
 use Rattle.hyperplonk_prepare.proofs.inputs.instance_words.Goals as goal
 
 pub instances_of-instances-requires : goal.instances_of-instances-requires

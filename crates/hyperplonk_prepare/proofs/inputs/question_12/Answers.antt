@@ -1,7 +1,6 @@
 use native.Mathlib.Omega.{arith}
 use Rattle.hyperplonk_prepare.proofs.Accepted.{laid_counted, laid_of, few_user}
 use Rattle.hyperplonk_prepare.proofs.Computed.{witness_fit, twelve}
-use borrow.Author.Rules.{rules}
 use Rattle.hyperplonk_prepare.proofs.inputs.question_12.Goals as goal
 
 pub num_witness-columns-requires : goal.num_witness-columns-requires

@@ -1,5 +1,4 @@
 use Rattle.hyperplonk_prepare.proofs.Computed.{thirteen}
-use borrow.Author.Rules.{rules}
 use Rattle.hyperplonk_prepare.proofs.inputs.question_13.Goals as goal
 
 pub returns : goal.returns

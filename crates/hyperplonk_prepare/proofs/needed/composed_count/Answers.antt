@@ -4,7 +4,6 @@ use Prim.Native.Nat.{ℕ}
 use native.Mathlib.Nat.{sub-zero}
 use native.Mathlib.Omega.{arith}
 use lib.ListN.{take}
-use borrow.Author.Rules.{rules}
 use Rattle.hyperplonk_prepare.proofs.Accepted.{laid_of}
 use Rattle.hyperplonk_prepare.proofs.Computed.{words_from, decoded_from}
 use Rattle.hyperplonk_prepare.proofs.needed.composed_count.Goals as goal

@@ -1,7 +1,6 @@
 -- `composed_nodes` meets its contract: the count is not cut short.
 use mathlib.Core.Path.{◌∙◌}
 use native.Mathlib.Omega.{arith}
-use borrow.Author.Rules.{rules}
 use Rattle.hyperplonk_prepare.proofs.Bound.{composed_most, nodes_exact}
 use Rattle.hyperplonk_prepare.proofs.needed.composed_nodes.Goals as goal
 

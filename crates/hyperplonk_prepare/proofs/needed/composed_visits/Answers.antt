@@ -1,7 +1,6 @@
 -- `composed_visits` meets its contract: the count is not cut short.
 use mathlib.Core.Path.{◌∙◌}
 use native.Mathlib.Omega.{arith}
-use borrow.Author.Rules.{rules}
 use Rattle.hyperplonk_prepare.proofs.Bound.{visits_exact}
 use Rattle.hyperplonk_prepare.proofs.needed.composed_visits.Goals as goal
 

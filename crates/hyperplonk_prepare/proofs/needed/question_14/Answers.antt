@@ -1,5 +1,4 @@
 use Rattle.hyperplonk_prepare.proofs.Computed.{fourteen}
-use borrow.Author.Rules.{rules}
 use Rattle.hyperplonk_prepare.proofs.needed.question_14.Goals as goal
 
 pub returns : goal.returns

@@ -1,10 +1,9 @@
-use Prim.Native.Nat.{ℕ, ◌+◌, ◌-◌, ◌<◌}
+use Prim.Native.Nat.{◌+◌, ◌<◌}
 use Rattle.expression.specs.Expr.{Expr}
 use Rattle.expression.specs.Flat.{body}
 use Rattle.preprocessor.proofs.ComposeWords as trees
 use Rattle.preprocessor.proofs.Lists as lists
 use Rattle.preprocessor.specs.ComposeWords.{constraints_from_words, num_constraints}
-use borrow.Author.Rules.{rules}
 use lib.ListN.{length, get_or}
 use mathlib.Core.Path.{refl}
 use native.Mathlib.Omega.{arith}

@@ -6,7 +6,6 @@ use Rattle.preprocessor.proofs.Parts as parts
 use lib.ListN.{length}
 use mathlib.Core.Path.{◌≡◌, ap}
 use native.Mathlib.Omega.{arith}
-use borrow.Author.Rules.{rules}
 use Rattle.preprocessor_compose.proofs.constraints.constraint.Goals as goal
 
 pub copy_expr-requires : goal.copy_expr-requires

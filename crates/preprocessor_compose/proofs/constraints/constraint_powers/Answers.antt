@@ -6,7 +6,6 @@ use Rattle.preprocessor.proofs.Lists as lists
 use Rattle.preprocessor.specs.ComposeWords.{constraints_from_words}
 use mathlib.Core.Path.{sym, ◌∙◌}
 use native.Mathlib.Omega.{arith}
-use borrow.Author.Rules.{rules}
 use Rattle.preprocessor_compose.proofs.constraints.constraint_powers.Goals as goal
 
 pub returns-then-n-eq0 : goal.returns-then-n-eq0

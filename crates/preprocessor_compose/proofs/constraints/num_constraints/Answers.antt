@@ -2,7 +2,6 @@ use Rattle.preprocessor.proofs.ComposeWords as trees
 use Rattle.preprocessor.proofs.Parts as parts
 use mathlib.Core.Path.{sym}
 use native.Mathlib.Omega.{arith}
-use borrow.Author.Rules.{rules}
 use Rattle.preprocessor_compose.proofs.constraints.num_constraints.Goals as goal
 
 pub returns-then-params-eq0 : goal.returns-then-params-eq0

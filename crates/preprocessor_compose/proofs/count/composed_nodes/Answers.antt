@@ -6,7 +6,6 @@ use Rattle.expression.specs.Flat.{largest_size}
 use Rattle.preprocessor.proofs.Counts as counts
 use Rattle.preprocessor.specs.Count.{list_nodes}
 use mathlib.Core.Path.{ap, ◌∙◌}
-use borrow.Author.Rules.{rules}
 use Rattle.preprocessor_compose.proofs.count.composed_nodes.Goals as goal
 
 one_more : (n : ℕ) → n ≤ 8 → Fits w64 (n + 1)

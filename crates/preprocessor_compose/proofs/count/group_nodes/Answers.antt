@@ -6,7 +6,6 @@ use Rattle.preprocessor.specs.ComposeWords.{input_sides, table_side}
 use Rattle.preprocessor.specs.Count.{nodes_in}
 use mir.Syntax.{w64}
 use mir.Val.{Fits}
-use borrow.Author.Rules.{rules}
 use mathlib.Core.Path.{refl}
 use native.Mathlib.Nat.{mul-le-mul}
 use native.Mathlib.Omega.{arith}

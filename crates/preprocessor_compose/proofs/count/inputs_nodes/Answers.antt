@@ -1,15 +1,12 @@
 use Rattle.lists.proofs.Runs as runs
-use Prim.Native.Nat.{ℕ, ◌+◌, ◌-◌, ◌≤◌, ◌<◌, min}
+use Prim.Native.Nat.{ℕ, ◌+◌, ◌<◌}
 use Rattle.expression.specs.Expr.{Expr}
-use Rattle.expression.specs.Flat.{largest_size}
 use Rattle.preprocessor.proofs.Counts as counts
 use Rattle.preprocessor.proofs.ComposeWords as trees
-use Rattle.preprocessor.specs.Count.{nodes_in}
 use Rattle.preprocessor.specs.ComposeWords.{input_side}
-use Rattle.lists.specs.Lists.{tabulate, total}
-use borrow.Author.Rules.{rules}
+use Rattle.lists.specs.Lists.{total}
 use lib.ListN.{length, take}
-use mathlib.Core.Path.{◌≡◌, sym, ap, ◌∙◌}
+use mathlib.Core.Path.{sym, ap, ◌∙◌}
 use native.Mathlib.Nat.{add-zero, add_assoc}
 use native.Mathlib.Omega.{arith}
 use Rattle.preprocessor_compose.proofs.count.inputs_nodes.Goals as goal

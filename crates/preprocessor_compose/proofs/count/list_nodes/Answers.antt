@@ -3,9 +3,8 @@ use Rattle.expression.specs.Flat.{largest_size}
 use Rattle.preprocessor.proofs.Counts as counts
 use Rattle.preprocessor.specs.Count.{list_nodes}
 use mathlib.Core.Path.{sym, ap, ◌∙◌}
-use native.Mathlib.Nat.{mul-le-mul_left, mul-one}
+use native.Mathlib.Nat.{mul-le-mul_left}
 use native.Mathlib.Omega.{arith}
-use borrow.Author.Rules.{rules}
 use Rattle.preprocessor_compose.proofs.count.list_nodes.Goals as goal
 
 pub returns-then-n-eq0 : goal.returns-then-n-eq0

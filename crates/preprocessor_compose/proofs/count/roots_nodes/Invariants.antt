@@ -1,16 +1,10 @@
-use Prim.Native.Nat.{ℕ, ◌+◌, ◌*◌, ◌-◌, ◌≤◌, min}
-use Rattle.expression.specs.Expr.{Expr}
+use Prim.Native.Nat.{◌+◌, ◌*◌, ◌-◌, ◌≤◌, min}
 use Rattle.expression.specs.Flat.{largest_size}
-use Rattle.expression.specs.Walks.{weight}
 use Rattle.expression.specs.Nodes.{expr_of}
-use Rattle.preprocessor.proofs.Counts as counts
-use Rattle.preprocessor.proofs.ComposeWords as trees
 use Rattle.preprocessor.specs.Count.{nodes_in}
 use Rattle.lists.specs.Lists.{tabulate}
-use borrow.Author.Rules.{rules}
-use lib.ListN.{length, get_or}
-use mathlib.Core.Path.{◌≡◌, ap, ◌∙◌}
-use native.Mathlib.Omega.{arith}
+use lib.ListN.{get_or}
+use mathlib.Core.Path.{◌≡◌}
 use Rattle.preprocessor_compose.proofs.count.roots_nodes.Given as goal
 
 abbrev pub invariant-loop-i : goal.invariant-loop-i

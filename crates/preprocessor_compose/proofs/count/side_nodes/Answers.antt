@@ -1,5 +1,4 @@
 use Rattle.preprocessor.proofs.Counts as counts
-use borrow.Author.Rules.{rules}
 use Rattle.preprocessor_compose.proofs.count.side_nodes.Goals as goal
 
 pub returns : goal.returns

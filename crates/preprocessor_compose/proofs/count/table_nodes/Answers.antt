@@ -1,6 +1,5 @@
 use Rattle.preprocessor.proofs.Counts as counts
 use Rattle.preprocessor.proofs.ComposeWords as trees
-use borrow.Author.Rules.{rules}
 use native.Mathlib.Omega.{arith}
 use Rattle.preprocessor_compose.proofs.count.table_nodes.Goals as goal
 

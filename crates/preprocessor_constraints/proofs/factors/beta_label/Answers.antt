@@ -1,7 +1,6 @@
 use Rattle.expression.proofs.Written as written
 use Rattle.expression.specs.Flat.{body}
 use native.Mathlib.Omega.{arith}
-use borrow.Author.Rules.{rules}
 use Rattle.preprocessor_constraints.proofs.factors.beta_label.Goals as goal
 
 pub push-x-requires : goal.push-x-requires

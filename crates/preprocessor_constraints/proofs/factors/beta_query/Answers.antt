@@ -1,7 +1,6 @@
 use Rattle.expression.proofs.Written as written
 use Rattle.expression.specs.Flat.{body}
 use native.Mathlib.Omega.{arith}
-use borrow.Author.Rules.{rules}
 use Rattle.preprocessor_constraints.proofs.factors.beta_query.Goals as goal
 
 pub query-x-requires : goal.query-x-requires

@@ -3,7 +3,6 @@ use Rattle.expression.specs.Flat.{body}
 use Rattle.preprocessor.proofs.Parts as parts
 use Rattle.preprocessor.specs.Compose.{identity_tree}
 use native.Mathlib.Omega.{arith}
-use borrow.Author.Rules.{rules}
 use Rattle.preprocessor_constraints.proofs.factors.identity_factor.Goals as goal
 
 pub overflow_mul-i : goal.overflow_mul-i

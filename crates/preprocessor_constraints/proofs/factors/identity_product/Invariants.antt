@@ -1,15 +1,11 @@
 use Prim.Native.Nat.{ℕ, ◌+◌, ◌*◌, ◌-◌, ◌≤◌}
-use Rattle.expression.specs.Expr.{Expr, product_of}
+use Rattle.expression.specs.Expr.{product_of}
 use Rattle.expression.specs.Written.{ExprWritten}
-use Rattle.preprocessor.proofs.Lists as lists
-use Rattle.preprocessor.proofs.Parts as parts
 use Rattle.preprocessor.specs.Compose.{identity_tree}
 use Rattle.lists.specs.Lists.{tabulate}
-use borrow.Author.Rules.{rules}
 use lib.ListN.{length}
 use mathlib.Core.List.{List}
-use mathlib.Core.Path.{◌≡◌, refl}
-use native.Mathlib.Omega.{arith}
+use mathlib.Core.Path.{◌≡◌}
 use Rattle.preprocessor_constraints.proofs.factors.identity_product.Given as goal
 
 abbrev pub invariant-loop-j : goal.invariant-loop-j

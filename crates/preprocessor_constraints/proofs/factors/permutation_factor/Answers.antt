@@ -2,7 +2,6 @@ use Rattle.expression.proofs.Written as written
 use Rattle.expression.specs.Flat.{body}
 use Rattle.preprocessor.specs.Compose.{permutation_tree}
 use native.Mathlib.Omega.{arith}
-use borrow.Author.Rules.{rules}
 use Rattle.preprocessor_constraints.proofs.factors.permutation_factor.Goals as goal
 
 pub beta_query-label-requires : goal.beta_query-label-requires

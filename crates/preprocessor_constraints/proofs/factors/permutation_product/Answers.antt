@@ -1,14 +1,9 @@
-use Prim.Native.Nat.{ℕ, ◌+◌, ◌*◌, ◌-◌, ◌≤◌}
-use Rattle.expression.specs.Expr.{Expr, product_of}
-use Rattle.expression.specs.Written.{ExprWritten}
+use Prim.Native.Nat.{ℕ, ◌+◌}
+use Rattle.expression.specs.Expr.{Expr}
 use Rattle.preprocessor.proofs.Lists as lists
 use Rattle.preprocessor.proofs.Parts as parts
 use Rattle.preprocessor.specs.Compose.{permutation_tree}
-use Rattle.lists.specs.Lists.{tabulate}
-use borrow.Author.Rules.{rules}
-use lib.ListN.{length}
-use mathlib.Core.List.{List}
-use mathlib.Core.Path.{◌≡◌, refl}
+use mathlib.Core.Path.{refl}
 use native.Mathlib.Omega.{arith}
 use Rattle.preprocessor_constraints.proofs.factors.permutation_product.Goals as goal
 

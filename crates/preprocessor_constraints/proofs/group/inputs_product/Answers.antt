@@ -1,15 +1,10 @@
-use Prim.Native.Nat.{ℕ, ◌+◌, ◌-◌, ◌≤◌}
-use Rattle.expression.specs.Expr.{Expr, product_from}
-use Rattle.expression.specs.Flat.{body, size}
-use Rattle.expression.specs.Written.{ExprWritten}
-use Rattle.lists.specs.Lists.{tabulate}
+use Prim.Native.Nat.{ℕ, ◌+◌}
+use Rattle.expression.specs.Expr.{Expr}
+use Rattle.expression.specs.Flat.{body}
 use Rattle.preprocessor.proofs.GroupWritten as groups
 use Rattle.preprocessor.specs.ComposeWords.{input_side}
-use borrow.Author.Rules.{rules}
 use lib.IntN.{pos}
-use lib.ListN.{length}
-use mathlib.Core.List.{List}
-use mathlib.Core.Path.{◌≡◌, refl}
+use mathlib.Core.Path.{refl}
 use native.Mathlib.Omega.{arith}
 use Rattle.preprocessor_constraints.proofs.group.inputs_product.Goals as goal
 

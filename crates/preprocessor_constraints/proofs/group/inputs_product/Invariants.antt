@@ -1,16 +1,13 @@
 use Prim.Native.Nat.{ℕ, ◌+◌, ◌-◌, ◌≤◌}
 use Rattle.expression.specs.Expr.{Expr, product_from}
-use Rattle.expression.specs.Flat.{body, size}
+use Rattle.expression.specs.Flat.{size}
 use Rattle.expression.specs.Written.{ExprWritten}
 use Rattle.lists.specs.Lists.{tabulate}
-use Rattle.preprocessor.proofs.GroupWritten as groups
 use Rattle.preprocessor.specs.ComposeWords.{input_side}
-use borrow.Author.Rules.{rules}
 use lib.IntN.{pos}
 use lib.ListN.{length}
 use mathlib.Core.List.{List}
-use mathlib.Core.Path.{◌≡◌, refl}
-use native.Mathlib.Omega.{arith}
+use mathlib.Core.Path.{◌≡◌}
 use Rattle.preprocessor_constraints.proofs.group.inputs_product.Given as goal
 
 abbrev pub invariant-loop-i : goal.invariant-loop-i

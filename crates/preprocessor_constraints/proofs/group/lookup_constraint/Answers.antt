@@ -1,5 +1,4 @@
 use Rattle.preprocessor.proofs.GroupWritten as groups
-use borrow.Author.Rules.{rules}
 use native.Mathlib.Omega.{arith}
 use Rattle.preprocessor_constraints.proofs.group.lookup_constraint.Goals as goal
 

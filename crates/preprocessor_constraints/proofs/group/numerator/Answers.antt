@@ -2,7 +2,6 @@ use Prim.Native.Nat.{◌+◌, ◌≤◌}
 use Rattle.expression.proofs.Written as written
 use Rattle.preprocessor.proofs.GroupWritten as groups
 use Rattle.preprocessor.specs.ComposeWords.{input_side, table_side}
-use borrow.Author.Rules.{rules}
 use native.Mathlib.Omega.{arith}
 use Rattle.preprocessor_constraints.proofs.group.numerator.Goals as goal
 

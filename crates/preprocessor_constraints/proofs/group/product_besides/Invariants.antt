@@ -1,17 +1,13 @@
 use Prim.Native.Nat.{ℕ, ◌+◌, ◌-◌, ◌≤◌}
-use Rattle.expression.proofs.Written as written
-use Rattle.expression.specs.Expr.{Expr, product_of}
+use Rattle.expression.specs.Expr.{product_of}
 use Rattle.expression.specs.Flat.{size}
 use Rattle.expression.specs.Written.{ExprWritten}
 use Rattle.lists.specs.Lists.{tabulate}
 use Rattle.preprocessor.proofs.GroupWritten as groups
-use Rattle.preprocessor.proofs.Lists as lists
 use Rattle.preprocessor.specs.ComposeWords.{input_side}
-use borrow.Author.Rules.{rules}
 use lib.ListN.{length}
 use mathlib.Core.List.{List}
-use mathlib.Core.Path.{◌≡◌, refl, sym, ap}
-use native.Mathlib.Omega.{arith}
+use mathlib.Core.Path.{◌≡◌}
 use Rattle.preprocessor_constraints.proofs.group.product_besides.Given as goal
 
 abbrev pub invariant-loop-i : goal.invariant-loop-i

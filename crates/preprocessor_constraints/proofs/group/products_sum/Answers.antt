@@ -1,16 +1,12 @@
-use Prim.Native.Nat.{ℕ, ◌+◌, ◌-◌, ◌≤◌}
-use Rattle.backend.specs.Constraints.{omit_one, sum_of}
+use Prim.Native.Nat.{ℕ, ◌+◌}
+use Rattle.backend.specs.Constraints.{sum_of}
 use Rattle.expression.proofs.Written as written
-use Rattle.expression.specs.Expr.{Expr, product_of}
+use Rattle.expression.specs.Expr.{Expr}
 use Rattle.expression.specs.Flat.{size}
-use Rattle.expression.specs.Written.{ExprWritten}
-use Rattle.lists.specs.Lists.{tabulate}
 use Rattle.preprocessor.proofs.GroupWritten as groups
-use Rattle.preprocessor.specs.ComposeWords.{input_side, input_sides}
-use borrow.Author.Rules.{rules}
-use lib.ListN.{length, get_or}
-use mathlib.Core.List.{List, []}
-use mathlib.Core.Path.{◌≡◌, refl, ap}
+use Rattle.preprocessor.specs.ComposeWords.{input_side}
+use mathlib.Core.List.{List}
+use mathlib.Core.Path.{refl, ap}
 use native.Mathlib.Omega.{arith}
 use Rattle.preprocessor_constraints.proofs.group.products_sum.Invariants.{but}
 use Rattle.preprocessor_constraints.proofs.group.products_sum.Goals as goal

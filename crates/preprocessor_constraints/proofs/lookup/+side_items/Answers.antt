@@ -1,10 +1,9 @@
-use Prim.Native.Nat.{ℕ, ◌+◌, ◌*◌, ◌-◌, ◌<◌}
+use Prim.Native.Nat.{◌+◌, ◌*◌}
 use Rattle.expression.specs.Flat.{body}
 use Rattle.expression.specs.Nodes.{expr_of}
 use Rattle.preprocessor.proofs.ComposeWords as trees
 use Rattle.preprocessor.proofs.Lists as lists
 use Rattle.preprocessor.specs.ComposeWords.{side_exprs}
-use borrow.Author.Rules.{rules}
 use native.Mathlib.Omega.{arith}
 use Rattle.preprocessor_constraints.proofs.lookup.+side_items.Goals as goal
 

@@ -3,7 +3,6 @@ use Rattle.expression.specs.Flat.{size}
 use Rattle.preprocessor.proofs.ComposeWords as trees
 use mathlib.Core.Path.{ap}
 use native.Mathlib.Omega.{arith}
-use borrow.Author.Rules.{rules}
 use Rattle.preprocessor_constraints.proofs.lookup.input_side.Goals as goal
 
 pub overflow_mul-start : goal.overflow_mul-start

@@ -3,7 +3,6 @@ use Rattle.expression.specs.Flat.{body}
 use Rattle.preprocessor.proofs.ComposeWords as trees
 use Rattle.preprocessor.specs.ComposeWords.{side_tree}
 use native.Mathlib.Omega.{arith}
-use borrow.Author.Rules.{rules}
 use Rattle.preprocessor_constraints.proofs.lookup.side.Goals as goal
 
 pub side_powers-x-requires : goal.side_powers-x-requires

@@ -8,7 +8,6 @@ use Rattle.preprocessor.specs.ComposeWords.{side_exprs}
 use lib.ListN.{get_or}
 use mathlib.Core.Path.{◌≡◌, ap, ◌∙◌}
 use native.Mathlib.Omega.{arith}
-use borrow.Author.Rules.{rules}
 use Rattle.preprocessor_constraints.proofs.lookup.side_powers.Goals as goal
 
 zeroth : (s : ℕ) → s ≡ s + 0 * 2

@@ -1,8 +1,7 @@
 use Rattle.lists.proofs.Parts.{total_next}
 use Rattle.lists.proofs.Runs as runs
-use Prim.Native.Nat.{ℕ, suc, ◌≤◌, ◌-◌}
+use Prim.Native.Nat.{ℕ, suc}
 use Rattle.lists.specs.Lists.{total}
-use borrow.Author.Rules.{rules}
 use lib.ListN.{take}
 use mathlib.Core.Path.{◌≡◌, sym, ap, ◌∙◌}
 use native.Mathlib.Omega.{arith}

@@ -1,6 +1,5 @@
 use Rattle.preprocessor.proofs.Parts as parts
 use native.Mathlib.Omega.{arith}
-use borrow.Author.Rules.{rules}
 use Rattle.preprocessor_constraints.proofs.permutation.next_z.Goals as goal
 
 pub returns-then-i-params : goal.returns-then-i-params

@@ -1,6 +1,5 @@
 use Rattle.preprocessor.proofs.Parts as parts
 use native.Mathlib.Omega.{arith}
-use borrow.Author.Rules.{rules}
 use Rattle.preprocessor_constraints.proofs.permutation.part_constraint.Goals as goal
 
 pub z_identities-left-requires : goal.z_identities-left-requires

@@ -1,7 +1,6 @@
 use Rattle.expression.specs.Flat.{body}
 use Rattle.preprocessor.proofs.Parts as parts
 use native.Mathlib.Omega.{arith}
-use borrow.Author.Rules.{rules}
 use Rattle.preprocessor_constraints.proofs.permutation.start_constraint.Goals as goal
 
 pub push-one-requires : goal.push-one-requires

@@ -1,7 +1,6 @@
 use Rattle.expression.proofs.Written as written
 use Rattle.expression.specs.Flat.{body}
 use native.Mathlib.Omega.{arith}
-use borrow.Author.Rules.{rules}
 use Rattle.preprocessor_constraints.proofs.permutation.z_identities.Goals as goal
 
 pub identity_product-p-requires : goal.identity_product-p-requires

@@ -1,7 +1,6 @@
 use Rattle.expression.proofs.Written as written
 use Rattle.preprocessor.proofs.Parts as parts
 use native.Mathlib.Omega.{arith}
-use borrow.Author.Rules.{rules}
 use Rattle.preprocessor_constraints.proofs.permutation.z_permutations.Goals as goal
 
 pub permutation_product-p-requires : goal.permutation_product-p-requires

@@ -1,10 +1,6 @@
 -- `clear` meets its contract: the words are written one after another.
-use borrow.Author.Rules.{rules}
 use mathlib.Core.Path.{refl}
-use Prim.Native.Nat.{◌-◌}
-use native.Mathlib.Omega.{arith}
-use lib.ListN.{length, length-set}
-use Rattle.lists.proofs.Fill.{Filled, fill_start, fill_more, fill_end, fill_zero}
+use Rattle.lists.proofs.Fill.{fill_start, fill_more, fill_end, fill_zero}
 use Rattle.prover_instance.proofs.blank_column.clear.Goals as goal
 
 pub loop-i-init : goal.loop-i-init

@@ -1,9 +1,5 @@
-use borrow.Author.Rules.{rules}
-use mathlib.Core.Path.{refl}
 use Prim.Native.Nat.{◌-◌}
-use native.Mathlib.Omega.{arith}
-use lib.ListN.{length, length-set}
-use Rattle.lists.proofs.Fill.{Filled, fill_start, fill_more, fill_end, fill_zero}
+use Rattle.lists.proofs.Fill.{Filled}
 use Rattle.prover_instance.proofs.blank_column.clear.Given as goal
 
 abbrev pub invariant-loop-i : goal.invariant-loop-i

@@ -1,30 +1,14 @@
 -- `count_inputs` meets its contract: the search from the last row down finds the last equal row, and each input found is counted. The
 -- input and the table stand before the counts and so stay as they are.
-use borrow.Author.Rules.{rules}
-use mathlib.Core.Logic.{⊎_elim}
 use mathlib.Core.Path.{◌≡◌, refl, sym, subst, ◌∙◌}
-use mathlib.Core.Option.{Option, some}
-use Prim.Native.Nat.{ℕ, ◌+◌, ◌-◌, ◌≤◌, ◌<◌}
+use Prim.Native.Nat.{ℕ, ◌+◌, ◌-◌, ◌<◌}
 use native.Mathlib.Omega.{arith}
 use lib.ListN.{get_or}
 use Rattle.field.specs.Prime.{P}
 use Rattle.field.specs.Field.{𝔾}
-use Rattle.prover.specs.declared.Found.{Found}
-use Rattle.prover.specs.Words.{elements_from}
-use Rattle.prover.proofs.Search.{last_row, found_row, row_below}
+use Rattle.prover.proofs.Search.{row_below}
 use Rattle.prover.proofs.Answers.{found_at, found_nothing}
-use Rattle.prover.proofs.Counts.{row_for}
-use Rattle.prover_lookup.proofs.m.Added.{
-  Added,
-  added_start,
-  added_le,
-  added_more,
-  added_before,
-  added_rows,
-  added_cleared,
-  added_true,
-  added_false,
-}
+use Rattle.prover_lookup.proofs.m.Added.{added_start, added_le, added_more, added_before, added_rows, added_cleared, added_true, added_false}
 use Rattle.prover_lookup.proofs.m.Down.{place_all, place_none, place_hit, place_miss}
 use Rattle.prover_lookup.proofs.m.count_inputs.Goals as goal
 use Rattle.prover_lookup.proofs.m.count_inputs.Goals.{then-at-table, else-at-table+then-columns-at}
@@ -78,49 +62,67 @@ search-preserved c =
     )
 
 pub overflow_add-columns : goal.overflow_add-columns
-overflow_add-columns c = omega (arith, (row_below _ _ _ _ ((found_at 𝔾 _ _ _ _ (sym ((let l = c.search in
-    let a = c.args in
-    let d = c.loop-i.columns in
-    let v = get_or d (a.input + c.loop-i.i) 0 in
-    elim c.if-at-table.branch [ then-at-table w ↦ w.found-is ∙ sym (l.invariant.2 ∙ place_none d a.table v l.at l.invariant.0 w.if-at-table.true) | else-at-table+then-columns-at w ↦ w.found-is ∙ sym (l.invariant.2 ∙ place_hit d a.table v l.at l.invariant.0 w.if-at-table.false w.if-columns-at.true) ])) ∙ c.in-At.is)))), c.requires.2)
+overflow_add-columns c = omega (
+  arith,
+  (row_below _ _ _ _ ((found_at 𝔾 _ _ _ _ (sym ((let l = c.search in
+      let a = c.args in
+      let d = c.loop-i.columns in
+      let v = get_or d (a.input + c.loop-i.i) 0 in
+      elim c.if-at-table.branch [ then-at-table w ↦ w.found-is ∙ sym (l.invariant.2 ∙ place_none d a.table v l.at l.invariant.0 w.if-at-table.true) | else-at-table+then-columns-at w ↦ w.found-is ∙ sym (l.invariant.2 ∙ place_hit d a.table v l.at l.invariant.0 w.if-at-table.false w.if-columns-at.true) ])) ∙ c.in-At.is)))),
+  c.requires.2,
+)
 
 pub offset_bounds-columns-m : goal.offset_bounds-columns-m
-offset_bounds-columns-m c = omega (arith, (row_below _ _ _ _ ((found_at 𝔾 _ _ _ _ (sym ((let l = c.search in
-    let a = c.args in
-    let d = c.loop-i.columns in
-    let v = get_or d (a.input + c.loop-i.i) 0 in
-    elim c.if-at-table.branch [ then-at-table w ↦ w.found-is ∙ sym (l.invariant.2 ∙ place_none d a.table v l.at l.invariant.0 w.if-at-table.true) | else-at-table+then-columns-at w ↦ w.found-is ∙ sym (l.invariant.2 ∙ place_hit d a.table v l.at l.invariant.0 w.if-at-table.false w.if-columns-at.true) ])) ∙ c.in-At.is)))), c.requires.2)
+offset_bounds-columns-m c = omega (
+  arith,
+  (row_below _ _ _ _ ((found_at 𝔾 _ _ _ _ (sym ((let l = c.search in
+      let a = c.args in
+      let d = c.loop-i.columns in
+      let v = get_or d (a.input + c.loop-i.i) 0 in
+      elim c.if-at-table.branch [ then-at-table w ↦ w.found-is ∙ sym (l.invariant.2 ∙ place_none d a.table v l.at l.invariant.0 w.if-at-table.true) | else-at-table+then-columns-at w ↦ w.found-is ∙ sym (l.invariant.2 ∙ place_hit d a.table v l.at l.invariant.0 w.if-at-table.false w.if-columns-at.true) ])) ∙ c.in-At.is)))),
+  c.requires.2,
+)
 
 pub bounds-columns-m : goal.bounds-columns-m
-bounds-columns-m c = omega (arith, (row_below _ _ _ _ ((found_at 𝔾 _ _ _ _ (sym ((let l = c.search in
-    let a = c.args in
-    let d = c.loop-i.columns in
-    let v = get_or d (a.input + c.loop-i.i) 0 in
-    elim c.if-at-table.branch [ then-at-table w ↦ w.found-is ∙ sym (l.invariant.2 ∙ place_none d a.table v l.at l.invariant.0 w.if-at-table.true) | else-at-table+then-columns-at w ↦ w.found-is ∙ sym (l.invariant.2 ∙ place_hit d a.table v l.at l.invariant.0 w.if-at-table.false w.if-columns-at.true) ])) ∙ c.in-At.is)))), c.requires.2, c.loop-i.invariant.size)
+bounds-columns-m c = omega (
+  arith,
+  (row_below _ _ _ _ ((found_at 𝔾 _ _ _ _ (sym ((let l = c.search in
+      let a = c.args in
+      let d = c.loop-i.columns in
+      let v = get_or d (a.input + c.loop-i.i) 0 in
+      elim c.if-at-table.branch [ then-at-table w ↦ w.found-is ∙ sym (l.invariant.2 ∙ place_none d a.table v l.at l.invariant.0 w.if-at-table.true) | else-at-table+then-columns-at w ↦ w.found-is ∙ sym (l.invariant.2 ∙ place_hit d a.table v l.at l.invariant.0 w.if-at-table.false w.if-columns-at.true) ])) ∙ c.in-At.is)))),
+  c.requires.2,
+  c.loop-i.invariant.size,
+)
 
 pub overflow_add-columns-in-At : goal.overflow_add-columns-in-At
 overflow_add-columns-in-At c =
     omega (
       arith,
       added_le _ _ _ _ c.requires.2 _ _ c.loop-i.invariant _ _ refl ((row_below _ _ _ _ ((found_at 𝔾 _ _ _ _ (sym ((let l = c.search in
-    let a = c.args in
-    let d = c.loop-i.columns in
-    let v = get_or d (a.input + c.loop-i.i) 0 in
-    elim c.if-at-table.branch [ then-at-table w ↦ w.found-is ∙ sym (l.invariant.2 ∙ place_none d a.table v l.at l.invariant.0 w.if-at-table.true) | else-at-table+then-columns-at w ↦ w.found-is ∙ sym (l.invariant.2 ∙ place_hit d a.table v l.at l.invariant.0 w.if-at-table.false w.if-columns-at.true) ])) ∙ c.in-At.is))))),
+          let a = c.args in
+          let d = c.loop-i.columns in
+          let v = get_or d (a.input + c.loop-i.i) 0 in
+          elim c.if-at-table.branch [ then-at-table w ↦ w.found-is ∙ sym (l.invariant.2 ∙ place_none d a.table v l.at l.invariant.0 w.if-at-table.true) | else-at-table+then-columns-at w ↦ w.found-is ∙ sym (l.invariant.2 ∙ place_hit d a.table v l.at l.invariant.0 w.if-at-table.false w.if-columns-at.true) ])) ∙ c.in-At.is))))),
       c.loop-i-test.true,
       c.requires.5 _ ((row_below _ _ _ _ ((found_at 𝔾 _ _ _ _ (sym ((let l = c.search in
-    let a = c.args in
-    let d = c.loop-i.columns in
-    let v = get_or d (a.input + c.loop-i.i) 0 in
-    elim c.if-at-table.branch [ then-at-table w ↦ w.found-is ∙ sym (l.invariant.2 ∙ place_none d a.table v l.at l.invariant.0 w.if-at-table.true) | else-at-table+then-columns-at w ↦ w.found-is ∙ sym (l.invariant.2 ∙ place_hit d a.table v l.at l.invariant.0 w.if-at-table.false w.if-columns-at.true) ])) ∙ c.in-At.is))))),
+          let a = c.args in
+          let d = c.loop-i.columns in
+          let v = get_or d (a.input + c.loop-i.i) 0 in
+          elim c.if-at-table.branch [ then-at-table w ↦ w.found-is ∙ sym (l.invariant.2 ∙ place_none d a.table v l.at l.invariant.0 w.if-at-table.true) | else-at-table+then-columns-at w ↦ w.found-is ∙ sym (l.invariant.2 ∙ place_hit d a.table v l.at l.invariant.0 w.if-at-table.false w.if-columns-at.true) ])) ∙ c.in-At.is))))),
     )
 
 pub bounds-columns-m-in-At : goal.bounds-columns-m-in-At
-bounds-columns-m-in-At c = omega (arith, (row_below _ _ _ _ ((found_at 𝔾 _ _ _ _ (sym ((let l = c.search in
-    let a = c.args in
-    let d = c.loop-i.columns in
-    let v = get_or d (a.input + c.loop-i.i) 0 in
-    elim c.if-at-table.branch [ then-at-table w ↦ w.found-is ∙ sym (l.invariant.2 ∙ place_none d a.table v l.at l.invariant.0 w.if-at-table.true) | else-at-table+then-columns-at w ↦ w.found-is ∙ sym (l.invariant.2 ∙ place_hit d a.table v l.at l.invariant.0 w.if-at-table.false w.if-columns-at.true) ])) ∙ c.in-At.is)))), c.requires.2, c.loop-i.invariant.size)
+bounds-columns-m-in-At c = omega (
+  arith,
+  (row_below _ _ _ _ ((found_at 𝔾 _ _ _ _ (sym ((let l = c.search in
+      let a = c.args in
+      let d = c.loop-i.columns in
+      let v = get_or d (a.input + c.loop-i.i) 0 in
+      elim c.if-at-table.branch [ then-at-table w ↦ w.found-is ∙ sym (l.invariant.2 ∙ place_none d a.table v l.at l.invariant.0 w.if-at-table.true) | else-at-table+then-columns-at w ↦ w.found-is ∙ sym (l.invariant.2 ∙ place_hit d a.table v l.at l.invariant.0 w.if-at-table.false w.if-columns-at.true) ])) ∙ c.in-At.is)))),
+  c.requires.2,
+  c.loop-i.invariant.size,
+)
 
 pub clear-requires : goal.clear-requires
 clear-requires c = omega (arith, c.requires.2, c.loop-i.invariant.size)

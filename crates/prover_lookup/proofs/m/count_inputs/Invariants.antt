@@ -1,29 +1,10 @@
-use borrow.Author.Rules.{rules}
-use mathlib.Core.Logic.{⊎_elim}
-use mathlib.Core.Path.{◌≡◌, refl, sym, subst, ◌∙◌}
-use mathlib.Core.Option.{Option, some}
-use Prim.Native.Nat.{ℕ, ◌+◌, ◌-◌, ◌≤◌, ◌<◌}
-use native.Mathlib.Omega.{arith}
+use mathlib.Core.Path.{◌≡◌}
+use Prim.Native.Nat.{◌+◌, ◌-◌, ◌≤◌}
 use lib.ListN.{get_or}
-use Rattle.field.specs.Prime.{P}
-use Rattle.field.specs.Field.{𝔾}
-use Rattle.prover.specs.declared.Found.{Found}
 use Rattle.prover.specs.Words.{elements_from}
-use Rattle.prover.proofs.Search.{last_row, found_row, row_below}
-use Rattle.prover.proofs.Answers.{found_at, found_nothing}
+use Rattle.prover.proofs.Search.{found_row}
 use Rattle.prover.proofs.Counts.{row_for}
-use Rattle.prover_lookup.proofs.m.Added.{
-  Added,
-  added_start,
-  added_le,
-  added_more,
-  added_before,
-  added_rows,
-  added_cleared,
-  added_true,
-  added_false,
-}
-use Rattle.prover_lookup.proofs.m.Down.{place_all, place_none, place_hit, place_miss}
+use Rattle.prover_lookup.proofs.m.Added.{Added}
 use Rattle.prover_lookup.proofs.m.count_inputs.Given as goal
 
 abbrev pub invariant-search : goal.invariant-search

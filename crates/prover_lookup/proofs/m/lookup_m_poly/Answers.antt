@@ -1,27 +1,9 @@
 -- `lookup_m_poly` meets its contract: after i turns the first i members are counted, all of them covered.
-use borrow.Author.Rules.{rules}
-use borrow.Author.Tests.{not-true, not-false}
-use mathlib.Core.Path.{◌≡◌}
-use mathlib.Core.List.{List}
-use Prim.Native.Nat.{ℕ, ◌+◌, ◌-◌, ◌*◌, ◌≤◌}
+use Prim.Native.Nat.{◌+◌}
 use native.Mathlib.Nat.{zero-mul}
 use native.Mathlib.Omega.{arith}
-use lib.ListN.{length, replicate}
-use Rattle.lists.specs.Lists.{write_at}
 use Rattle.prover_lookup.proofs.Places.{next_input}
-use Rattle.prover_lookup.proofs.m.Group.{
-  GroupCounted,
-  group_start,
-  group_done,
-  group_more,
-  group_stop,
-  group_stop_size,
-  member_there,
-  table_there,
-  member_small,
-  table_small,
-  member_room,
-}
+use Rattle.prover_lookup.proofs.m.Group.{group_start, group_done, group_more, group_stop, group_stop_size, member_there, table_there, member_small, table_small, member_room}
 use Rattle.prover_lookup.proofs.m.Searches.{by_searches}
 use Rattle.prover.specs.Words.{elements_from}
 use Rattle.prover_lookup.specs.Lookups.{inputs_from}
@@ -31,11 +13,10 @@ pub overflow_add-table : goal.overflow_add-table
 overflow_add-table c = omega (arith, c.requires.0, c.requires.1)
 
 pub loop-i-init : goal.loop-i-init
-loop-i-init c =
-    (
-      omega (arith, zero-mul c.args.rows),
-      λ d h e. group_start d _ _ _ _ c.requires.0 h _ e,
-    )
+loop-i-init c = (
+  omega (arith, zero-mul c.args.rows),
+  λ d h e. group_start d _ _ _ _ c.requires.0 h _ e,
+)
 
 pub count_inputs-covered-requires : goal.count_inputs-covered-requires
 count_inputs-covered-requires c =

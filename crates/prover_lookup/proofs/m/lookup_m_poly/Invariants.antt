@@ -1,27 +1,9 @@
-use borrow.Author.Rules.{rules}
-use borrow.Author.Tests.{not-true, not-false}
 use mathlib.Core.Path.{◌≡◌}
 use mathlib.Core.List.{List}
 use Prim.Native.Nat.{ℕ, ◌+◌, ◌-◌, ◌*◌, ◌≤◌}
-use native.Mathlib.Nat.{zero-mul}
-use native.Mathlib.Omega.{arith}
 use lib.ListN.{length, replicate}
 use Rattle.lists.specs.Lists.{write_at}
-use Rattle.prover_lookup.proofs.Places.{next_input}
-use Rattle.prover_lookup.proofs.m.Group.{
-  GroupCounted,
-  group_start,
-  group_done,
-  group_more,
-  group_stop,
-  group_stop_size,
-  member_there,
-  table_there,
-  member_small,
-  table_small,
-  member_room,
-}
-use Rattle.prover_lookup.proofs.m.Searches.{by_searches}
+use Rattle.prover_lookup.proofs.m.Group.{GroupCounted}
 use Rattle.prover_lookup.proofs.m.lookup_m_poly.Given as goal
 
 abbrev pub invariant-loop-i : goal.invariant-loop-i

@@ -1,29 +1,14 @@
 -- `m_column` meets its contract: the search from the last row down finds the last equal row, and each input found is counted.
-use borrow.Author.Rules.{rules}
-use mathlib.Core.Logic.{⊎_elim}
-use mathlib.Core.Path.{◌≡◌, refl, sym, ◌∙◌}
-use mathlib.Core.List.{List}
-use mathlib.Core.Option.{Option, some}
-use Prim.Native.Nat.{ℕ, ◌+◌, ◌-◌, ◌≤◌, ◌<◌}
+use mathlib.Core.Path.{refl, sym, ◌∙◌}
+use Prim.Native.Nat.{◌+◌, ◌-◌}
 use native.Mathlib.Nat.{zero-add}
 use native.Mathlib.Omega.{arith}
-use lib.ListN.{length, get_or, replicate, length-set}
-use Rattle.lists.specs.Lists.{write_at}
+use lib.ListN.{length-set}
 use Rattle.field.specs.Field.{𝔾}
-use Rattle.prover.specs.declared.Found.{Found}
 use Rattle.prover.specs.Words.{elements}
-use Rattle.prover.proofs.Search.{last_row, found_row, row_below}
+use Rattle.prover.proofs.Search.{row_below}
 use Rattle.prover.proofs.Answers.{found_at, found_nothing, by_search}
-use Rattle.prover.proofs.Counts.{
-  Counted,
-  counted_start,
-  counted_le,
-  counted_more,
-  counted_cleared,
-  row_for,
-  answer_true,
-  answer_false,
-}
+use Rattle.prover.proofs.Counts.{counted_start, counted_le, counted_more, counted_cleared, answer_true, answer_false}
 use Rattle.prover_lookup.proofs.m.Down.{none_seen, all_seen, next_hit, next_miss}
 use Rattle.prover_lookup.proofs.m.m_column.Goals as goal
 use Rattle.prover_lookup.proofs.m.m_column.Goals.{then-seen-rows, else-seen-rows+then-table-j}
@@ -36,8 +21,7 @@ search-init c = (omega arith, none_seen _ _ _)
 
 pub search-preserved : goal.search-preserved
 search-preserved c =
-    let l = c.search in
-    (
+    let l = c.search in (
       omega arith,
       l.invariant.1
           ∙ next_miss _ _ _ l.seen l.invariant.0 c.if-seen-rows.false (c.requires.4 (c.args.rows - (l.seen + 1)) (omega (arith, l.invariant.0, c.if-seen-rows.false)))
@@ -45,26 +29,42 @@ search-preserved c =
     )
 
 pub offset_bounds-m-row : goal.offset_bounds-m-row
-offset_bounds-m-row c = omega (arith, (row_below _ _ _ _ ((found_at 𝔾 _ _ _ _ (sym ((let l = c.search in
-    elim c.if-seen-rows.branch [ then-seen-rows w ↦ w.found-is ∙ sym (l.invariant.1 ∙ all_seen _ _ _ l.seen w.if-seen-rows.true) | else-seen-rows+then-table-j w ↦ w.found-is ∙ sym (l.invariant.1 ∙ next_hit _ _ _ l.seen l.invariant.0 w.if-seen-rows.false w.if-table-j.true) ])) ∙ c.in-At.is)))), c.requires.2)
+offset_bounds-m-row c = omega (
+  arith,
+  (row_below _ _ _ _ ((found_at 𝔾 _ _ _ _ (sym ((let l = c.search in
+      elim c.if-seen-rows.branch [ then-seen-rows w ↦ w.found-is ∙ sym (l.invariant.1 ∙ all_seen _ _ _ l.seen w.if-seen-rows.true) | else-seen-rows+then-table-j w ↦ w.found-is ∙ sym (l.invariant.1 ∙ next_hit _ _ _ l.seen l.invariant.0 w.if-seen-rows.false w.if-table-j.true) ])) ∙ c.in-At.is)))),
+  c.requires.2,
+)
 
 pub bounds-m-row : goal.bounds-m-row
-bounds-m-row c = omega (arith, (row_below _ _ _ _ ((found_at 𝔾 _ _ _ _ (sym ((let l = c.search in
-    elim c.if-seen-rows.branch [ then-seen-rows w ↦ w.found-is ∙ sym (l.invariant.1 ∙ all_seen _ _ _ l.seen w.if-seen-rows.true) | else-seen-rows+then-table-j w ↦ w.found-is ∙ sym (l.invariant.1 ∙ next_hit _ _ _ l.seen l.invariant.0 w.if-seen-rows.false w.if-table-j.true) ])) ∙ c.in-At.is)))), c.requires.2, c.loop-i.invariant.0, c.clear.auto.columns)
+bounds-m-row c = omega (
+  arith,
+  (row_below _ _ _ _ ((found_at 𝔾 _ _ _ _ (sym ((let l = c.search in
+      elim c.if-seen-rows.branch [ then-seen-rows w ↦ w.found-is ∙ sym (l.invariant.1 ∙ all_seen _ _ _ l.seen w.if-seen-rows.true) | else-seen-rows+then-table-j w ↦ w.found-is ∙ sym (l.invariant.1 ∙ next_hit _ _ _ l.seen l.invariant.0 w.if-seen-rows.false w.if-table-j.true) ])) ∙ c.in-At.is)))),
+  c.requires.2,
+  c.loop-i.invariant.0,
+  c.clear.auto.columns,
+)
 
 pub overflow_add-m : goal.overflow_add-m
 overflow_add-m c =
     omega (
       arith,
       counted_le _ _ _ _ (omega (arith, c.requires.2)) _ _ ((c.loop-i.invariant.2 c.args.m.now (omega (arith, c.requires.2)) c.clear.ensures)) _ _ (sym (zero-add _)) ((row_below _ _ _ _ ((found_at 𝔾 _ _ _ _ (sym ((let l = c.search in
-    elim c.if-seen-rows.branch [ then-seen-rows w ↦ w.found-is ∙ sym (l.invariant.1 ∙ all_seen _ _ _ l.seen w.if-seen-rows.true) | else-seen-rows+then-table-j w ↦ w.found-is ∙ sym (l.invariant.1 ∙ next_hit _ _ _ l.seen l.invariant.0 w.if-seen-rows.false w.if-table-j.true) ])) ∙ c.in-At.is))))),
+          elim c.if-seen-rows.branch [ then-seen-rows w ↦ w.found-is ∙ sym (l.invariant.1 ∙ all_seen _ _ _ l.seen w.if-seen-rows.true) | else-seen-rows+then-table-j w ↦ w.found-is ∙ sym (l.invariant.1 ∙ next_hit _ _ _ l.seen l.invariant.0 w.if-seen-rows.false w.if-table-j.true) ])) ∙ c.in-At.is))))),
       c.loop-i-test.true,
       c.ranges.rows,
     )
 
 pub bounds-m-row-in-At : goal.bounds-m-row-in-At
-bounds-m-row-in-At c = omega (arith, (row_below _ _ _ _ ((found_at 𝔾 _ _ _ _ (sym ((let l = c.search in
-    elim c.if-seen-rows.branch [ then-seen-rows w ↦ w.found-is ∙ sym (l.invariant.1 ∙ all_seen _ _ _ l.seen w.if-seen-rows.true) | else-seen-rows+then-table-j w ↦ w.found-is ∙ sym (l.invariant.1 ∙ next_hit _ _ _ l.seen l.invariant.0 w.if-seen-rows.false w.if-table-j.true) ])) ∙ c.in-At.is)))), c.requires.2, c.loop-i.invariant.0, c.clear.auto.columns)
+bounds-m-row-in-At c = omega (
+  arith,
+  (row_below _ _ _ _ ((found_at 𝔾 _ _ _ _ (sym ((let l = c.search in
+      elim c.if-seen-rows.branch [ then-seen-rows w ↦ w.found-is ∙ sym (l.invariant.1 ∙ all_seen _ _ _ l.seen w.if-seen-rows.true) | else-seen-rows+then-table-j w ↦ w.found-is ∙ sym (l.invariant.1 ∙ next_hit _ _ _ l.seen l.invariant.0 w.if-seen-rows.false w.if-table-j.true) ])) ∙ c.in-At.is)))),
+  c.requires.2,
+  c.loop-i.invariant.0,
+  c.clear.auto.columns,
+)
 
 pub returns-in-Nothing : goal.returns-in-Nothing
 returns-in-Nothing c =
@@ -76,16 +76,15 @@ returns-in-Nothing c =
     record { counts = p.0; found = p.1 }
 
 pub loop-i-preserved : goal.loop-i-preserved
-loop-i-preserved c =
-    (
-      simp length-set c.loop-i.invariant.0,
-      omega arith,
-      λ d h e.
-          counted_more _ _ d 0 h _ _ (c.loop-i.invariant.2 d h e) _ _ (sym (zero-add _)) ((row_below _ _ _ _ ((found_at 𝔾 _ _ _ _ (sym ((let l = c.search in
-    elim c.if-seen-rows.branch [ then-seen-rows w ↦ w.found-is ∙ sym (l.invariant.1 ∙ all_seen _ _ _ l.seen w.if-seen-rows.true) | else-seen-rows+then-table-j w ↦ w.found-is ∙ sym (l.invariant.1 ∙ next_hit _ _ _ l.seen l.invariant.0 w.if-seen-rows.false w.if-table-j.true) ])) ∙ c.in-At.is)))))
-          c.loop-i-test.true ((found_at 𝔾 _ _ _ _ (sym ((let l = c.search in
-    elim c.if-seen-rows.branch [ then-seen-rows w ↦ w.found-is ∙ sym (l.invariant.1 ∙ all_seen _ _ _ l.seen w.if-seen-rows.true) | else-seen-rows+then-table-j w ↦ w.found-is ∙ sym (l.invariant.1 ∙ next_hit _ _ _ l.seen l.invariant.0 w.if-seen-rows.false w.if-table-j.true) ])) ∙ c.in-At.is))),
-    )
+loop-i-preserved c = (
+  simp length-set c.loop-i.invariant.0,
+  omega arith,
+  λ d h e.
+      counted_more _ _ d 0 h _ _ (c.loop-i.invariant.2 d h e) _ _ (sym (zero-add _)) ((row_below _ _ _ _ ((found_at 𝔾 _ _ _ _ (sym ((let l = c.search in
+      elim c.if-seen-rows.branch [ then-seen-rows w ↦ w.found-is ∙ sym (l.invariant.1 ∙ all_seen _ _ _ l.seen w.if-seen-rows.true) | else-seen-rows+then-table-j w ↦ w.found-is ∙ sym (l.invariant.1 ∙ next_hit _ _ _ l.seen l.invariant.0 w.if-seen-rows.false w.if-table-j.true) ])) ∙ c.in-At.is)))))
+      c.loop-i-test.true ((found_at 𝔾 _ _ _ _ (sym ((let l = c.search in
+      elim c.if-seen-rows.branch [ then-seen-rows w ↦ w.found-is ∙ sym (l.invariant.1 ∙ all_seen _ _ _ l.seen w.if-seen-rows.true) | else-seen-rows+then-table-j w ↦ w.found-is ∙ sym (l.invariant.1 ∙ next_hit _ _ _ l.seen l.invariant.0 w.if-seen-rows.false w.if-table-j.true) ])) ∙ c.in-At.is))),
+)
 
 pub returns : goal.returns
 returns c =

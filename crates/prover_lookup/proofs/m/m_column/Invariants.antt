@@ -1,29 +1,11 @@
-use borrow.Author.Rules.{rules}
-use mathlib.Core.Logic.{⊎_elim}
-use mathlib.Core.Path.{◌≡◌, refl, sym, ◌∙◌}
+use mathlib.Core.Path.{◌≡◌}
 use mathlib.Core.List.{List}
-use mathlib.Core.Option.{Option, some}
-use Prim.Native.Nat.{ℕ, ◌+◌, ◌-◌, ◌≤◌, ◌<◌}
-use native.Mathlib.Nat.{zero-add}
-use native.Mathlib.Omega.{arith}
-use lib.ListN.{length, get_or, replicate, length-set}
+use Prim.Native.Nat.{ℕ, ◌+◌, ◌-◌, ◌≤◌}
+use lib.ListN.{length, get_or, replicate}
 use Rattle.lists.specs.Lists.{write_at}
-use Rattle.field.specs.Field.{𝔾}
-use Rattle.prover.specs.declared.Found.{Found}
 use Rattle.prover.specs.Words.{elements}
-use Rattle.prover.proofs.Search.{last_row, found_row, row_below}
-use Rattle.prover.proofs.Answers.{found_at, found_nothing, by_search}
-use Rattle.prover.proofs.Counts.{
-  Counted,
-  counted_start,
-  counted_le,
-  counted_more,
-  counted_cleared,
-  row_for,
-  answer_true,
-  answer_false,
-}
-use Rattle.prover_lookup.proofs.m.Down.{none_seen, all_seen, next_hit, next_miss}
+use Rattle.prover.proofs.Search.{found_row}
+use Rattle.prover.proofs.Counts.{Counted, row_for}
 use Rattle.prover_lookup.proofs.m.m_column.Given as goal
 
 abbrev pub invariant-search : goal.invariant-search

@@ -1,5 +1,5 @@
 -- The inverse, or that there is none.
-use Rattle.std.proofs.Common.{sym, ◌∙◌, rules}
+use Rattle.std.proofs.Common.{sym, ◌∙◌}
 use Rattle.field.proofs.goldilocks.Invert.{element_for, zero_for}
 use Rattle.field.proofs.goldilocks.Goldilocks.invert.Goals as goal
 

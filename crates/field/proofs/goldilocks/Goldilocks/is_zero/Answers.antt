@@ -1,5 +1,4 @@
 -- Zero has the number 0.
-use Rattle.std.proofs.Common.{rules}
 use Rattle.field.proofs.goldilocks.Zero.{zero_word}
 use Rattle.field.proofs.goldilocks.Goldilocks.is_zero.Goals as goal
 

@@ -1,5 +1,5 @@
 -- A product.
-use Rattle.std.proofs.Common.{sym, ap, ◌∙◌, rules}
+use Rattle.std.proofs.Common.{sym, ap, ◌∙◌}
 use Rattle.field.specs.Field.{el, el_mul}
 use Rattle.field.proofs.Elements.{el_mod}
 use Rattle.field.proofs.goldilocks.Goldilocks.mul.Goals as goal

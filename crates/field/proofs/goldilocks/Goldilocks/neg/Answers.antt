@@ -1,5 +1,5 @@
 -- The negative.
-use Rattle.std.proofs.Common.{ap, ◌∙◌, rules}
+use Rattle.std.proofs.Common.{ap, ◌∙◌}
 use Rattle.field.specs.Field.{el, el_neg}
 use Rattle.field.proofs.goldilocks.Goldilocks.neg.Goals as goal
 

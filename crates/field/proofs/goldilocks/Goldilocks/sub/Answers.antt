@@ -1,5 +1,5 @@
 -- A difference.
-use Rattle.std.proofs.Common.{ap, ◌∙◌, rules}
+use Rattle.std.proofs.Common.{ap, ◌∙◌}
 use Rattle.field.specs.Field.{el, el_sub}
 use Rattle.field.proofs.goldilocks.Goldilocks.sub.Goals as goal
 

@@ -1,5 +1,5 @@
 -- An element's number.
-use Rattle.std.proofs.Common.{sym, ◌∙◌, rules}
+use Rattle.std.proofs.Common.{sym, ◌∙◌}
 use Rattle.field.proofs.Elements.{val_el_mod}
 use Rattle.field.proofs.goldilocks.Goldilocks.to_u64.Goals as goal
 
