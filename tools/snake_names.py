@@ -1,7 +1,7 @@
 #!/usr/bin/env python3
 """Spells the repository's own definitions, fields and lemmas in snake case: groupSizes -> group_sizes, total-next -> total_next.
 
-usage: tools/snake_names.py        at the top, once, after /opt/rattle/port/port.py
+usage: tools/snake_names.py        at the top, once, after the kit's port.py
 
 A name is the repository's own if a file of specs/ or a lemma file of proofs/ declares it. What a function of src/, a module or a type is
 called stays, and so does a name that a file imports from a library. Text in quotes stays. A line that begins 'meets:' names two

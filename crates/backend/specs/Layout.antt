@@ -27,34 +27,34 @@ abbrev pub as_item : ℕ → Name
 as_item n = record { node = n; item = true }
 
 abbrev pub named : Kind → ℕ → ℕ → ℕ → List Name
-named Kind.isConstant a b v = []
-named Kind.isIdentity a b v = []
-named Kind.isLagrange a b v = []
-named Kind.isEqXY a b v = []
-named Kind.isPolynomial a b v = []
-named Kind.isChallenge a b v = []
-named Kind.isNegated a b v = plain a ∷ []
-named Kind.isSum a b v = plain a ∷ plain b ∷ []
-named Kind.isProduct a b v = plain a ∷ plain b ∷ []
+named Kind.is_constant a b v = []
+named Kind.is_identity a b v = []
+named Kind.is_lagrange a b v = []
+named Kind.is_eq_xy a b v = []
+named Kind.is_polynomial a b v = []
+named Kind.is_challenge a b v = []
+named Kind.is_negated a b v = plain a ∷ []
+named Kind.is_sum a b v = plain a ∷ plain b ∷ []
+named Kind.is_product a b v = plain a ∷ plain b ∷ []
 named Kind.is_scaled a b v = plain a ∷ []
-named Kind.isPowers a b v = plain a ∷ as_item b ∷ []
-named Kind.isItem a b v = plain a ∷ cond (eqb v 0) [] (as_item b ∷ [])
+named Kind.is_powers a b v = plain a ∷ as_item b ∷ []
+named Kind.is_item a b v = plain a ∷ cond (eqb v 0) [] (as_item b ∷ [])
 named Kind.is_none a b v = []
 
 -- "an unused word is 0"; a signed number has 32 bits; an Item's value is 1, or 0 with second 0; no other kinds
 abbrev pub shaped : Kind → ℕ → ℕ → ℕ → Bool
-shaped Kind.isConstant a b v = eqb a 0 && eqb b 0
-shaped Kind.isIdentity a b v = eqb a 0 && eqb b 0 && eqb v 0
-shaped Kind.isLagrange a b v = eqb a 0 && eqb b 0 && ltb v (2 ^ 32)
-shaped Kind.isEqXY a b v = eqb a 0 && eqb b 0
-shaped Kind.isPolynomial a b v = eqb b 0 && ltb v (2 ^ 32)
-shaped Kind.isChallenge a b v = eqb b 0 && eqb v 0
-shaped Kind.isNegated a b v = eqb b 0 && eqb v 0
-shaped Kind.isSum a b v = eqb v 0
-shaped Kind.isProduct a b v = eqb v 0
+shaped Kind.is_constant a b v = eqb a 0 && eqb b 0
+shaped Kind.is_identity a b v = eqb a 0 && eqb b 0 && eqb v 0
+shaped Kind.is_lagrange a b v = eqb a 0 && eqb b 0 && ltb v (2 ^ 32)
+shaped Kind.is_eq_xy a b v = eqb a 0 && eqb b 0
+shaped Kind.is_polynomial a b v = eqb b 0 && ltb v (2 ^ 32)
+shaped Kind.is_challenge a b v = eqb b 0 && eqb v 0
+shaped Kind.is_negated a b v = eqb b 0 && eqb v 0
+shaped Kind.is_sum a b v = eqb v 0
+shaped Kind.is_product a b v = eqb v 0
 shaped Kind.is_scaled a b v = eqb b 0
-shaped Kind.isPowers a b v = eqb v 0
-shaped Kind.isItem a b v = eqb v 1 || (eqb v 0 && eqb b 0)
+shaped Kind.is_powers a b v = eqb v 0
+shaped Kind.is_item a b v = eqb v 1 || (eqb v 0 && eqb b 0)
 shaped Kind.is_none a b v = false
 
 -- what a node's four words are tested for, by its kind
@@ -96,18 +96,18 @@ laid_out nodes roots =
 
 -- a polynomial or challenge number in range, a rotation from −k to k, and no EqXY
 abbrev pub in_range : ℕ → ℕ → ℕ → Kind → ℕ → ℕ → ℕ → Bool
-in_range polys user k Kind.isConstant a b v = true
-in_range polys user k Kind.isIdentity a b v = true
-in_range polys user k Kind.isLagrange a b v = true
-in_range polys user k Kind.isEqXY a b v = false
-in_range polys user k Kind.isPolynomial a b v = ltb a polys && leb (nat_abs (decode_signed v)) k
-in_range polys user k Kind.isChallenge a b v = ltb a user
-in_range polys user k Kind.isNegated a b v = true
-in_range polys user k Kind.isSum a b v = true
-in_range polys user k Kind.isProduct a b v = true
+in_range polys user k Kind.is_constant a b v = true
+in_range polys user k Kind.is_identity a b v = true
+in_range polys user k Kind.is_lagrange a b v = true
+in_range polys user k Kind.is_eq_xy a b v = false
+in_range polys user k Kind.is_polynomial a b v = ltb a polys && leb (nat_abs (decode_signed v)) k
+in_range polys user k Kind.is_challenge a b v = ltb a user
+in_range polys user k Kind.is_negated a b v = true
+in_range polys user k Kind.is_sum a b v = true
+in_range polys user k Kind.is_product a b v = true
 in_range polys user k Kind.is_scaled a b v = true
-in_range polys user k Kind.isPowers a b v = true
-in_range polys user k Kind.isItem a b v = true
+in_range polys user k Kind.is_powers a b v = true
+in_range polys user k Kind.is_item a b v = true
 in_range polys user k Kind.is_none a b v = true
 
 -- "Is every polynomial and user challenge number in range, every rotation from −k to k, and kind 4 absent?"

@@ -19,7 +19,7 @@ use Rattle.backend.proofs.Passed.{yes_all}
 use Rattle.preprocessor.specs.Compose.{composed_constraints, compose}
 use Rattle.prover.specs.Lookup.{sum_rows, omitted_sum}
 use Rattle.prover.specs.Log.{Log}
-use Rattle.prover.specs.Columns.{power_sum, input_at, group_inputs, group_table, m_at, lookup_hat, all_covered, composed_environment}
+use Rattle.prover.specs.Columns.{power_sum, input_at, group_inputs, group_table, m_at, lookup_h_at, all_covered, composed_environment}
 use Rattle.prover.proofs.Groups.{group_h_holds}
 use Rattle.hyperplonk_spec.specs.Meaning.{Embeds, Admitted, EachRow, NoneZero, Premises}
 use Rattle.hyperplonk_spec.specs.Composed.{zero_check_in, column_at_is, gamma_in, alpha_in, input_in, inputs_in, LookupHolds}
@@ -74,7 +74,7 @@ module _ (𝓕 : Field) where
         → All (λ x. x ≢ nil) (map (λ (input : ℕ → F). add g.γ (input b)) (group_inputs 𝓕 g (group j)))
         → add g.γ (group_table 𝓕 g (group j) b) ≢ nil
         → LookupHolds 𝓕 (composed_environment 𝓕 g α y) g.circuit j b
-    unfolding lookup_hat composed_environment
+    unfolding lookup_h_at composed_environment
     lookup_holds j l b m p q =
         holds_same _ _ _ _ _ _ _ _ (inputs_same j l b m) (ap₂ add (gamma_value 𝓕 g ad α) ((reads 𝓕 g ad α y).table j l b m)) ((reads 𝓕 g ad α y).m j b l)
         ((reads 𝓕 g ad α y).h j b l)
@@ -117,7 +117,7 @@ module _ (𝓕 : Field) where
         (λ b l. compose_value 𝓕 s c embed b)
         ∙ sum_composed 𝓕 (alpha_in 𝓕 s c) (λ j b. column_at_is 𝓕 s c (h_number c j) b) (zero_check_in 𝓕 s c) (num_groups c) (rows_of c)
         (λ j l.
-        up_to_cong add nil (λ b. column_at_is 𝓕 s c (h_number c j) b) (lookup_hat 𝓕 g (get_or (groups_of c) j [])) (rows_of c) (λ b m. (reads 𝓕 g ad α y).h j b l)
+        up_to_cong add nil (λ b. column_at_is 𝓕 s c (h_number c j) b) (lookup_h_at 𝓕 g (get_or (groups_of c) j [])) (rows_of c) (λ b m. (reads 𝓕 g ad α y).h j b l)
         ∙ h_sums 𝓕 g ad.embeds e j (let q = groups_length c in omega arith))
         (λ b l.
         ap (λ (x : F). mul x (s.eq b))

@@ -11,7 +11,7 @@ use Rattle.lists.proofs.Tests.{all_each}
 use Rattle.backend.specs.Circuit.{rows_of, groups_of}
 use Rattle.prover.specs.Lookup.{sum_counts, group_covered, sum_rows}
 use Rattle.prover.specs.Log.{Log}
-use Rattle.prover.specs.Columns.{input_at, group_inputs, group_table, count_at, m_at, lookup_hat, all_covered}
+use Rattle.prover.specs.Columns.{input_at, group_inputs, group_table, count_at, m_at, lookup_h_at, all_covered}
 use Rattle.prover.proofs.Groups.{group_sum, groups_refused, groups_counted}
 use Rattle.hyperplonk_spec.specs.Meaning.{Embeds, EachGroup, NoCounts, HasCounts}
 use Rattle.completeness.proofs.Habock.{habock_sum}
@@ -43,7 +43,7 @@ module _ (𝓕 : Field) (g : Log 𝓕) where
       group_sum 𝓕 rows (group_inputs 𝓕 g (get_or (groups_of g.circuit) j [])) (group_table 𝓕 g (get_or (groups_of g.circuit) j [])) (covered_each e j l)
       ∙ ap (λ (n : ℕ). n * rows) (length-map (get_or (groups_of g.circuit) j []) (input_at 𝓕 g))
 
-  pub h_sums : Embeds 𝓕 g.el → all_covered 𝓕 g ≡ true → EachGroup 𝓕 g (λ group. sum_rows 𝓕 (rows_of g.circuit) (lookup_hat 𝓕 g group) ≡ nil)
-  unfolding lookup_hat m_at count_at
+  pub h_sums : Embeds 𝓕 g.el → all_covered 𝓕 g ≡ true → EachGroup 𝓕 g (λ group. sum_rows 𝓕 (rows_of g.circuit) (lookup_h_at 𝓕 g group) ≡ nil)
+  unfolding lookup_h_at m_at count_at
   h_sums h e j l =
       habock_sum 𝓕 g.el rows (group_inputs 𝓕 g (get_or (groups_of g.circuit) j [])) (group_table 𝓕 g (get_or (groups_of g.circuit) j [])) g.γ h (covered_each e j l)

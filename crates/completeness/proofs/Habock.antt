@@ -22,7 +22,7 @@ use Rattle.identities.specs.Lookup.{num}
 use Rattle.identities.specs.Counts.{last_row, IsLast}
 use Rattle.identities.proofs.Counts.{last_is}
 use Rattle.identities.proofs.Lookup.{sum_neg}
-use Rattle.prover.specs.Lookup.{sum_counts, same, group_covered, group_multiplicity, group_hat, sum_rows, Turns}
+use Rattle.prover.specs.Lookup.{sum_counts, same, group_covered, group_multiplicity, group_h_at, sum_rows, Turns}
 use Rattle.prover.proofs.Groups.{list_rows, group_turns, turns_covered, group_identity, group_h_sum, group_h_holds, group_h_only}
 use Rattle.hyperplonk_spec.specs.Meaning.{Embeds}
 use Rattle.hyperplonk_spec.specs.Papers.{
@@ -78,8 +78,8 @@ module _ (𝓕 : Field) where
 
   -- ---- h
   module _ (γ : F) (inputs : List (ℕ → F)) (table m : ℕ → F) where
-    fractions : (b : ℕ) → group_hat 𝓕 γ inputs table m b ≡ paper_h 𝓕 γ inputs table m b
-    unfolding group_hat paper_h
+    fractions : (b : ℕ) → group_h_at 𝓕 γ inputs table m b ≡ paper_h 𝓕 γ inputs table m b
+    unfolding group_h_at paper_h
     fractions b =
         ap (λ (xs : List F). add (sum 𝓕 xs) (neg (mul (m b) (inv (add γ (table b))))))
         (each_same (λ (input : ℕ → F). inv (add γ (input b))) (λ (input : ℕ → F). mul one (inv (add γ (input b))))
@@ -114,10 +114,10 @@ module _ (𝓕 : Field) where
         (λ r l. ap (λ (x : F). mul x (inv (add γ (table r)))) (sym (embeds_num 𝓕 el h (group_multiplicity 𝓕 rows inputs table r))))
 
     pub habock_sum : (γ : F) → HabockSum 𝓕 el rows inputs table γ
-    unfolding group_hat
+    unfolding group_h_at
     habock_sum γ h e =
-        up_to_cong add nil (group_hat 𝓕 γ inputs table (λ r. el (group_multiplicity 𝓕 rows inputs table r)))
-        (group_hat 𝓕 γ inputs table (λ r. num 𝓕 (group_multiplicity 𝓕 rows inputs table r))) rows
+        up_to_cong add nil (group_h_at 𝓕 γ inputs table (λ r. el (group_multiplicity 𝓕 rows inputs table r)))
+        (group_h_at 𝓕 γ inputs table (λ r. num 𝓕 (group_multiplicity 𝓕 rows inputs table r))) rows
         (λ b l.
         ap (λ (m : F). add (sum 𝓕 (map (λ input. inv (add γ (input b))) inputs)) (neg (mul m (inv (add γ (table b))))))
         (embeds_num 𝓕 el h (group_multiplicity 𝓕 rows inputs table b)))

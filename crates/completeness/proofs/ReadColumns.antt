@@ -35,7 +35,7 @@ use Rattle.backend.proofs.Degree.{groups_length}
 use Rattle.backend.proofs.Passed.{yes_all}
 use Rattle.preprocessor.specs.Compose.{num_z, identity_tree, params_of, permutation_tree}
 use Rattle.prover.specs.Log.{Log}
-use Rattle.prover.specs.Columns.{power_sum, given_polys, user_environment, compressed_at, input_at, table_at, group_table, m_at, lookup_hat, permutation_at, copied_at, identity_factor_at, permutation_factor_at, z_at, permutation_polys, m_polys, h_polys, z_polys, all_polys, composed_environment}
+use Rattle.prover.specs.Columns.{power_sum, given_polys, user_environment, compressed_at, input_at, table_at, group_table, m_at, lookup_h_at, permutation_at, copied_at, identity_factor_at, permutation_factor_at, z_at, permutation_polys, m_polys, h_polys, z_polys, all_polys, composed_environment}
 use Rattle.prover.proofs.Lengths.{given_length, permutations_length, m_length, h_length}
 use Rattle.hyperplonk_spec.proofs.Embeds.{embeds_add}
 use Rattle.hyperplonk_spec.specs.Meaning.{Admitted}
@@ -79,7 +79,7 @@ module _ (𝓕 : Field) where
         ∙ get_left (m_polys 𝓕 g) _ j (λ r. nil) (let e = m_length 𝓕 g in omega arith)
         ∙ get_map (m_at 𝓕 g) (groups_of g.circuit) j [] (λ r. nil) (let e = groups_length g.circuit in omega arith))
 
-    pub poly_h : (j b : ℕ) → j < num_groups g.circuit → poly_of 𝓕 (all_polys 𝓕 g) (h_number g.circuit j) b ≡ lookup_hat 𝓕 g (get_or (groups_of g.circuit) j []) b
+    pub poly_h : (j b : ℕ) → j < num_groups g.circuit → poly_of 𝓕 (all_polys 𝓕 g) (h_number g.circuit j) b ≡ lookup_h_at 𝓕 g (get_or (groups_of g.circuit) j []) b
     unfolding all_polys h_polys
     poly_h j b l =
         ap (λ (p : ℕ → F). p b)
@@ -87,7 +87,7 @@ module _ (𝓕 : Field) where
         ∙ get_past (permutation_polys 𝓕 g) _ (num_copied g.circuit + (num_groups g.circuit + j)) (num_groups g.circuit + j) (λ r. nil) (let e = permutations_length 𝓕 g in omega arith)
         ∙ get_past (m_polys 𝓕 g) _ (num_groups g.circuit + j) j (λ r. nil) (let e = m_length 𝓕 g in omega arith)
         ∙ get_left (h_polys 𝓕 g) _ j (λ r. nil) (let e = h_length 𝓕 g in omega arith)
-        ∙ get_map (lookup_hat 𝓕 g) (groups_of g.circuit) j [] (λ r. nil) (let e = groups_length g.circuit in omega arith))
+        ∙ get_map (lookup_h_at 𝓕 g) (groups_of g.circuit) j [] (λ r. nil) (let e = groups_length g.circuit in omega arith))
 
     pub poly_z : (i b : ℕ) → i < num_z g.circuit → poly_of 𝓕 (all_polys 𝓕 g) (z_number g.circuit i) b ≡ z_at 𝓕 g i b
     unfolding all_polys z_polys

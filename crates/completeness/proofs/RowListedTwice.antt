@@ -26,7 +26,7 @@ use Rattle.backend.proofs.Passed as Passed
 use Rattle.backend.proofs.Passed.{yes_all}
 use Rattle.prover.specs.Lookup.{Turns, same, group_covered, group_multiplicity, sum_rows, sum_counts}
 use Rattle.prover.specs.Log.{Log}
-use Rattle.prover.specs.Columns.{input_at, group_inputs, group_table, count_at, m_at, lookup_hat, all_covered, instance_polys, permutation_polys, compressed_polys, m_polys, h_polys, written_polys}
+use Rattle.prover.specs.Columns.{input_at, group_inputs, group_table, count_at, m_at, lookup_h_at, all_covered, instance_polys, permutation_polys, compressed_polys, m_polys, h_polys, written_polys}
 use Rattle.prover.proofs.Groups.{group_count_le}
 use Rattle.prover.proofs.Words.{words_get, words_length}
 use Rattle.prover.proofs.Lengths.{instances_length, permutations_length, compressed_length, m_length, h_length, written_length}
@@ -62,7 +62,7 @@ module _ (g : Log 𝔾) where
         ∙ get_map (m_at 𝔾 g) (groups_of g.circuit) j [] (λ r. 𝔾.zero) (let q = groups_length g.circuit in omega arith))
 
     written_h : (b : ℕ)
-        → poly_of 𝔾 (written_polys 𝔾 g) (num_instance g.circuit + num_copied g.circuit + num_lookups g.circuit * 2 + num_groups g.circuit + j) b ≡ lookup_hat 𝔾 g (group j) b
+        → poly_of 𝔾 (written_polys 𝔾 g) (num_instance g.circuit + num_copied g.circuit + num_lookups g.circuit * 2 + num_groups g.circuit + j) b ≡ lookup_h_at 𝔾 g (group j) b
     unfolding written_polys h_polys
     written_h b =
         ap (λ (p : ℕ → 𝔾.F). p b)
@@ -71,7 +71,7 @@ module _ (g : Log 𝔾) where
         ∙ get_past (compressed_polys 𝔾 g) _ _ (num_groups g.circuit + j) (λ r. 𝔾.zero) (let q = compressed_length 𝔾 g in omega arith)
         ∙ get_past (m_polys 𝔾 g) _ _ j (λ r. 𝔾.zero) (let q = m_length 𝔾 g in omega arith)
         ∙ get_left (h_polys 𝔾 g) _ j (λ r. 𝔾.zero) (let q = h_length 𝔾 g in omega arith)
-        ∙ get_map (lookup_hat 𝔾 g) (groups_of g.circuit) j [] (λ r. 𝔾.zero) (let q = groups_length g.circuit in omega arith))
+        ∙ get_map (lookup_h_at 𝔾 g) (groups_of g.circuit) j [] (λ r. 𝔾.zero) (let q = groups_length g.circuit in omega arith))
 
   -- word b of column q, with more words behind
   pub word_at : (d : List ℕ) (q b : ℕ) → q < length (written_polys 𝔾 g) → b < rows
@@ -169,18 +169,18 @@ module _ (ws instances witness challenges columns nodes : List ℕ) (z : (build_
     unfolding log_of count_at
     whole' b h = whole b h
 
-    h_whole : (b : ℕ) → b < rows_of c → el (h_word c left j b) ≡ lookup_hat 𝔾 log members b
+    h_whole : (b : ℕ) → b < rows_of c → el (h_word c left j b) ≡ lookup_h_at 𝔾 log members b
     unfolding log_of
     h_whole b h =
         ap el
         (ap (λ (ws : List ℕ). h_word c ws j b) left_is
         ∙ word_at log _ (num_instance c + num_copied c + num_lookups c * 2 + num_groups c + j) b (let q = written_length 𝔾 log in omega arith) h
         ∙ ap val (written_h log j l b))
-        ∙ el_val (lookup_hat 𝔾 log members b)
+        ∙ el_val (lookup_h_at 𝔾 log members b)
 
     h_fractions : (b : ℕ) → b < rows_of c
-        → lookup_hat 𝔾 log members b ≡ paper_h 𝔾 log.γ (group_inputs 𝔾 log members) (group_table 𝔾 log members) (λ r. el (m r)) b
-    unfolding lookup_hat m_at log_of paper_h
+        → lookup_h_at 𝔾 log members b ≡ paper_h 𝔾 log.γ (group_inputs 𝔾 log members) (group_table 𝔾 log members) (λ r. el (m r)) b
+    unfolding lookup_h_at m_at log_of paper_h
     h_fractions b h =
         (is_habock_h 𝔾 log.γ (group_inputs 𝔾 log members) (group_table 𝔾 log members) (λ r. el (count_at 𝔾 log members r))).is_fractions b
         ∙ ap
@@ -189,7 +189,7 @@ module _ (ws instances witness challenges columns nodes : List ℕ) (z : (build_
         (𝔾.neg (fraction 𝔾 (el n) (𝔾.add log.γ (group_table 𝔾 log members b)))))
         (sym (whole b h))
 
-    h_sum : sum_rows 𝔾 (rows_of c) (lookup_hat 𝔾 log members) ≡ 𝔾.zero
+    h_sum : sum_rows 𝔾 (rows_of c) (lookup_h_at 𝔾 log members) ≡ 𝔾.zero
     unfolding log_of
     h_sum = h_sums 𝔾 log embeds all_covered_here j here
 
@@ -212,7 +212,7 @@ module _ (ws instances witness challenges columns nodes : List ℕ) (z : (build_
               (λ r h. ap (λ (n : ℕ). cond (same 𝔾 (group_table 𝔾 log members r) v) n 0) (whole' r h))
               ∙ (counts_turn 𝔾 el (rows_of c) (group_inputs 𝔾 log members) (group_table 𝔾 log members)).0 covered_here v;
           m_sums = up_to_cong ◌+◌ 0 m counts (rows_of c) whole' ∙ m_sum;
-          h_sums = up_to_cong 𝔾.add 𝔾.zero (λ b. el (h_word c left j b)) (lookup_hat 𝔾 log members) (rows_of c) h_whole ∙ h_sum;
+          h_sums = up_to_cong 𝔾.add 𝔾.zero (λ b. el (h_word c left j b)) (lookup_h_at 𝔾 log members) (rows_of c) h_whole ∙ h_sum;
           h_sums_defined = h_sum;
           same_totals = λ v.
               up_to_cong 𝔾.add 𝔾.zero (λ r. cond (same 𝔾 (group_table 𝔾 log members r) v) (el (m r)) 𝔾.zero)

@@ -9,7 +9,7 @@ use Rattle.backend.specs.Circuit.{Circuit, circuit_of, rows_of}
 use Rattle.preprocessor.specs.Compose.{CutsAlike, num_z, compose, composed_constraints, composed_words, composed_nodes}
 use Rattle.prover.specs.Lookup.{sum_rows, sum_counts}
 use Rattle.prover.specs.Log.{Log}
-use Rattle.prover.specs.Columns.{count_at, lookup_hat, composed_environment, written_polys}
+use Rattle.prover.specs.Columns.{count_at, lookup_h_at, composed_environment, written_polys}
 use Rattle.hyperplonk_spec.specs.Build.{Lent, log_of, words_of, column_words, check_build}
 use Rattle.hyperplonk_spec.specs.Meaning.{
   Each,
@@ -52,7 +52,7 @@ module _ (lent : Lent) (y : List ℕ) (left : Left) where
         → Each (Expr.constant 0) (composed_constraints circuit)
         (λ e. EachRow 𝔾 log (λ b. value_at 𝔾 (composed_environment 𝔾 log α ys) e b ≡ 𝔾.zero))
     -- "each h sums to 0, each m sums to 2^k"; Item 3 of document 02: "Where demand 3 has m sum to 2^k, a group of s lookups has s × 2^k"
-    pub h_sums : EachGroup 𝔾 log (λ group. sum_rows 𝔾 (rows_of circuit) (lookup_hat 𝔾 log group) ≡ 𝔾.zero)
+    pub h_sums : EachGroup 𝔾 log (λ group. sum_rows 𝔾 (rows_of circuit) (lookup_h_at 𝔾 log group) ≡ 𝔾.zero)
     pub m_sums : EachGroup 𝔾 log (λ group. sum_counts (rows_of circuit) (count_at 𝔾 log group) ≡ length group * rows_of circuit)
     -- "and for every alpha and every y the composed expression sums to 0"
     pub composed_sum : (α : 𝔾.F) (ys : ℕ → 𝔾.F)

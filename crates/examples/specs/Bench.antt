@@ -19,7 +19,7 @@ use Rattle.expression.specs.Flat.{flat}
 use Rattle.expression.specs.Same.{same_expr}
 use Rattle.backend.specs.Circuit.{Circuit, Pair, Cell, circuit_of}
 use Rattle.backend.specs.Constraints.{group_with}
-use Rattle.prover.specs.Lookup.{group_multiplicity, group_hat}
+use Rattle.prover.specs.Lookup.{group_multiplicity, group_h_at}
 use Rattle.examples.specs.Open.{everything}
 
 abbrev pub four : ℕ → ℕ → ℕ → ℕ → List ℕ
@@ -180,12 +180,12 @@ value_p_told = refl
 
 pub preprocess_p_told : first_no circuit_questions
     (1 ∷ 0 ∷ 22 ∷ 0 ∷ 22 ∷ 1 ∷ 24 ∷ 1 ∷ 26 ∷ 0 ∷ 26 ∷ 0 ∷ 26 ∷ 0 ∷ 26 ∷ 0 ∷ 26 ∷ 1 ∷ 27 ∷ 1 ∷ 29 ∷ 0 ∷ P ∷ 0 ∷ 1 ∷ 0 ∷ 1 ∷ 0 ∷ 1 ∷ [])
-    ≡ parsed_number Among.circuitWords (parsed P)
+    ≡ parsed_number Among.circuit_words (parsed P)
 unfolding everything
 preprocess_p_told = refl
 
 pub summed_p_told : check_sum (lent_sum (single 1) (3 ∷ P ∷ []) (four 0 0 0 0) (composed_words (circuit_of (single 1))) (5 ∷ 7 ∷ 2 ∷ []) (1 ∷ []))
-    ≡ parsed_number Among.sumWords (parsed P)
+    ≡ parsed_number Among.sum_words (parsed P)
 unfolding everything
 summed_p_told = refl
 
@@ -237,7 +237,7 @@ pub group_counts : tabulate (group_multiplicity 𝔾 4 two_inputs (listed (four 
 unfolding everything
 group_counts = refl
 
-pub group_h : tabulate (λ b. val (group_hat 𝔾 (el 1) two_inputs (listed (four 5 7 7 9)) (listed (four 2 0 3 3)) b)) 4
+pub group_h : tabulate (λ b. val (group_h_at 𝔾 (el 1) two_inputs (listed (four 5 7 7 9)) (listed (four 2 0 3 3)) b)) 4
     ≡ four 1998397274186579968 14296226653796302849 1537228672451215360 614891468980486144
 unfolding everything
 group_h = refl

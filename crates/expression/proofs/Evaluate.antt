@@ -16,7 +16,7 @@ module _ {A B : Type 0} (S : Scope) (o : Ops A) (q : Ops B) (R : A → B → Typ
     pub constants : (v : ℕ) → R (o.constant_op v) (q.constant_op v)
     pub identities : R o.identity_op q.identity_op
     pub lagranges : (i : ℤ) → S.lagrange i → R (o.lagrange_op i) (q.lagrange_op i)
-    pub eq_xys : (i : ℕ) → S.eq_xy i → R (o.eq_xyop i) (q.eq_xyop i)
+    pub eq_xys : (i : ℕ) → S.eq_xy i → R (o.eq_xy_op i) (q.eq_xy_op i)
     pub polys : (p : ℕ) (r : ℤ) → S.poly p r → R (o.poly_op p r) (q.poly_op p r)
     pub challenges : (i : ℕ) → S.challenge i → R (o.challenge_op i) (q.challenge_op i)
     pub negations : (a : A) (b : B) → R a b → R (o.negated_op a) (q.negated_op b)
@@ -78,7 +78,7 @@ nothing =
       constant_op = λ v. tt;
       identity_op = tt;
       lagrange_op = λ i. tt;
-      eq_xyop = λ i. tt;
+      eq_xy_op = λ i. tt;
       poly_op = λ p r. tt;
       challenge_op = λ i. tt;
       negated_op = λ a. tt;
@@ -92,7 +92,7 @@ module _ {A : Type 0} (S : Scope) (o : Ops A) (Q : A → Type 0) where
     pub constants : (v : ℕ) → Q (o.constant_op v)
     pub identities : Q o.identity_op
     pub lagranges : (i : ℤ) → S.lagrange i → Q (o.lagrange_op i)
-    pub eq_xys : (i : ℕ) → S.eq_xy i → Q (o.eq_xyop i)
+    pub eq_xys : (i : ℕ) → S.eq_xy i → Q (o.eq_xy_op i)
     pub polys : (p : ℕ) (r : ℤ) → S.poly p r → Q (o.poly_op p r)
     pub challenges : (i : ℕ) → S.challenge i → Q (o.challenge_op i)
     pub negations : (a : A) → Q a → Q (o.negated_op a)
@@ -147,7 +147,7 @@ module _ {A B : Type 0} (o : Ops A) (q : Ops B) (f : A → B) where
     pub constants : (v : ℕ) → q.constant_op v ≡ f (o.constant_op v)
     pub identities : q.identity_op ≡ f o.identity_op
     pub lagranges : (i : ℤ) → q.lagrange_op i ≡ f (o.lagrange_op i)
-    pub eq_xys : (i : ℕ) → q.eq_xyop i ≡ f (o.eq_xyop i)
+    pub eq_xys : (i : ℕ) → q.eq_xy_op i ≡ f (o.eq_xy_op i)
     pub polys : (p : ℕ) (r : ℤ) → q.poly_op p r ≡ f (o.poly_op p r)
     pub challenges : (i : ℕ) → q.challenge_op i ≡ f (o.challenge_op i)
     pub negations : (a : A) → q.negated_op (f a) ≡ f (o.negated_op a)

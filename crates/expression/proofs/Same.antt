@@ -63,18 +63,18 @@ powered [] = no_expr
 powered (b ∷ es) = Expr.powers (listed es) b
 
 from : Kind → ℕ → ℤ → List Expr → Expr
-from Kind.isConstant v i es = Expr.constant v
-from Kind.isIdentity v i es = Expr.identity
-from Kind.isLagrange v i es = Expr.lagrange i
-from Kind.isEqXY v i es = Expr.eq_xy v
-from Kind.isPolynomial v i es = Expr.poly v i
-from Kind.isChallenge v i es = Expr.challenge v
-from Kind.isNegated v i es = Expr.negated (get_or es 0 no_expr)
-from Kind.isSum v i es = Expr.sum (get_or es 0 no_expr) (get_or es 1 no_expr)
-from Kind.isProduct v i es = Expr.product (get_or es 0 no_expr) (get_or es 1 no_expr)
+from Kind.is_constant v i es = Expr.constant v
+from Kind.is_identity v i es = Expr.identity
+from Kind.is_lagrange v i es = Expr.lagrange i
+from Kind.is_eq_xy v i es = Expr.eq_xy v
+from Kind.is_polynomial v i es = Expr.poly v i
+from Kind.is_challenge v i es = Expr.challenge v
+from Kind.is_negated v i es = Expr.negated (get_or es 0 no_expr)
+from Kind.is_sum v i es = Expr.sum (get_or es 0 no_expr) (get_or es 1 no_expr)
+from Kind.is_product v i es = Expr.product (get_or es 0 no_expr) (get_or es 1 no_expr)
 from Kind.is_scaled v i es = Expr.scaled (get_or es 0 no_expr) v
-from Kind.isPowers v i es = powered es
-from Kind.isItem v i es = no_expr
+from Kind.is_powers v i es = powered es
+from Kind.is_item v i es = no_expr
 from Kind.is_none v i es = no_expr
 
 mutual

@@ -32,7 +32,7 @@ module _ {T : Type 0} (o : Ops T) (ws : List ℕ) (n : ℕ) (d : Node) (read : d
   unfolding node_of kind_of evaluate
   met_lagrange k = sym (ap (evaluate o) (of_kind ws n d read 3 k))
 
-  pub met_eq_xy : d.kind ≡ 4 → o.eq_xyop d.value ≡ evaluate o (expr_of ws n)
+  pub met_eq_xy : d.kind ≡ 4 → o.eq_xy_op d.value ≡ evaluate o (expr_of ws n)
   unfolding node_of kind_of evaluate
   met_eq_xy k = sym (ap (evaluate o) (of_kind ws n d read 4 k))
 
@@ -133,7 +133,7 @@ module _ {T : Type 0} (o : Ops T) (ws : List ℕ) (n : ℕ) (d : Node) (read : d
   -- a node of another kind: its expression is one of the leaves left, or none
   pub met_other : (r : T) → (d.kind ≡ 1 → r ≡ o.constant_op d.value) → (d.kind ≡ 2 → r ≡ o.identity_op)
       → (d.kind ≡ 3 → r ≡ o.lagrange_op (decode_signed d.value))
-      → (d.kind ≡ 4 → r ≡ o.eq_xyop d.value)
+      → (d.kind ≡ 4 → r ≡ o.eq_xy_op d.value)
       → (d.kind ≡ 5 → ⊥)
       → (d.kind ≡ 6 → r ≡ o.challenge_op d.first)
       → (d.kind ≡ 7 → ⊥)

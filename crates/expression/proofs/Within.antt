@@ -52,36 +52,36 @@ module _ (S : Scope) where
   -- ---- expressions read from node words
   -- what a node's own words name
   abbrev pub NodeWithin : Kind → ℕ → ℕ → ℕ → Type 0
-  NodeWithin Kind.isConstant a b v = Unit {0}
-  NodeWithin Kind.isIdentity a b v = Unit {0}
-  NodeWithin Kind.isLagrange a b v = S.lagrange (decode_signed v)
-  NodeWithin Kind.isEqXY a b v = S.eq_xy v
-  NodeWithin Kind.isPolynomial a b v = S.poly a (decode_signed v)
-  NodeWithin Kind.isChallenge a b v = S.challenge a
-  NodeWithin Kind.isNegated a b v = Unit {0}
-  NodeWithin Kind.isSum a b v = Unit {0}
-  NodeWithin Kind.isProduct a b v = Unit {0}
+  NodeWithin Kind.is_constant a b v = Unit {0}
+  NodeWithin Kind.is_identity a b v = Unit {0}
+  NodeWithin Kind.is_lagrange a b v = S.lagrange (decode_signed v)
+  NodeWithin Kind.is_eq_xy a b v = S.eq_xy v
+  NodeWithin Kind.is_polynomial a b v = S.poly a (decode_signed v)
+  NodeWithin Kind.is_challenge a b v = S.challenge a
+  NodeWithin Kind.is_negated a b v = Unit {0}
+  NodeWithin Kind.is_sum a b v = Unit {0}
+  NodeWithin Kind.is_product a b v = Unit {0}
   NodeWithin Kind.is_scaled a b v = Unit {0}
-  NodeWithin Kind.isPowers a b v = Unit {0}
-  NodeWithin Kind.isItem a b v = Unit {0}
+  NodeWithin Kind.is_powers a b v = Unit {0}
+  NodeWithin Kind.is_item a b v = Unit {0}
   NodeWithin Kind.is_none a b v = Unit {0}
 
   node_within : (k : Kind) (e : ℕ → Expr) (i : ℕ → Exprs) (a b v : ℕ) → NodeWithin k a b v → ((c : ℕ) → Within S (e c))
       → ((c : ℕ) → WithinAll S (i c))
       → Within S (node_of k e i a b v)
   unfolding node_of
-  node_within Kind.isConstant e i a b v w p q = tt
-  node_within Kind.isIdentity e i a b v w p q = tt
-  node_within Kind.isLagrange e i a b v w p q = w
-  node_within Kind.isEqXY e i a b v w p q = w
-  node_within Kind.isPolynomial e i a b v w p q = w
-  node_within Kind.isChallenge e i a b v w p q = w
-  node_within Kind.isNegated e i a b v w p q = p a
-  node_within Kind.isSum e i a b v w p q = (p a, p b)
-  node_within Kind.isProduct e i a b v w p q = (p a, p b)
+  node_within Kind.is_constant e i a b v w p q = tt
+  node_within Kind.is_identity e i a b v w p q = tt
+  node_within Kind.is_lagrange e i a b v w p q = w
+  node_within Kind.is_eq_xy e i a b v w p q = w
+  node_within Kind.is_polynomial e i a b v w p q = w
+  node_within Kind.is_challenge e i a b v w p q = w
+  node_within Kind.is_negated e i a b v w p q = p a
+  node_within Kind.is_sum e i a b v w p q = (p a, p b)
+  node_within Kind.is_product e i a b v w p q = (p a, p b)
   node_within Kind.is_scaled e i a b v w p q = p a
-  node_within Kind.isPowers e i a b v w p q = (q b, p a)
-  node_within Kind.isItem e i a b v w p q = tt
+  node_within Kind.is_powers e i a b v w p q = (q b, p a)
+  node_within Kind.is_item e i a b v w p q = tt
   node_within Kind.is_none e i a b v w p q = tt
 
   item_within : (t : Bool) (e : ℕ → Expr) (i : ℕ → Exprs) (a b : ℕ) → ((c : ℕ) → Within S (e c)) → ((c : ℕ) → WithinAll S (i c))

@@ -13,7 +13,7 @@ unfoldable mutual
   visited o (Expr.constant v) = record { value = o.constant_op v; visits = 1 }
   visited o Expr.identity = record { value = o.identity_op; visits = 1 }
   visited o (Expr.lagrange i) = record { value = o.lagrange_op i; visits = 1 }
-  visited o (Expr.eq_xy i) = record { value = o.eq_xyop i; visits = 1 }
+  visited o (Expr.eq_xy i) = record { value = o.eq_xy_op i; visits = 1 }
   visited o (Expr.poly q r) = record { value = o.poly_op q r; visits = 1 }
   visited o (Expr.challenge i) = record { value = o.challenge_op i; visits = 1 }
   visited o (Expr.negated a) = record { value = o.negated_op (visited o a).value; visits = suc (visited o a).visits }
@@ -51,7 +51,7 @@ unit_ops =
       constant_op = λ v. tt;
       identity_op = tt;
       lagrange_op = λ i. tt;
-      eq_xyop = λ i. tt;
+      eq_xy_op = λ i. tt;
       poly_op = λ q r. tt;
       challenge_op = λ i. tt;
       negated_op = λ a. tt;

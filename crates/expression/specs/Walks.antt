@@ -13,7 +13,7 @@ cap_ops =
       constant_op = λ v. 0;
       identity_op = 1;
       lagrange_op = λ i. 1;
-      eq_xyop = λ i. 1;
+      eq_xy_op = λ i. 1;
       poly_op = λ q r. 1;
       challenge_op = λ i. 0;
       negated_op = λ a. a;
@@ -53,7 +53,7 @@ used_ops q =
       constant_op = λ v. false;
       identity_op = false;
       lagrange_op = λ i. false;
-      eq_xyop = λ i. false;
+      eq_xy_op = λ i. false;
       poly_op = λ p r. same_query q (record { polynomial = p; rotation = r });
       challenge_op = λ i. false;
       negated_op = λ a. a;

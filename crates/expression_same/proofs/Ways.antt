@@ -111,18 +111,18 @@ number_in (Tree.node k v i ts) = v
 module _ (f : ℕ → Expr) (g : ℕ → Exprs) (a b v : ℕ) where
   lone_kind : (k : Kind) → lone (node_of k f g a b v) ≡ node_of k (λ c. no_expr) (λ c. no_exprs) a b v
   unfolding lone node_of
-  lone_kind Kind.isConstant = refl
-  lone_kind Kind.isIdentity = refl
-  lone_kind Kind.isLagrange = refl
-  lone_kind Kind.isEqXY = refl
-  lone_kind Kind.isPolynomial = refl
-  lone_kind Kind.isChallenge = refl
-  lone_kind Kind.isNegated = refl
-  lone_kind Kind.isSum = refl
-  lone_kind Kind.isProduct = refl
+  lone_kind Kind.is_constant = refl
+  lone_kind Kind.is_identity = refl
+  lone_kind Kind.is_lagrange = refl
+  lone_kind Kind.is_eq_xy = refl
+  lone_kind Kind.is_polynomial = refl
+  lone_kind Kind.is_challenge = refl
+  lone_kind Kind.is_negated = refl
+  lone_kind Kind.is_sum = refl
+  lone_kind Kind.is_product = refl
   lone_kind Kind.is_scaled = refl
-  lone_kind Kind.isPowers = refl
-  lone_kind Kind.isItem = refl
+  lone_kind Kind.is_powers = refl
+  lone_kind Kind.is_item = refl
   lone_kind Kind.is_none = refl
 
   -- a kind that has nothing below it

@@ -29,7 +29,7 @@ use Rattle.prover.specs.Columns.{
   input_at,
   group_table,
   m_at,
-  lookup_hat,
+  lookup_h_at,
   z_at,
   identity_factor_at,
   permutation_factor_at,
@@ -160,7 +160,7 @@ module _ (𝓕 : Field) where
           → Each [] (group_of j) (λ l. EachRow 𝓕 g (λ b. input_in scene g.circuit l b ≡ input_at 𝓕 g l b))
       pub table : (j : ℕ) → j < num_groups g.circuit → EachRow 𝓕 g (λ b. table_in scene g.circuit j b ≡ group_table 𝓕 g (group_of j) b)
       pub m : (j b : ℕ) → j < num_groups g.circuit → value_in (m_number g.circuit j) b ≡ m_at 𝓕 g (group_of j) b
-      pub h : (j b : ℕ) → j < num_groups g.circuit → value_in (h_number g.circuit j) b ≡ lookup_hat 𝓕 g (group_of j) b
+      pub h : (j b : ℕ) → j < num_groups g.circuit → value_in (h_number g.circuit j) b ≡ lookup_h_at 𝓕 g (group_of j) b
       pub z : (i b : ℕ) → i < num_z g.circuit → value_in (z_number g.circuit i) b ≡ z_at 𝓕 g i b
       pub identity_factor_is : (i b : ℕ) → i < num_copied g.circuit
           → value_at 𝓕 scene (identity_factor g.circuit i) b ≡ identity_factor_at 𝓕 g i b

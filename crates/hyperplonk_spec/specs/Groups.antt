@@ -7,7 +7,7 @@ use Rattle.expression.specs.Expr.{Expr, minus, at}
 use Rattle.backend.specs.Circuit.{Circuit, Pair, num_lookups, groups_of}
 use Rattle.backend.specs.Constraints.{inputs_of, tables_of, side_of, group_with}
 use Rattle.backend.specs.Questions.{q18}
-use Rattle.prover.specs.Lookup.{multiplicity, covered, h_at, group_multiplicity, group_covered, group_hat}
+use Rattle.prover.specs.Lookup.{multiplicity, covered, h_at, group_multiplicity, group_covered, group_h_at}
 use Rattle.prover.specs.Log.{Log}
 use Rattle.prover.specs.Columns.{table_at, group_table}
 use Rattle.prover.specs.Denominators.{lookup_denominators, group_denominators}
@@ -46,7 +46,7 @@ TablesAgree =
 pub record IsOne (𝓕 : Field) (rows : ℕ) (input table : ℕ → 𝓕.F) : Type 0 where
   pub m : (j : ℕ) → group_multiplicity 𝓕 rows (input ∷ []) table j ≡ multiplicity 𝓕 rows input table j
   pub fifteen : group_covered 𝓕 rows (input ∷ []) table ≡ covered 𝓕 rows input table
-  pub h : (γ : 𝓕.F) (m : ℕ → 𝓕.F) (b : ℕ) → group_hat 𝓕 γ (input ∷ []) table m b ≡ h_at 𝓕 γ input table m b
+  pub h : (γ : 𝓕.F) (m : ℕ → 𝓕.F) (b : ℕ) → group_h_at 𝓕 γ (input ∷ []) table m b ≡ h_at 𝓕 γ input table m b
   pub denominators : (γ : 𝓕.F) → group_denominators 𝓕 rows γ (input ∷ []) table ≡ lookup_denominators 𝓕 rows γ input table
 
 -- "a group of one keeps today's nodes": h * (input + γ) * (table + γ) - (table + γ) + m * (input + γ)

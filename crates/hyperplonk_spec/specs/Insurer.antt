@@ -12,7 +12,7 @@ use Rattle.backend.specs.Questions.{circuit_questions, q18, largest_k}
 use Rattle.preprocessor.specs.Compose.{CutsAlike, composed_nodes}
 use Rattle.prover.specs.Lookup.{Turns, sum_rows, sum_counts}
 use Rattle.prover.specs.Log.{Log}
-use Rattle.prover.specs.Columns.{user_environment, group_inputs, group_table, count_at, lookup_hat, all_covered}
+use Rattle.prover.specs.Columns.{user_environment, group_inputs, group_table, count_at, lookup_h_at, all_covered}
 use Rattle.hyperplonk_spec.specs.Build.{log_of, column_words, check_build, build_of, lent_build}
 use Rattle.hyperplonk_spec.specs.RowSum.{row_sum_of, lent_sum}
 use Rattle.hyperplonk_spec.specs.Meaning.{Each, EachRow, EachLookup, HasCounts, ZeroConstraints, EqualCells, NoneZero, SomeZero, Premises}
@@ -141,7 +141,7 @@ module _ (g : Log 𝔾) (left : List ℕ) (j : ℕ) where
     pub m_sums : sum_counts rows m ≡ length group * rows
     -- "Σh = 0 is Haböck's identity": of the words, and of h as defined
     pub h_sums : sum_rows 𝔾 rows (λ b. el (h b)) ≡ 𝔾.zero
-    pub h_sums_defined : sum_rows 𝔾 rows (lookup_hat 𝔾 g group) ≡ 𝔾.zero
+    pub h_sums_defined : sum_rows 𝔾 rows (lookup_h_at 𝔾 g group) ≡ 𝔾.zero
     -- "Haböck's paper shares a count out among equal table rows; here the last row takes it all, … with the same total for each table value"
     pub same_totals : (v : 𝔾.F) → total_of 𝔾 el rows inputs table (λ r. el (m r)) v ≡ total_of 𝔾 el rows inputs table (normalized_multiplicity 𝔾 el rows inputs table) v
     -- Haböck's identity for the words of m: Σ 1/(γ + input) = Σ m/(γ + table)

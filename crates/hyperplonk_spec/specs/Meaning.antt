@@ -17,7 +17,7 @@ use Rattle.prover.specs.Columns.{
   group_table,
   count_at,
   all_covered,
-  lookup_hat,
+  lookup_h_at,
   permutation_factor_at,
   composed_environment,
 }
@@ -141,7 +141,7 @@ module _ (𝓕 : Field) where
           (λ e. EachRow (λ b. value_at 𝓕 (composed_environment 𝓕 g α y) e b ≡ zero))
       -- "each h sums to 0, each m sums to 2^k": "Counts add as whole numbers, all else in the field." Item 3 of document 02: "Where demand 3
       -- has m sum to 2^k, a group of s lookups has s × 2^k"
-      pub h_sums : EachGroup (λ group. sum_rows 𝓕 (rows_of g.circuit) (lookup_hat 𝓕 g group) ≡ zero)
+      pub h_sums : EachGroup (λ group. sum_rows 𝓕 (rows_of g.circuit) (lookup_h_at 𝓕 g group) ≡ zero)
       pub m_sums : EachGroup (λ group. sum_counts (rows_of g.circuit) (count_at 𝓕 g group) ≡ length group * rows_of g.circuit)
       -- "and for every alpha and every y the composed expression sums to 0"
       pub composed_sum : (α : F) (y : ℕ → F)

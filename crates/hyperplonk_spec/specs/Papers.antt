@@ -8,7 +8,7 @@ use Rattle.bh.specs.Rows.{row_at}
 use Rattle.lists.specs.Lists.{range, concat, count_of, total, All}
 use Rattle.backend.specs.Circuit.{Circuit, rows_of, num_copied}
 use Rattle.preprocessor.specs.Compose.{num_z, z_cut}
-use Rattle.prover.specs.Lookup.{same, group_covered, group_multiplicity, group_hat, GroupHolds, Turns, sum_rows}
+use Rattle.prover.specs.Lookup.{same, group_covered, group_multiplicity, group_h_at, GroupHolds, Turns, sum_rows}
 use Rattle.prover.specs.Log.{Log}
 use Rattle.prover.specs.Columns.{ratio_at, z_at_place}
 use Rattle.hyperplonk_spec.specs.Meaning.{Embeds}
@@ -45,8 +45,8 @@ module _ (𝓕 : Field) where
 
     -- the h column of a group is the paper's on every row, and meets the equation on each where no denominator is zero
     pub record IsHabockH : Type 0 where
-      pub is_fractions : (b : ℕ) → group_hat 𝓕 γ inputs table m b ≡ paper_h b
-      pub holds : (b : ℕ) → NoneZeroAt b → HabockHolds (group_hat 𝓕 γ inputs table m b) b
+      pub is_fractions : (b : ℕ) → group_h_at 𝓕 γ inputs table m b ≡ paper_h b
+      pub holds : (b : ℕ) → NoneZeroAt b → HabockHolds (group_h_at 𝓕 γ inputs table m b) b
 
     -- on such a row no other value does
     abbrev pub OnlyHabockH : Type 0
@@ -90,7 +90,7 @@ module _ (𝓕 : Field) where
     abbrev pub HabockSum : F → Type 0
     HabockSum γ =
         Embeds 𝓕 el → group_covered 𝓕 rows inputs table ≡ true
-        → sum_rows 𝓕 rows (group_hat 𝓕 γ inputs table (λ r. el (group_multiplicity 𝓕 rows inputs table r))) ≡ zero
+        → sum_rows 𝓕 rows (group_h_at 𝓕 γ inputs table (λ r. el (group_multiplicity 𝓕 rows inputs table r))) ≡ zero
 
     -- what is summed over the table's rows with a factor that depends on the table's value alone depends on the totals only
     abbrev pub TotalsDecide : Type 0

@@ -20,7 +20,7 @@ use Rattle.expression.specs.Reader.{LayoutSmall}
 use Rattle.expression.specs.Point.{environment_of}
 use Rattle.expression.specs.Queries.{used_queries, queries_into, query_words}
 use Rattle.expression.specs.declared.poly.Layout.{Layout}
-use Rattle.oracle_entry.specs.Entry.{there, degree_at, queries_at, layout_from, value_word, fit, valuesInto}
+use Rattle.oracle_entry.specs.Entry.{there, degree_at, queries_at, layout_from, value_word, fit, values_into}
 
 pub chosen : {A : Type 0} (t : Bool) (x y : A) → t ≡ true → x ≡ cond t x y
 chosen t x y e = sym (ap (λ (b : Bool). cond b x y) e)
@@ -135,10 +135,10 @@ value_word_is nodes circuit witness columns challenges l k eq n b place e x r p 
 -- what stands in the buffer after each test
 module _ (k : ℕ) (nodes circuit witness columns challenges layout eq : List ℕ) (n : ℕ) (out : List ℕ) where
   abbrev after : List ℕ
-  after = valuesInto k nodes circuit witness columns challenges layout eq n out
+  after = values_into k nodes circuit witness columns challenges layout eq n out
 
   stays : fit k layout nodes n out ≡ false → out ≡ after
-  unfolding valuesInto
+  unfolding values_into
   stays e = other (fit k layout nodes n out) _ out e
 
   pub bad_k : (leb 1 k && leb k 20) ≡ false → out ≡ after
@@ -170,7 +170,7 @@ module _ (k : ℕ) (nodes circuit witness columns challenges layout eq : List �
         → (l : Layout) → l ≡ layout_from k layout
         → (d : List ℕ) → d ≡ write_at out 0 (tabulate (value_word nodes circuit witness columns challenges l k eq n) (2 ^ k))
         → d ≡ after
-    unfolding fit valuesInto
+    unfolding fit values_into
     all_there a b c l p d e =
         e
         ∙ ap (λ (x : Layout). write_at out 0 (tabulate (value_word nodes circuit witness columns challenges x k eq n) (2 ^ k))) p

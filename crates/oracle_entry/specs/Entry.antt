@@ -51,9 +51,9 @@ fit k layout nodes n out =
     within 1 20 k && ((eqb (length layout) 7 && all_of (λ w. ltb w 1048577) layout) && (there nodes n && leb (2 ^ k) (length out)))
 
 -- the value at every row, written over the first 2^k words
-unfoldable pub valuesInto
+unfoldable pub values_into
     : ℕ → List ℕ → List ℕ → List ℕ → List ℕ → List ℕ → List ℕ → List ℕ → ℕ → List ℕ → List ℕ
-valuesInto k nodes circuit witness columns challenges layout eq n out =
+values_into k nodes circuit witness columns challenges layout eq n out =
     cond (fit k layout nodes n out)
     (write_at out 0 (tabulate (value_word nodes circuit witness columns challenges (layout_from k layout) k eq n) (2 ^ k)))
     out

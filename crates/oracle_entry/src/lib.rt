@@ -11,7 +11,7 @@ ghost use Rattle.expression.specs.Point.{PointInOrder, environment_of};
 ghost use Rattle.expression.specs.Reader.{LayoutSmall};
 ghost use Rattle.expression.specs.Queries.{queries_into};
 ghost use Rattle.backend.specs.Questions.{circuit_questions};
-ghost use Rattle.oracle_entry.specs.Entry.{degree_at, queries_at, layout_from, value_word, valuesInto};
+ghost use Rattle.oracle_entry.specs.Entry.{degree_at, queries_at, layout_from, value_word, values_into};
 
 use backend_questions::first_no;
 use backend_sections::words::all_below;
@@ -161,7 +161,7 @@ pub fn expression_values<'a>(
     n: usize,
     out: &mut [u64],
 )
-    ensures { out.new ≡ valuesInto k nodes.now circuit.now witness.now columns.now challenges.now layout.now eq.now n out.old }
+    ensures { out.new ≡ values_into k nodes.now circuit.now witness.now columns.now challenges.now layout.now eq.now n out.old }
 {
     let order = (1 <= k) & (k <= 20);
     if !order {

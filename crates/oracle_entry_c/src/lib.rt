@@ -5,7 +5,7 @@ ghost use Rattle.std.specs.Prelude.{◌≡◌, length};
 ghost use Rattle.lists.specs.Lists.{first_no};
 ghost use Rattle.expression.specs.Queries.{queries_into};
 ghost use Rattle.backend.specs.Questions.{circuit_questions};
-ghost use Rattle.oracle_entry.specs.Entry.{degree_at, queries_at, valuesInto};
+ghost use Rattle.oracle_entry.specs.Entry.{degree_at, queries_at, values_into};
 
 #[unsafe(no_mangle)]
 pub extern "C" fn expression_degree(nodes: &[u64], n: usize) -> u64
@@ -40,7 +40,7 @@ pub extern "C" fn expression_values<'a>(
     n: usize,
     out: &mut [u64],
 )
-    ensures { out.new ≡ valuesInto k nodes.now circuit.now witness.now columns.now challenges.now layout.now eq.now n out.old }
+    ensures { out.new ≡ values_into k nodes.now circuit.now witness.now columns.now challenges.now layout.now eq.now n out.old }
 {
     oracle_entry::expression_values(
         k, nodes, circuit, witness, columns, challenges, layout, eq, n, out,

@@ -37,7 +37,7 @@ use Rattle.prover.specs.Lookup.{
   h_at,
   group_multiplicity,
   group_covered,
-  group_hat,
+  group_h_at,
   omitted_sum,
   GroupHolds,
   sum_rows,
@@ -256,8 +256,8 @@ module _ (𝓕 : Field) where
 
       -- so h sums to zero
       pub group_h_sum : group_covered 𝓕 rows inputs table ≡ true
-          → sum_rows 𝓕 rows (group_hat 𝓕 γ inputs table (λ r. num 𝓕 (group_multiplicity 𝓕 rows inputs table r))) ≡ nil
-      unfolding group_hat
+          → sum_rows 𝓕 rows (group_h_at 𝓕 γ inputs table (λ r. num 𝓕 (group_multiplicity 𝓕 rows inputs table r))) ≡ nil
+      unfolding group_h_at
       group_h_sum e =
           up_to_op add nil (adds 𝓕) f (λ b. neg (g b)) rows
           ∙ ap₂ add (list_rows 𝓕 rows (λ input b. inv (add γ (input b))) inputs ∙ group_identity e) (sum_neg 𝓕 g rows)
@@ -315,8 +315,8 @@ module _ (𝓕 : Field) where
     abbrev T : F
     T = add γ (table b)
 
-    pub group_h_holds : GroupHolds 𝓕 γ inputs table m (group_hat 𝓕 γ inputs table m b) b
-    unfolding group_hat
+    pub group_h_holds : GroupHolds 𝓕 γ inputs table m (group_h_at 𝓕 γ inputs table m b) b
+    unfolding group_h_at
     group_h_holds =
         solve 𝓕 (S ∷ m b ∷ inv T ∷ product 𝓕 I ∷ T ∷ []) (((var 0 :+ minus (var 1 :* var 2)) :* var 3) :* var 4)
         ((var 0 :* var 3) :* var 4 :+ minus ((var 1 :* var 3) :* (var 2 :* var 4))) refl
@@ -332,10 +332,10 @@ module _ (𝓕 : Field) where
             ∙ inverses I h
 
     -- no other value does
-    pub group_h_only : (x : F) → GroupHolds 𝓕 γ inputs table m x b → x ≡ group_hat 𝓕 γ inputs table m b
+    pub group_h_only : (x : F) → GroupHolds 𝓕 γ inputs table m x b → x ≡ group_h_at 𝓕 γ inputs table m b
     group_h_only x e =
-        mul_cancel 𝓕 x (group_hat 𝓕 γ inputs table m b) (product 𝓕 I) (product_nonzero I h)
-        (mul_cancel 𝓕 (mul x (product 𝓕 I)) (mul (group_hat 𝓕 γ inputs table m b) (product 𝓕 I)) T q (e ∙ sym group_h_holds))
+        mul_cancel 𝓕 x (group_h_at 𝓕 γ inputs table m b) (product 𝓕 I) (product_nonzero I h)
+        (mul_cancel 𝓕 (mul x (product 𝓕 I)) (mul (group_h_at 𝓕 γ inputs table m b) (product 𝓕 I)) T q (e ∙ sym group_h_holds))
 
   -- ---- a group of one
   module _ (input table : ℕ → F) where
@@ -351,8 +351,8 @@ module _ (𝓕 : Field) where
         go true = refl
         go false = refl
 
-    pub one_h : (γ : F) (m : ℕ → F) (b : ℕ) → group_hat 𝓕 γ (input ∷ []) table m b ≡ h_at 𝓕 γ input table m b
-    unfolding group_hat h_at sum
+    pub one_h : (γ : F) (m : ℕ → F) (b : ℕ) → group_h_at 𝓕 γ (input ∷ []) table m b ≡ h_at 𝓕 γ input table m b
+    unfolding group_h_at h_at sum
     one_h γ m b = ap (λ (x : F). add x (neg (mul (m b) (inv (add γ (table b)))))) (𝓕.add_zero (inv (add γ (input b))))
 
     pub one_denominators : (rows : ℕ) (γ : F)

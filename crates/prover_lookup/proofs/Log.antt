@@ -19,7 +19,7 @@ use Rattle.lists.proofs.Walks.{all_map, any_map}
 use Rattle.lists.proofs.Turns.{grid_lt}
 use Rattle.expression.specs.Value.{poly_of}
 use Rattle.backend.specs.Circuit.{Pair, rows_of, num_lookups, group_sizes, groups_of}
-use Rattle.prover.specs.Lookup.{group_multiplicity, group_covered, group_hat}
+use Rattle.prover.specs.Lookup.{group_multiplicity, group_covered, group_h_at}
 use Rattle.prover.specs.Log.{Log}
 use Rattle.prover.specs.Columns.{
   input_at,
@@ -28,7 +28,7 @@ use Rattle.prover.specs.Columns.{
   group_table,
   count_at,
   m_at,
-  lookup_hat,
+  lookup_h_at,
   all_covered,
   compressed_polys,
   m_polys,
@@ -230,12 +230,12 @@ module _ (g : Log 𝔾) (sizes : List ℕ) (sizes_are : sizes ≡ group_sizes g.
         ∙ ap (λ (xs : List (ℕ → 𝔾.F)). group_denominators 𝔾 rows γ xs (group_table 𝔾 g (group j))) (sym inputs_are)
 
     h_is : (γ : 𝔾.F) (m m' : ℕ → 𝔾.F) (b : ℕ) → b < rows → m b ≡ m' b
-        → group_hat 𝔾 γ (group_inputs_from d at rows sizes j) (group_table_from d at rows sizes j) m b
-        ≡ group_hat 𝔾 γ (group_inputs 𝔾 g (group j)) (group_table 𝔾 g (group j)) m' b
+        → group_h_at 𝔾 γ (group_inputs_from d at rows sizes j) (group_table_from d at rows sizes j) m b
+        ≡ group_h_at 𝔾 γ (group_inputs 𝔾 g (group j)) (group_table 𝔾 g (group j)) m' b
     h_is γ m m' b r e =
         group_h_agree (λ i. elements_from d (group_at d at rows sizes j + i * 2 * rows)) (λ i. input_at 𝔾 g (lookup (first + i))) size b
         (group_table_from d at rows sizes j) (group_table 𝔾 g (group j)) (λ i h. input_same i h b r) (table_same b r) γ m m' e
-        ∙ ap (λ (xs : List (ℕ → 𝔾.F)). group_hat 𝔾 γ xs (group_table 𝔾 g (group j)) m' b) (sym inputs_are)
+        ∙ ap (λ (xs : List (ℕ → 𝔾.F)). group_h_at 𝔾 γ xs (group_table 𝔾 g (group j)) m' b) (sym inputs_are)
 
   -- ---- question 15
 
@@ -295,10 +295,10 @@ module _ (g : Log 𝔾) (sizes : List ℕ) (sizes_are : sizes ≡ group_sizes g.
         ∙ ap (λ (p : ℕ → 𝔾.F). p b) (get_map {B = ℕ → 𝔾.F} (m_at 𝔾 g) (groups_of g.circuit) j [] (λ r. 𝔾.zero) (omega arith))
 
     pub hs_are : (γ : 𝔾.F) → g.γ ≡ γ → hs_from d at rows sizes γ m ≡ words_of rows (h_polys 𝔾 g)
-    unfolding h_polys lookup_hat
+    unfolding h_polys lookup_h_at
     hs_are γ γ-is =
         ap (λ (x : 𝔾.F). hs_from d at rows sizes x m) (sym γ-is)
         ∙ groups_are
-        (λ j b. val (group_hat 𝔾 g.γ (group_inputs_from d at rows sizes j) (group_table_from d at rows sizes j) (elements_from d (m + j * rows)) b))
-        (lookup_hat 𝔾 g)
+        (λ j b. val (group_h_at 𝔾 g.γ (group_inputs_from d at rows sizes j) (group_table_from d at rows sizes j) (elements_from d (m + j * rows)) b))
+        (lookup_h_at 𝔾 g)
         (λ j l b h. ap val (h_is j l g.γ (elements_from d (m + j * rows)) (m_at 𝔾 g (group j)) b h (count_is j l b h)))

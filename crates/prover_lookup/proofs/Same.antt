@@ -13,7 +13,7 @@ use Rattle.lists.specs.Lists.{tabulate, range, concat, total, count_of, all_of, 
 use Rattle.lists.proofs.Columns.{tabulate_cong, map_tabulate, map_below, below_length}
 use Rattle.lists.proofs.Searches.{count_le, count_map}
 use Rattle.lists.proofs.Walks.{all_map, any_map}
-use Rattle.prover.specs.Lookup.{same, last_equal, multiplicity, covered, group_multiplicity, group_covered, group_hat}
+use Rattle.prover.specs.Lookup.{same, last_equal, multiplicity, covered, group_multiplicity, group_covered, group_h_at}
 use Rattle.prover.specs.Denominators.{group_denominators}
 use Rattle.prover.specs.Words.{elements_from}
 use Rattle.prover.proofs.Search.{last_same}
@@ -126,8 +126,8 @@ module _ (input input' : ℕ → ℕ → 𝔾.F) (s : ℕ) where
         (ap (𝔾.add γ) tables)
 
     pub group_h_agree : (m m' : ℕ → 𝔾.F) → m b ≡ m' b
-        → group_hat 𝔾 γ (tabulate input s) table m b ≡ group_hat 𝔾 γ (tabulate input' s) table' m' b
-    unfolding group_hat
+        → group_h_at 𝔾 γ (tabulate input s) table m b ≡ group_h_at 𝔾 γ (tabulate input' s) table' m' b
+    unfolding group_h_at
     group_h_agree m m' e =
         ap₂ (λ (x y : 𝔾.F). 𝔾.add x (𝔾.neg y))
         (ap (sum 𝔾)
@@ -172,8 +172,8 @@ module _ (d e : List ℕ) (at rows s h : ℕ) (some : 0 < s) (before : at + s * 
           (elements_from e (at + rows)) (elements_from d (at + rows)) (λ i h. kept_input i h b l) (kept_table b l) γ
 
       pub kept_h : (m : ℕ) → m + rows ≤ h
-          → group_hat 𝔾 γ (inputs_from e at rows s) (elements_from e (at + rows)) (elements_from e m) b
-          ≡ group_hat 𝔾 γ (inputs_from d at rows s) (elements_from d (at + rows)) (elements_from d m) b
+          → group_h_at 𝔾 γ (inputs_from e at rows s) (elements_from e (at + rows)) (elements_from e m) b
+          ≡ group_h_at 𝔾 γ (inputs_from d at rows s) (elements_from d (at + rows)) (elements_from d m) b
       kept_h m r =
           group_h_agree (λ i. elements_from e (at + i * 2 * rows)) (λ i. elements_from d (at + i * 2 * rows)) s b
           (elements_from e (at + rows)) (elements_from d (at + rows)) (λ i h. kept_input i h b l) (kept_table b l) γ

@@ -3,7 +3,7 @@
 use Rattle.std.specs.Prelude.{◌≡◌, Bool, true, cond, List, map, ℕ, ◌+◌, ◌*◌, ◌<◌, length, get_or, take, drop, replicate}
 use Rattle.field.specs.Field.{𝔾, val}
 use Rattle.lists.specs.Lists.{tabulate, range, concat, total, all_of, any_of, write_at}
-use Rattle.prover.specs.Lookup.{multiplicity, covered, group_multiplicity, group_covered, group_hat}
+use Rattle.prover.specs.Lookup.{multiplicity, covered, group_multiplicity, group_covered, group_h_at}
 use Rattle.prover.specs.Denominators.{some_zero, group_denominators}
 use Rattle.prover.specs.Answers.{searches, outcome_of}
 use Rattle.prover.specs.Words.{elements_from}
@@ -64,7 +64,7 @@ module _ (d : List ℕ) (at rows : ℕ) (sizes : List ℕ) where
   abbrev pub hs_from : 𝔾.F → ℕ → List ℕ
   hs_from γ m =
       concat
-      (tabulate (λ j. tabulate (λ b. val (group_hat 𝔾 γ (group_inputs_from j) (group_table_from j) (elements_from d (m + j * rows)) b)) rows)
+      (tabulate (λ j. tabulate (λ b. val (group_h_at 𝔾 γ (group_inputs_from j) (group_table_from j) (elements_from d (m + j * rows)) b)) rows)
       (length sizes))
 
 -- the answer of `lookup_m_polys` on the buffer d, and the buffer e after: the counts stand from word m on if all groups are covered,

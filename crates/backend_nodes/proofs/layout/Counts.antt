@@ -82,18 +82,18 @@ room_less a n m r l = record { places = r.places; each = λ i k. (let f = r.each
 
 -- a node names two at most
 two_at_most : (k : Kind) (a b v : ℕ) → length (named k a b v) ≤ 2
-two_at_most Kind.isConstant a b v = omega arith
-two_at_most Kind.isIdentity a b v = omega arith
-two_at_most Kind.isLagrange a b v = omega arith
-two_at_most Kind.isEqXY a b v = omega arith
-two_at_most Kind.isPolynomial a b v = omega arith
-two_at_most Kind.isChallenge a b v = omega arith
-two_at_most Kind.isNegated a b v = omega arith
-two_at_most Kind.isSum a b v = omega arith
-two_at_most Kind.isProduct a b v = omega arith
+two_at_most Kind.is_constant a b v = omega arith
+two_at_most Kind.is_identity a b v = omega arith
+two_at_most Kind.is_lagrange a b v = omega arith
+two_at_most Kind.is_eq_xy a b v = omega arith
+two_at_most Kind.is_polynomial a b v = omega arith
+two_at_most Kind.is_challenge a b v = omega arith
+two_at_most Kind.is_negated a b v = omega arith
+two_at_most Kind.is_sum a b v = omega arith
+two_at_most Kind.is_product a b v = omega arith
 two_at_most Kind.is_scaled a b v = omega arith
-two_at_most Kind.isPowers a b v = omega arith
-two_at_most Kind.isItem a b v = go (eqb v 0)
+two_at_most Kind.is_powers a b v = omega arith
+two_at_most Kind.is_item a b v = go (eqb v 0)
   where
     go : (t : Bool) → length (plain a ∷ cond t [] (as_item b ∷ [])) ≤ 2
     go true = omega arith

@@ -16,7 +16,7 @@ use Rattle.expression.specs.Value.{value_at}
 use Rattle.backend.specs.Circuit.{Pair, rows_of, num_groups, groups_of}
 use Rattle.preprocessor.specs.Compose.{CutsAlike, num_z}
 use Rattle.prover.specs.Log.{Log}
-use Rattle.prover.specs.Columns.{user_environment, lookup_hat, z_at}
+use Rattle.prover.specs.Columns.{user_environment, lookup_h_at, z_at}
 use Rattle.hyperplonk_spec.specs.Build.{Output, log_of, check_build, build_of, lent_build}
 use Rattle.hyperplonk_spec.specs.Meaning.{Each, Premises, cell_value, no_cell}
 use Rattle.hyperplonk_spec.specs.Demand.{Succeeds}
@@ -250,9 +250,9 @@ unspoilt =
     row_listed_twice circuit sheet witness challenges (replicate 80 9) (replicate 548 9) number_zero 0 (ltb-true _ _ one_group)
 
 -- h is not 0 at row 5, where the count of 3 stands
-pub h_moves : lookup_hat 𝔾 log (get_or (groups_of log.circuit) 0 []) 5 ≢ 𝔾.zero
+pub h_moves : lookup_h_at 𝔾 log (get_or (groups_of log.circuit) 0 []) 5 ≢ 𝔾.zero
 unfolding everything
-h_moves = apart (lookup_hat 𝔾 log (get_or (groups_of log.circuit) 0 []) 5) 𝔾.zero refl
+h_moves = apart (lookup_h_at 𝔾 log (get_or (groups_of log.circuit) 0 []) 5) 𝔾.zero refl
 
 -- each z column is neither 0 nor 1 at row 2
 moves_at_2 : all_of (λ i. not (same (z_at 𝔾 log i 2) 𝔾.zero) && not (same (z_at 𝔾 log i 2) 𝔾.one)) (range (num_z log.circuit)) ≡ true
