@@ -28,16 +28,15 @@ TABLE = {
 }
 NAME = re.compile(r"(?<![\w'-])(" + "|".join(map(re.escape, TABLE)) + r")(?![\w'-])")
 
-for top in ("crates", "docs"):
-    for folder, dirs, names in os.walk(top):
-        dirs[:] = sorted(d for d in dirs if d not in ("out", "data"))
-        for n in names:
-            if not n.endswith((".antt", ".rt", ".edit", ".md")):
-                continue
-            path = os.path.join(folder, n)
-            with open(path, encoding="utf-8") as f:
-                text = f.read()
-            new = NAME.sub(lambda m: TABLE[m[1]], text)
-            if new != text:
-                with open(path, "w", encoding="utf-8") as f:
-                    f.write(new)
+for folder, dirs, names in os.walk("crates"):
+    dirs[:] = sorted(d for d in dirs if d not in ("out", "data"))
+    for n in names:
+        if not n.endswith((".antt", ".rt", ".edit")):
+            continue
+        path = os.path.join(folder, n)
+        with open(path, encoding="utf-8") as f:
+            text = f.read()
+        new = NAME.sub(lambda m: TABLE[m[1]], text)
+        if new != text:
+            with open(path, "w", encoding="utf-8") as f:
+                f.write(new)
