@@ -1,5 +1,5 @@
-// "A thin reader holds the circuit words and hands out sections." Each function that takes, makes or has a local of the reader is
-// proved by a walk of its MIR; `section_words` and `lists::word_at`, which do the work, are covered.
+// "A thin reader holds the circuit words and hands out sections." An accessor takes the struct apart and calls `section_words` or
+// `lists::word_at`, which do the work.
 ghost use Rattle.std.specs.Prelude.{◌≡◌, ◌<◌, get_or};
 ghost use Rattle.backend.specs.Circuit.{Section, section_at, body_of, word_k};
 ghost use Rattle.backend.specs.Laid.{ContentsValid};
@@ -128,7 +128,7 @@ impl<'a> Circuit<'a> {
     }
 }
 
-// The same over the circuit words, a plain slice: a caller of these has no reader of its own, and is covered.
+// The same over the circuit words, a plain slice: a caller of these has no reader of its own.
 
 // "Word 0 is k."
 pub fn k_of(circuit: &[u64]) -> u64

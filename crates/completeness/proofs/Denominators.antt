@@ -1,4 +1,4 @@
--- What `zeroDenominator` says: there is a group, a lookup of it or its table, and a row, or a copied column and a row but 0, where a denominator is zero; and else
+-- What `zero_denominator` says: there is a group, a lookup of it or its table, and a row, or a copied column and a row but 0, where a denominator is zero; and else
 -- there is none. Over any field.
 use mathlib.Core.Path.{◌≡◌, refl, sym, ap, ◌∙◌, subst}
 use mathlib.Core.Logic.{◌⊎◌, ◌↔◌, inl, inr, ⊎_elim}

@@ -1,4 +1,4 @@
--- The reading of a node does not depend on the fuel: `expr-step` and `items-step` read one node.
+-- The reading of a node does not depend on the fuel: `expr_step` and `items_step` read one node.
 use mathlib.Core.Path.{◌≡◌, refl, fun_ext}
 use mathlib.Core.Bool.{Bool, true, false}
 use mathlib.Core.List.{List}

@@ -1,4 +1,4 @@
--- `sameExpr` is equality of expressions, and `same_list` of their lists.
+-- `same_expr` is equality of expressions, and `same_list` of their lists.
 use mathlib.Core.Path.{◌≡◌, refl, sym, ap, ap₂, ◌∙◌, subst}
 use mathlib.Core.Bool.{true}
 use mathlib.Core.List.{List, [], ◌∷◌}

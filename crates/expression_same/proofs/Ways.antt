@@ -1,4 +1,4 @@
--- What each way through the code computes is `sameExpr` and `sameExprs`: d and e are the nodes as read, and the other hypotheses are what
+-- What each way through the code computes is `same_expr` and `same_exprs`: d and e are the nodes as read, and the other hypotheses are what
 -- the calls ensure.
 use mathlib.Core.Path.{◌≡◌, refl, sym, ap, ap₂, ◌∙◌, subst}
 use mathlib.Core.Bool.{Bool, true, false, cond, ◌&&◌, and-true, and-false}

@@ -1,4 +1,4 @@
--- Questions in order: what `firstNo` says.
+-- Questions in order: what `first_no` says.
 use mathlib.Core.Path.{◌≡◌, refl, sym, ap, ◌∙◌}
 use mathlib.Core.Bool.{Bool, true, false, cond}
 use mathlib.Core.List.{List, [], ◌∷◌, ◌++◌, map}

@@ -130,6 +130,6 @@ module _ {A : Type 0} where
   unfolding write_at
   write_at_sets vs d at h = sets-eq vs d at h ∙ append_assoc (take at d) vs (drop (at + length vs) d)
 
--- `writePrefix` is `writeAt` from the first place on
+-- `write_prefix` is `write_at` from the first place on
 pub write_at_write_prefix : (s d : List ℕ) → write_prefix s d ≡ write_at d 0 s
 write_at_write_prefix s d = sym (write_at_front d s)

@@ -1,4 +1,4 @@
--- The walk for the degree: each way through the code is the fold by `capOps`.
+-- The walk for the degree: each way through the code is the fold by `cap_ops`.
 use mathlib.Core.Path.{◌∙◌, ap, refl}
 use Rattle.expression.proofs.Ways as ways
 use Prim.Native.Nat.{max}

@@ -1,4 +1,4 @@
--- The walk for a query: each way through the code is the fold by `usedOps`.
+-- The walk for a query: each way through the code is the fold by `used_ops`.
 use mathlib.Core.Path.{◌∙◌, ap, refl}
 use Rattle.expression.proofs.Ways as ways
 use mathlib.Core.Path.{sym}

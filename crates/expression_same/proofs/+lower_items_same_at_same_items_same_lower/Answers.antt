@@ -1,4 +1,4 @@
--- The walk by two places at once: each way through the code is `sameExpr` and `sameExprs`.
+-- The walk by two places at once: each way through the code is `same_expr` and `same_exprs`.
 use borrow.Author.Rules.{rules}
 use native.Mathlib.Omega.{arith}
 use Rattle.expression.specs.Nodes.{expr_of, items_of, no_expr, no_exprs}

@@ -35,5 +35,5 @@ groups_alike-requires c =
 pub returns : goal.returns
 returns c =
     let ws = c.args.circuit.now in
-    let good = rule_kept ws _ c.groups_of-numbers.ensures _ c.numbers_good-good.ensures (c.if-not-good.false) in
-    tables_told ws _ _ _ _ c.requires.0 good (ap (λ (n : ℕ). take n c.group_sizes-grouped.result.of) (sub-zero c.group_sizes-grouped.result.count) ∙ c.group_sizes-grouped.ensures.3 ∙ ap group_sizes c.groups_of-numbers.ensures) c.nodes_of-nodes.ensures c.widths_of-widths.ensures c.pairs_of-pairs.ensures _ c.groups_alike.ensures
+    let kept = rule_kept ws _ c.groups_of-numbers.ensures _ c.numbers_good-good.ensures (c.if-not-good.false) in
+    tables_told ws _ _ _ _ c.requires.0 kept (ap (λ (n : ℕ). take n c.group_sizes-grouped.result.of) (sub-zero c.group_sizes-grouped.result.count) ∙ c.group_sizes-grouped.ensures.3 ∙ ap group_sizes c.groups_of-numbers.ensures) c.nodes_of-nodes.ensures c.widths_of-widths.ensures c.pairs_of-pairs.ensures _ c.groups_alike.ensures
