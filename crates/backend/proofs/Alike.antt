@@ -3,7 +3,7 @@ use mathlib.Core.Path.{◌≡◌, refl, sym, ap, ap₂, ◌∙◌}
 use mathlib.Core.Bool.{Bool, true, false, ◌&&◌, ◌||◌, and-true, and-false, and_assoc}
 use mathlib.Core.List.{List, [], ◌∷◌, ◌++◌}
 use Prim.Native.Nat.{ℕ, zero, suc, ◌+◌, ◌-◌, ◌*◌, ◌/◌, ◌≤◌, ◌<◌}
-use native.Mathlib.Nat.{add-zero, zero-add}
+use native.Mathlib.Nat.{add-zero}
 use native.Mathlib.Numerals.{add-one}
 use native.Mathlib.Omega.{arith}
 use lib.Dec.{eqb}
@@ -175,20 +175,19 @@ module _ (nodes widths body : List ℕ) where
       ∙ all_map tables_alike (λ j. group_from nodes widths body (total (take j sizes)) (get_or sizes j 0)) (range (length sizes)))
 
   -- where table t of lookup i stands, whose first pair is `first`
-  pub place_fits : total widths ≡ length body / 2 → (i t first : ℕ) → first ≡ total (take (0 + i) widths) → t < get_or widths i 0
+  pub place_fits : total widths ≡ length body / 2 → (i t first : ℕ) → first ≡ total (take i widths) → t < get_or widths i 0
       → (first + t) * 2 + 1 < length body
   place_fits e i t first p l =
-      let q : first ≡ total (take i widths) = p ∙ ap (λ (n : ℕ). total (take n widths)) (zero-add i) in
       let w = total_within widths i in
       omega arith
 
-  pub same_at : (i f t first second : ℕ) (r : Bool) → first ≡ total (take (0 + i) widths) → second ≡ total (take (0 + f) widths)
+  pub same_at : (i f t first second : ℕ) (r : Bool) → first ≡ total (take i widths) → second ≡ total (take f widths)
       → r ≡ same_expr (expr_of nodes (get_or body ((first + t) * 2 + 1) 0)) (expr_of nodes (get_or body ((second + t) * 2 + 1) 0))
       → r ≡ same_expr (table_of i t) (table_of f t)
   same_at i f t first second r p q e =
       e
       ∙ ap₂ (λ (a b : ℕ). same_expr (expr_of nodes (get_or body ((a + t) * 2 + 1) 0)) (expr_of nodes (get_or body ((b + t) * 2 + 1) 0)))
-      (p ∙ ap (λ (n : ℕ). total (take n widths)) (zero-add i)) (q ∙ ap (λ (n : ℕ). total (take n widths)) (zero-add f))
+      p q
 
   -- the groups before group j are alike, and its lookups are those from `first` on
   pub record Likened (sizes : List ℕ) (first j : ℕ) : Type 0 where

@@ -431,34 +431,6 @@ module _ (nodes : List ℕ) where
       pub grouped_fits : (degree first start j : ℕ) → Grouped sizes degree first start j → first + get_or sizes j 0 ≤ length widths
       grouped_fits degree first start j v = let q = total_within sizes j in let f = v.first_is in omega arith
 
--- the pairs of the first lookups, up to lookup first + i
-pub record Passed (widths : List ℕ) (first n next i : ℕ) : Type 0 where
-  pub upto : i ≤ n
-  pub next_is : next ≡ total (take (first + i) widths)
-
-module _ (widths : List ℕ) (first n : ℕ) where
-  pub passed_none : (start : ℕ) → start ≡ total (take first widths) → Passed widths first n start 0
-  passed_none start e = record { upto = omega arith; next_is = e ∙ ap (λ (i : ℕ). total (take i widths)) (sym (add-zero first)) }
-
-  pub passed_room : (next i : ℕ) → Passed widths first n next i → next + get_or widths (first + i) 0 ≤ total widths
-  passed_room next i v = let q = total_within widths (first + i) in let s = v.next_is in omega arith
-
-  pub passed_more : first + n ≤ length widths → (next i : ℕ) → Passed widths first n next i → i < n
-      → Passed widths first n (next + get_or widths (first + i) 0) (i + 1)
-  passed_more r next i v l =
-      record {
-        upto = omega arith;
-        next_is =
-            ap (λ (s : ℕ). s + get_or widths (first + i) 0) v.next_is ∙ sym (total-next-of widths (first + i) (omega arith))
-            ∙ ap (λ (i : ℕ). total (take i widths)) (let q : suc (first + i) ≡ first + (i + 1) = omega arith in q);
-      }
-
-  pub passed_all : (next i : ℕ) → Passed widths first n next i → n ≤ i → next ≡ total (take (first + n) widths)
-  passed_all next i v l =
-      let u = v.upto in
-      let e : i ≡ n = omega arith in
-      v.next_is ∙ ap (λ (i : ℕ). total (take (first + i) widths)) e
-
 -- ---- D, where question 10 is answered yes
 module _ (stated : ℕ) (constraints : List Expr) (groups : List (List (List Pair))) (h : degrees_fit (stated_of stated) constraints groups ≡ true) where
   fit_users : maximum (map degree constraints) ≤ 1024

@@ -1,5 +1,5 @@
 // Question 10 and D: the degrees of the user and lookup constraints, each 1025 where it is more.
-ghost use Rattle.std.specs.Prelude.{◌≡◌, true, List, map, ◌+◌, ◌/◌, ◌^◌, ◌<◌, ◌≤◌, min, max, length, get_or, take};
+ghost use Rattle.std.specs.Prelude.{◌≡◌, true, List, map, ◌+◌, ◌/◌, ◌<◌, ◌≤◌, min, length, get_or, take};
 ghost use Rattle.lists.specs.Lists.{all_of, split, total, All};
 ghost use Rattle.expression.specs.Expr.{Expr};
 ghost use Rattle.expression.specs.Nodes.{expr_of};
@@ -14,13 +14,7 @@ use backend_sections::reader::{
     constraints_of, groups_of, nodes_of, pairs_of, stated_of, widths_of,
 };
 use expression_degree::degree_of;
-
-// The larger of two.
-fn most(a: u64, b: u64) -> u64
-    ensures { result ≡ max a b }
-{
-    if a < b { b } else { a }
-}
+use lists::sum_before;
 
 // The largest degree of user constraints, given by their roots.
 fn user_degree(nodes: &[u64], constraints: &[u64]) -> u64
@@ -28,11 +22,8 @@ fn user_degree(nodes: &[u64], constraints: &[u64]) -> u64
     ensures { result ≡ min 1025 (def.degree_of (map (expr_of nodes.now) constraints.now)) }
 {
     let mut degree: u64 = 0;
-    let mut i = 0;
-    while i < constraints.len() {
-        let root = constraints[i] as usize;
-        degree = most(degree, degree_of(nodes, root));
-        i += 1;
+    for root in constraints {
+        degree = degree.max(degree_of(nodes, *root as usize));
     }
     degree
 }
@@ -43,12 +34,9 @@ fn side_degree(nodes: &[u64], pairs: &[u64], start: usize, n: usize, side: usize
     ensures { result ≡ min 1025 (def.side_degree nodes.now pairs.now start side n) }
 {
     let mut degree: u64 = 0;
-    let mut i = 0;
-    while i < n {
-        let at = (start + i) * 2 + side;
-        let root = pairs[at] as usize;
-        degree = most(degree, degree_of(nodes, root));
-        i += 1;
+    for i in 0..n {
+        let root = pairs[(start + i) * 2 + side] as usize;
+        degree = degree.max(degree_of(nodes, root));
     }
     degree
 }
@@ -69,29 +57,12 @@ fn group_degree(
     let table = side_degree(nodes, pairs, start, widths[first] as usize, 1);
     let mut sum: u64 = 0;
     let mut next = start;
-    let mut i = 0;
-    while i < n {
+    for i in 0..n {
         let w = widths[first + i] as usize;
         sum += side_degree(nodes, pairs, next, w, 0);
         next += w;
-        i += 1;
     }
-    let degree = 1 + sum + table;
-    if degree < 1025 { degree } else { 1025 }
-}
-
-// The pairs of the lookups up to lookup `first` + n, those before `first` being `start`.
-pub fn pairs_in(widths: &[u64], first: usize, n: usize, start: usize) -> usize
-    requires { (first + n ≤ length widths.now) × ((total widths.now < 2 ^ 62) × (start ≡ total (take first widths.now))) }
-    ensures { result ≡ total (take (first + n) widths.now) }
-{
-    let mut next = start;
-    let mut i = 0;
-    while i < n {
-        next += widths[first + i] as usize;
-        i += 1;
-    }
-    next
+    (1 + sum + table).min(1025)
 }
 
 // The largest degree of the constraints of the groups, which have so many lookups each.
@@ -101,14 +72,11 @@ fn groups_degree(nodes: &[u64], sizes: &[u64], widths: &[u64], pairs: &[u64]) ->
 {
     let mut degree: u64 = 0;
     let mut first: usize = 0;
-    let mut start: usize = 0;
-    let mut j = 0;
-    while j < sizes.len() {
+    for j in 0..sizes.len() {
         let n = sizes[j] as usize;
-        degree = most(degree, group_degree(nodes, widths, pairs, first, n, start));
-        start = pairs_in(widths, first, n, start);
+        let start = sum_before(widths, first);
+        degree = degree.max(group_degree(nodes, widths, pairs, first, n, start));
         first += n;
-        j += 1;
     }
     degree
 }
@@ -165,5 +133,5 @@ pub fn max_degree(d: Degrees) -> u64
     if 3 < stated {
         least = stated - 1;
     }
-    most(least, most(d.user, d.lookups))
+    least.max(d.user.max(d.lookups))
 }

@@ -97,12 +97,10 @@ fn all_in_place(nodes: &[u64]) -> bool
     ensures { result ≡ def.nodes_hold nodes.now (def.in_place nodes.now) }
 {
     let count = nodes.len() / 4;
-    let mut n = 0;
-    while n < count {
+    for n in 0..count {
         if !in_place(nodes, n) {
             return false;
         }
-        n += 1;
     }
     true
 }
@@ -112,14 +110,7 @@ fn roots_right(nodes: &[u64], roots: &[u64]) -> bool
     ensures { result ≡ all_of (def.is_root nodes.now) roots.now }
 {
     let count = nodes.len() / 4;
-    let mut i = 0;
-    while i < roots.len() {
-        if !plain(nodes, count, roots[i]) {
-            return false;
-        }
-        i += 1;
-    }
-    true
+    roots.iter().all(|root| plain(nodes, count, *root))
 }
 
 // Counts one name of node `n`. A number past the 1024 places is passed over.
@@ -173,8 +164,7 @@ fn count_nodes(counts: &mut [u64; 1024], nodes: &[u64])
     ensures { Tally counts.old (concat (tabulate (def.by_words def.named nodes.now) (def.node_count nodes.now))) counts.new }
 {
     let count = nodes.len() / 4;
-    let mut m = 0;
-    while m < count {
+    for m in 0..count {
         let at = m * 4;
         count_named(
             counts,
@@ -183,7 +173,6 @@ fn count_nodes(counts: &mut [u64; 1024], nodes: &[u64])
             nodes[at + 2],
             nodes[at + 3],
         );
-        m += 1;
     }
 }
 
@@ -192,10 +181,8 @@ fn count_roots(counts: &mut [u64; 1024], roots: &[u64])
     requires { Room counts.old (length roots.now) }
     ensures { Tally counts.old (map def.plain roots.now) counts.new }
 {
-    let mut i = 0;
-    while i < roots.len() {
-        count_name(counts, roots[i]);
-        i += 1;
+    for root in roots {
+        count_name(counts, *root);
     }
 }
 
@@ -209,12 +196,10 @@ fn named_once(nodes: &[u64], constraints: &[u64], pairs: &[u64]) -> bool
     count_roots(&mut counts, constraints);
     count_roots(&mut counts, pairs);
     let count = nodes.len() / 4;
-    let mut n = 0;
-    while n < count {
+    for n in 0..count {
         if counts[n] != 1 {
             return false;
         }
-        n += 1;
     }
     true
 }
@@ -266,12 +251,10 @@ pub fn nodes_in_range(nodes: &[u64], polys: u64, user: u64, k: u64) -> bool
     ensures { result ≡ def.nodes_in_range polys user k nodes.now }
 {
     let count = nodes.len() / 4;
-    let mut n = 0;
-    while n < count {
+    for n in 0..count {
         if !in_range(nodes, n, polys, user, k) {
             return false;
         }
-        n += 1;
     }
     true
 }

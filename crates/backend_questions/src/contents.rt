@@ -99,8 +99,7 @@ pub fn question_4(circuit: &[u64]) -> bool
     if len < at {
         return false;
     }
-    let mut s: usize = 0;
-    while s < 10 {
+    for s in 0..10 {
         let start = word_at(circuit, FIRST_START + s * 2);
         let count = word_at(circuit, FIRST_COUNT + s * 2);
         let words = words_in(k, s, count, len - at);
@@ -111,7 +110,6 @@ pub fn question_4(circuit: &[u64]) -> bool
             return false;
         }
         at += words;
-        s += 1;
     }
     let groups = word_at(circuit, GROUP_COUNT);
     let widths = word_at(circuit, WIDTH_COUNT);

@@ -81,13 +81,11 @@ fn good_cycle(
     if n == 0 {
         return false;
     }
-    let mut i = 0;
-    while i < n {
+    for i in 0..n {
         if !good_cell(cells, heads, earlier, start, i, polys, rows) {
             return false;
         }
         link(cells, heads, earlier, start + i);
-        i += 1;
     }
     true
 }
@@ -100,14 +98,12 @@ fn cycles_good(lengths: &[u64], cells: &[u64], polys: u64, rows: u64) -> bool
     let mut heads = [0; 1024];
     let mut earlier = [0; 4096];
     let mut start: usize = 0;
-    let mut i = 0;
-    while i < lengths.len() {
+    for i in 0..lengths.len() {
         let n = lengths[i] as usize;
         if !good_cycle(cells, &mut heads, &mut earlier, start, n, polys, rows) {
             return false;
         }
         start += n;
-        i += 1;
     }
     true
 }

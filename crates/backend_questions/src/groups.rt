@@ -9,23 +9,22 @@ ghost use Rattle.backend.specs.Degrees.{lookup_numbered, group_from};
 ghost use Rattle.backend.specs.Questions.{group_numbers_good, tables_alike, q7, q18};
 ghost use Rattle.backend.specs.Laid.{ContentsValid, BodiesValid};
 
-use backend_nodes::degrees::pairs_in;
 use backend_sections::groups::group_sizes;
 use backend_sections::reader::{groups_of, nodes_of, pairs_of, widths_of};
 use expression_same::same_tree;
+use lists::sum_before;
 
 // "first 0, each next the same or one more"
 fn numbers_good(numbers: &[u64]) -> bool
     ensures { result ≡ group_numbers_good numbers.now }
 {
-    if numbers.len() == 0 {
+    if numbers.is_empty() {
         return true;
     }
     if numbers[0] != 0 {
         return false;
     }
-    let mut i = 1;
-    while i < numbers.len() {
+    for i in 1..numbers.len() {
         let before = numbers[i - 1];
         let number = numbers[i];
         if number < before {
@@ -34,7 +33,6 @@ fn numbers_good(numbers: &[u64]) -> bool
         if 1 < number - before {
             return false;
         }
-        i += 1;
     }
     true
 }
@@ -49,16 +47,14 @@ fn same_tables(nodes: &[u64], widths: &[u64], pairs: &[u64], i: usize, f: usize)
     if width != other {
         return false;
     }
-    let first = pairs_in(widths, 0, i, 0);
-    let second = pairs_in(widths, 0, f, 0);
-    let mut t = 0;
-    while t < width {
+    let first = sum_before(widths, i);
+    let second = sum_before(widths, f);
+    for t in 0..width {
         let a = pairs[(first + t) * 2 + 1] as usize;
         let b = pairs[(second + t) * 2 + 1] as usize;
         if !same_tree(nodes, a, b) {
             return false;
         }
-        t += 1;
     }
     true
 }
@@ -68,12 +64,10 @@ fn group_alike(nodes: &[u64], widths: &[u64], pairs: &[u64], first: usize, n: us
     requires { (all_of (is_root nodes.now) pairs.now ≡ true) × ((total widths.now ≡ length pairs.now / 2) × ((first + n ≤ length widths.now) × (0 < n))) }
     ensures { result ≡ tables_alike (group_from nodes.now widths.now pairs.now first n) }
 {
-    let mut i = 0;
-    while i < n {
+    for i in 0..n {
         if !same_tables(nodes, widths, pairs, first + i, first) {
             return false;
         }
-        i += 1;
     }
     true
 }
@@ -84,14 +78,12 @@ fn groups_alike(nodes: &[u64], sizes: &[u64], widths: &[u64], pairs: &[u64]) -> 
     ensures { result ≡ all_of tables_alike (split sizes.now (split widths.now (pairs_of nodes.now pairs.now))) }
 {
     let mut first: usize = 0;
-    let mut j = 0;
-    while j < sizes.len() {
+    for j in 0..sizes.len() {
         let n = sizes[j] as usize;
         if !group_alike(nodes, widths, pairs, first, n) {
             return false;
         }
         first += n;
-        j += 1;
     }
     true
 }

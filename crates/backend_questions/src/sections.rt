@@ -37,9 +37,7 @@ pub fn question_5(circuit: &[u64]) -> bool
 fn values_small(nodes: &[u64]) -> bool
     ensures { result ≡ values_small nodes.now }
 {
-    let n = nodes.len() / 4;
-    let mut i = 0;
-    while i < n {
+    for i in 0..nodes.len() / 4 {
         let kind = nodes[i * 4];
         let value = nodes[i * 4 + 3];
         let held = (kind == kind::CONSTANT) | (kind == kind::SCALED);
@@ -47,7 +45,6 @@ fn values_small(nodes: &[u64]) -> bool
         if bad {
             return false;
         }
-        i += 1;
     }
     true
 }

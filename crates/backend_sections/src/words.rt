@@ -11,14 +11,7 @@ use field::goldilocks::{Goldilocks, Parsed};
 pub fn all_below(words: &[u64], limit: u64) -> bool
     ensures { result ≡ all_of (λ w. ltb w limit) words.now }
 {
-    let mut i = 0;
-    while i < words.len() {
-        if limit <= words[i] {
-            return false;
-        }
-        i += 1;
-    }
-    true
+    words.iter().all(|word| *word < limit)
 }
 
 // Is a word below p, and so the number of an element?
@@ -38,14 +31,7 @@ pub fn all_elements(words: &[u64]) -> bool
     ensures below { result ≡ all_of (λ w. ltb w P) words.now }
     ensures number { (a : Among) → cond result 0 (number_among a) ≡ maximum (map (λ w. parsed_number a (parsed w)) words.now) }
 {
-    let mut i = 0;
-    while i < words.len() {
-        if !is_element(words[i]) {
-            return false;
-        }
-        i += 1;
-    }
-    true
+    words.iter().all(|word| is_element(*word))
 }
 
 // Is word j of each of n entries of `size` words above 0?
@@ -53,12 +39,10 @@ pub fn all_positive(words: &[u64], size: usize, j: usize, n: usize) -> bool
     requires { (j < size) × (n * size ≤ length words.now) }
     ensures { result ≡ all_of (ltb 0) (word_each words.now size j n) }
 {
-    let mut i = 0;
-    while i < n {
+    for i in 0..n {
         if words[i * size + j] == 0 {
             return false;
         }
-        i += 1;
     }
     true
 }
@@ -69,14 +53,12 @@ pub fn total_to(words: &[u64], size: usize, j: usize, n: usize, limit: u64) -> u
     ensures { result ≡ min (total (word_each words.now size j n)) limit }
 {
     let mut sum = 0;
-    let mut i = 0;
-    while i < n {
+    for i in 0..n {
         let word = words[i * size + j];
         if limit - sum < word {
             return limit;
         }
         sum += word;
-        i += 1;
     }
     sum
 }

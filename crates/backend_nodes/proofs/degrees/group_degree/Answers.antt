@@ -1,3 +1,7 @@
+use mathlib.Core.Path.{◌∙◌}
+use Prim.Native.Nat.{ℕ, ◌+◌}
+use native.Mathlib.Nat.{min-eq_left, min-eq_right}
+use native.Mathlib.Decide.{dec_lt}
 use native.Mathlib.Omega.{arith}
 use Rattle.backend.proofs.Degree.{added_none, added_room, added_more, sides_low, sides_high}
 use Rattle.lists.proofs.Parts.{total_within}
@@ -21,14 +25,16 @@ overflow_add-next c = let q = added_room c.args.nodes.now c.args.widths.now c.ar
 pub loop-i-preserved : goal.loop-i-preserved
 loop-i-preserved c = added_more c.args.nodes.now c.args.widths.now c.args.pairs.now c.args.first c.args.n c.requires.1.1.0 _ _ _ _ c.loop-i.invariant c.loop-i-test.true c.side_degree-sum.ensures
 
-pub overflow_add-degree : goal.overflow_add-degree
-overflow_add-degree c = let v = c.loop-i.invariant in let u = v.upto in let w = v.low in let f = c.requires.1.1.1.1.0 in omega arith
+pub overflow_add-sum-2 : goal.overflow_add-sum-2
+overflow_add-sum-2 c = let v = c.loop-i.invariant in let u = v.upto in let w = v.low in let f = c.requires.1.1.1.1.0 in omega arith
 
-pub overflow_add-degree-2 : goal.overflow_add-degree-2
-overflow_add-degree-2 c = let v = c.loop-i.invariant in let u = v.upto in let w = v.low in let f = c.requires.1.1.1.1.0 in let r = c.side_degree-table.ensures in omega arith
+pub overflow_add-sum-3 : goal.overflow_add-sum-3
+overflow_add-sum-3 c = let v = c.loop-i.invariant in let u = v.upto in let w = v.low in let f = c.requires.1.1.1.1.0 in let r = c.side_degree-table.ensures in omega arith
 
-pub returns-then-degree-lt1025 : goal.returns-then-degree-lt1025
-returns-then-degree-lt1025 c = sides_low c.args.nodes.now c.args.widths.now c.args.pairs.now c.args.first c.args.n c.requires.1.1.1.0 _ _ _ _ c.args.start c.loop-i.invariant c.loop-i-test.false c.requires.1.1.1.1.1 c.side_degree-table.ensures c.if-degree-lt1025.true
-
-pub returns-else-degree-lt1025 : goal.returns-else-degree-lt1025
-returns-else-degree-lt1025 c = sides_high c.args.nodes.now c.args.widths.now c.args.pairs.now c.args.first c.args.n c.requires.1.1.1.0 _ _ _ _ c.args.start c.loop-i.invariant c.loop-i-test.false c.requires.1.1.1.1.1 c.side_degree-table.ensures c.if-degree-lt1025.false
+pub returns : goal.returns
+returns c =
+    let a = c.args in
+    let d : ℕ = 1 + c.loop-i.sum + c.side_degree-table.result in
+    let low = sides_low a.nodes.now a.widths.now a.pairs.now a.first a.n c.requires.1.1.1.0 _ _ _ _ a.start c.loop-i.invariant c.loop-i-test.false c.requires.1.1.1.1.1 c.side_degree-table.ensures in
+    let high = sides_high a.nodes.now a.widths.now a.pairs.now a.first a.n c.requires.1.1.1.0 _ _ _ _ a.start c.loop-i.invariant c.loop-i-test.false c.requires.1.1.1.1.1 c.side_degree-table.ensures in
+    c.min.ensures ∙ elim (dec_lt d 1025) [ yes l ↦ min-eq_left (omega arith) ∙ low l | no m ↦ min-eq_right (omega arith) ∙ high (omega arith) ]

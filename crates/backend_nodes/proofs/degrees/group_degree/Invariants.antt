@@ -1,11 +1,5 @@
-use Prim.Native.Nat.{◌-◌}
 use Rattle.backend.proofs.Degree.{Added}
 use Rattle.backend_nodes.proofs.degrees.group_degree.Given as goal
 
 abbrev pub invariant-loop-i : goal.invariant-loop-i
 invariant-loop-i l = Added l.nodes l.widths l.pairs l.first l.n l.sum l.next l.i
-
-abbrev pub decreases-loop-i : goal.decreases-loop-i
-decreases-loop-i l = l.n - l.i
-
--- src/degrees.rt:75:50

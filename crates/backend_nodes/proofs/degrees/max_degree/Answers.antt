@@ -6,9 +6,9 @@ use Rattle.backend_nodes.proofs.degrees.max_degree.Goals.{then-stated-gt3, else-
 pub returns : goal.returns
 returns c constraints lookups e f fit =
     let a = c.args in
-    d_of a.d.stated constraints lookups fit c.if-stated-gt3.least _ _ c.most.result c.most-2.result
+    d_of a.d.stated constraints lookups fit c.if-stated-gt3.least _ _ c.max.result c.max-2.result
     (elim c.if-stated-gt3.branch [ then-stated-gt3 w ↦ w.least-is ∙ least_high a.d.stated w.if-stated-gt3.true | else-stated-gt3 w ↦ w.least-is ∙ least_low a.d.stated w.if-stated-gt3.false ])
     e
     f
-    c.most.ensures
-    c.most-2.ensures
+    c.max.ensures
+    c.max-2.ensures

@@ -20,7 +20,7 @@ degree_of-requires c =
 pub loop-i-preserved : goal.loop-i-preserved
 loop-i-preserved c =
     let a = c.args in
-    most_more (λ j. degree_at (expr_of a.nodes.now (get_or a.pairs.now ((a.start + j) * 2 + a.side) 0))) a.n c.loop-i.degree c.loop-i.i c.degree_of.result c.most-degree.result c.loop-i.invariant c.loop-i-test.true c.degree_of.ensures c.most-degree.ensures
+    most_more (λ j. degree_at (expr_of a.nodes.now (get_or a.pairs.now ((a.start + j) * 2 + a.side) 0))) a.n c.loop-i.degree c.loop-i.i c.degree_of.result c.max-degree.result c.loop-i.invariant c.loop-i-test.true c.degree_of.ensures c.max-degree.ensures
 
 pub returns : goal.returns
 returns c =

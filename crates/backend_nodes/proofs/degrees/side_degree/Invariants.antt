@@ -1,4 +1,4 @@
-use Prim.Native.Nat.{◌+◌, ◌*◌, ◌-◌}
+use Prim.Native.Nat.{◌+◌, ◌*◌}
 use lib.ListN.{get_or}
 use Rattle.expression.specs.Expr.{degree as degree_at}
 use Rattle.expression.specs.Nodes.{expr_of}
@@ -7,6 +7,3 @@ use Rattle.backend_nodes.proofs.degrees.side_degree.Given as goal
 
 abbrev pub invariant-loop-i : goal.invariant-loop-i
 invariant-loop-i l = Most (λ j. degree_at (expr_of l.nodes (get_or l.pairs ((l.start + j) * 2 + l.side) 0))) l.n l.degree l.i
-
-abbrev pub decreases-loop-i : goal.decreases-loop-i
-decreases-loop-i l = l.n - l.i

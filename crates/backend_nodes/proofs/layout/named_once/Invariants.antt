@@ -1,11 +1,7 @@
 use mathlib.Core.List.{◌++◌}
-use Prim.Native.Nat.{◌-◌}
 use Rattle.lists.proofs.Walks.{Walked}
 use Rattle.backend.specs.Layout.{once}
 use Rattle.backend_nodes.proofs.layout.named_once.Given as goal
 
 abbrev pub invariant-loop-n : goal.invariant-loop-n
 invariant-loop-n l = Walked (once l.nodes (l.constraints ++ l.pairs)) (λ i. i) l.count l.n
-
-abbrev pub decreases-loop-n : goal.decreases-loop-n
-decreases-loop-n l = l.count - l.n

@@ -1,4 +1,3 @@
-use Prim.Native.Nat.{◌-◌}
 use lib.ListN.{length}
 use Rattle.backend_questions.specs.Chains.{Linked}
 use Rattle.backend_questions.proofs.cycles.Turns.{Before}
@@ -6,6 +5,3 @@ use Rattle.backend_questions.proofs.cycles.cycles_good.Given as goal
 
 abbrev pub invariant-loop-i : goal.invariant-loop-i
 invariant-loop-i l = Before l.polys l.rows l.lengths l.cells l.start l.i × Linked l.cells l.heads l.earlier l.start
-
-abbrev pub decreases-loop-i : goal.decreases-loop-i
-decreases-loop-i l = length l.lengths - l.i

@@ -1,12 +1,6 @@
-use Prim.Native.Nat.{◌-◌}
 use lib.ListN.{length}
 use Rattle.backend.proofs.Alike.{Likened}
 use Rattle.backend_questions.proofs.groups.groups_alike.Given as goal
 
 abbrev pub invariant-loop-j : goal.invariant-loop-j
 invariant-loop-j l = Likened l.nodes l.widths l.pairs l.sizes l.first l.j
-
-abbrev pub decreases-loop-j : goal.decreases-loop-j
-decreases-loop-j l = length l.sizes - l.j
-
--- src/groups.rt:93:5

@@ -1,12 +1,6 @@
-use Prim.Native.Nat.{◌-◌}
 use lib.ListN.{length}
 use Rattle.backend.proofs.Alike.{Followed}
 use Rattle.backend_questions.proofs.groups.numbers_good.Given as goal
 
 abbrev pub invariant-loop-i : goal.invariant-loop-i
 invariant-loop-i l = Followed l.numbers l.i
-
-abbrev pub decreases-loop-i : goal.decreases-loop-i
-decreases-loop-i l = length l.numbers - l.i
-
--- src/groups.rt:27:9

@@ -1,4 +1,3 @@
-use Prim.Native.Nat.{◌-◌}
 use lib.ListN.{get_or}
 use Rattle.expression.specs.Same.{same_expr}
 use Rattle.lists.proofs.Walks.{Walked}
@@ -7,8 +6,3 @@ use Rattle.backend_questions.proofs.groups.same_tables.Given as goal
 
 abbrev pub invariant-loop-t : goal.invariant-loop-t
 invariant-loop-t l = Walked (λ t. same_expr (table_of l.nodes l.widths l.pairs l.i t) (table_of l.nodes l.widths l.pairs l.f t)) (λ t. t) (get_or l.widths l.i 0) l.t
-
-abbrev pub decreases-loop-t : goal.decreases-loop-t
-decreases-loop-t l = l.width - l.t
-
--- src/groups.rt:52:17

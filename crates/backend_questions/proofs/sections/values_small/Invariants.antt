@@ -1,4 +1,4 @@
-use Prim.Native.Nat.{ℕ, ◌-◌, ◌/◌}
+use Prim.Native.Nat.{ℕ, ◌/◌}
 use lib.ListN.{length}
 use Rattle.lists.proofs.Walks.{Walked}
 use Rattle.backend.specs.Questions.{small_value}
@@ -6,6 +6,3 @@ use Rattle.backend_questions.proofs.sections.values_small.Given as goal
 
 abbrev pub invariant-loop-i : goal.invariant-loop-i
 invariant-loop-i l = Walked (small_value l.nodes) (λ (i : ℕ). i) (length l.nodes / 4) l.i
-
-abbrev pub decreases-loop-i : goal.decreases-loop-i
-decreases-loop-i l = length l.nodes / 4 - l.i

@@ -1,15 +1,12 @@
-use borrow.Author.Tests.{lt-ltb, le-ltb}
-use Rattle.lists.proofs.Walks.{walk_none, walk_more, list_done, list_fails}
+use mathlib.Core.Path.{◌∙◌}
+use lib.Dec.{ltb}
+use Rattle.std.proofs.Common.{rules, tests}
+use Rattle.std.proofs.lemmas.Iterator.Search.{all_from_yields_List}
+use Rattle.std.proofs.lemmas.Iterator.{YieldsList-from_slice}
+use Rattle.backend_sections.proofs.words.All.{list_all-is}
 use Rattle.backend_sections.proofs.words.all_below.Goals as goal
 
-pub loop-i-init : goal.loop-i-init
-loop-i-init c = walk_none _ _ _
-
-pub returns-then-limit-words : goal.returns-then-limit-words
-returns-then-limit-words c = list_fails _ _ 0 c.loop-i.i c.loop-i-test.true (le-ltb _ _ c.if-limit-words.true)
-
-pub loop-i-preserved : goal.loop-i-preserved
-loop-i-preserved c = walk_more _ _ _ c.loop-i.i c.loop-i.invariant c.loop-i-test.true (lt-ltb _ _ c.if-limit-words.false)
-
 pub returns : goal.returns
-returns c = list_done _ _ 0 c.loop-i.i c.loop-i.invariant c.loop-i-test.false
+returns c =
+    all_from_yields_List (λ w. ltb w c.args.limit) _ _ _ c.all.ensures.ran (YieldsList-from_slice c.args.words.now cc) (λ x b q k. search (rules, tests))
+    ∙ list_all-is _ _

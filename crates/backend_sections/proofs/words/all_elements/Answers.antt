@@ -1,21 +1,16 @@
--- `all_elements` meets its contract.
-use mathlib.Core.Path.{sym, ◌∙◌}
-use Rattle.lists.proofs.Walks.{walk_none, walk_more, list_done, list_fails}
+use mathlib.Core.Path.{◌∙◌}
+use lib.Dec.{ltb}
+use Rattle.std.proofs.Common.{rules, tests}
+use Rattle.std.proofs.lemmas.Iterator.Search.{all_from_yields_List}
+use Rattle.std.proofs.lemmas.Iterator.{YieldsList-from_slice}
+use Rattle.field.specs.Prime.{P}
+use Rattle.backend_sections.proofs.words.All.{list_all-is}
 use Rattle.backend_sections.proofs.words.Elements.{words_number}
 use Rattle.backend_sections.proofs.words.all_elements.Goals as goal
 
-pub loop-i-init : goal.loop-i-init
-loop-i-init c = walk_none _ _ _
-
-pub returns-then-not-is_element : goal.returns-then-not-is_element
-returns-then-not-is_element c =
-    let p = words_number c.args.words.now _ (list_fails _ _ 0 c.loop-i.i c.loop-i-test.true (sym c.is_element.ensures.below ∙ c.if-not-is_element.true)) in
-    record { below = p.0; number = p.1 }
-
-pub loop-i-preserved : goal.loop-i-preserved
-loop-i-preserved c = walk_more _ _ _ c.loop-i.i c.loop-i.invariant c.loop-i-test.true (sym c.is_element.ensures.below ∙ c.if-not-is_element.false)
-
 pub returns : goal.returns
 returns c =
-    let p = words_number c.args.words.now _ (list_done _ _ 0 c.loop-i.i c.loop-i.invariant c.loop-i-test.false) in
+    let p = words_number c.args.words.now _
+    (all_from_yields_List (λ w. ltb w P) _ _ _ c.all.ensures.ran (YieldsList-from_slice c.args.words.now cc) (λ x b q k. search (rules, tests))
+    ∙ list_all-is _ _) in
     record { below = p.0; number = p.1 }
