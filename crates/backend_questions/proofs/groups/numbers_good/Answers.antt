@@ -1,15 +1,25 @@
+use mathlib.Core.Path.{◌≡◌, sym, ◌∙◌}
+use mathlib.Core.Bool.{Bool, true, false}
+use mathlib.Core.List.{List}
+use Prim.Native.Nat.{ℕ}
 use native.Mathlib.Omega.{arith}
+use lib.Dec.{eqb}
+use lib.ListN.{length}
+use borrow.Author.Tests.{eq-eqb, eqb-true}
 use Rattle.backend.proofs.Alike.{numbers_none, numbers_first, followed_first, breaks_low, breaks_high, followed_more, followed_all}
 use Rattle.backend_questions.proofs.groups.numbers_good.Goals as goal
 
-pub returns-then-numbers-eq0 : goal.returns-then-numbers-eq0
-returns-then-numbers-eq0 c = numbers_none _ c.if-numbers-eq0.true
+pub returns-then-is_empty : goal.returns-then-is_empty
+returns-then-is_empty c = numbers_none _ (eqb-true _ _ (sym c.is_empty.ensures ∙ c.if-is_empty.true))
+
+some : (ns : List ℕ) (r : Bool) → r ≡ eqb (length ns) 0 → r ≡ false → length ns ≡ 0 → ⊥
+some ns r e f z = let g : false ≡ true = sym f ∙ e ∙ eq-eqb (length ns) 0 z in cc
 
 pub returns-then-numbers-ne0 : goal.returns-then-numbers-ne0
-returns-then-numbers-ne0 c = numbers_first _ c.if-numbers-eq0.false c.if-numbers-ne0.true
+returns-then-numbers-ne0 c = numbers_first _ (some _ _ c.is_empty.ensures c.if-is_empty.false) c.if-numbers-ne0.true
 
 pub loop-i-init : goal.loop-i-init
-loop-i-init c = followed_first _ c.if-numbers-eq0.false c.if-numbers-ne0.false
+loop-i-init c = followed_first _ (some _ _ c.is_empty.ensures c.if-is_empty.false) c.if-numbers-ne0.false
 
 pub overflow_sub-before : goal.overflow_sub-before
 overflow_sub-before c = c.loop-i.invariant.some

@@ -54,9 +54,6 @@ same_tree-requires c = (root_in c.args.nodes.now c.args.pairs.now c.requires.0 _
 pub returns-then-not-same_tree : goal.returns-then-not-same_tree
 returns-then-not-same_tree c = walk_fails _ _ _ _ c.loop-t-test.true (sym (same_at c.args.nodes.now c.args.widths.now c.args.pairs.now c.args.i c.args.f c.loop-t.t _ _ _ c.sum_before-first.ensures c.sum_before-second.ensures c.same_tree.ensures) ∙ c.if-not-same_tree.true) ∙ tables_same c.args.nodes.now c.args.widths.now c.args.pairs.now c.args.i c.args.f c.if-width-other.false
 
-pub overflow_add-t : goal.overflow_add-t
-overflow_add-t c = let q = place_fits c.args.nodes.now c.args.widths.now c.args.pairs.now c.requires.1.0 c.args.i c.loop-t.t _ c.sum_before-first.ensures c.loop-t-test.true in let g = c.type_inv in omega arith
-
 pub loop-t-preserved : goal.loop-t-preserved
 loop-t-preserved c = walk_more _ _ _ _ c.loop-t.invariant c.loop-t-test.true (sym (same_at c.args.nodes.now c.args.widths.now c.args.pairs.now c.args.i c.args.f c.loop-t.t _ _ _ c.sum_before-first.ensures c.sum_before-second.ensures c.same_tree.ensures) ∙ c.if-not-same_tree.false)
 
