@@ -1,17 +1,14 @@
--- `clear` meets its contract: the words are written one after another.
-use mathlib.Core.Path.{refl}
-use Rattle.lists.proofs.Fill.{fill_start, fill_more, fill_end, fill_zero}
+-- `clear` meets its contract: the words of the part are 0, and the others as they were.
+use Rattle.std.proofs.Common.{◌≡◌, ℕ, arith, replicate, length}
+use Rattle.std.proofs.lemmas.Grind.{common_steps}
+use Rattle.std.proofs.lemmas.List.{length-replicate}
+use Rattle.lists.specs.Lists.{write_at}
 use Rattle.prover_instance.proofs.blank_column.clear.Goals as goal
 
-pub loop-i-init : goal.loop-i-init
-loop-i-init c = fill_start _ _ _ _
-
-pub loop-i-preserved : goal.loop-i-preserved
-loop-i-preserved c =
-    fill_more _ _ _ _ _ _ c.loop-i.invariant c.requires c.loop-i-test.true 0 refl
-
-pub shape_of-columns : goal.shape_of-columns
-shape_of-columns c = c.loop-i.invariant.size
-
 pub returns : goal.returns
-returns c = fill_zero _ _ _ _ (fill_end _ _ _ _ _ _ c.loop-i.invariant c.loop-i-test.false)
+unfolding write_at
+returns c =
+    let part = c.fill.ensures.after (λ y e. e) in
+    let zeros : c.fill.new.self ≡ replicate c.args.rows 0 = grind (arith, common_steps, part, c.requires) in
+    let long : length {A = ℕ} (replicate c.args.rows 0) ≡ c.args.rows = length-replicate c.args.rows 0 in
+    rw zeros (grind (arith, common_steps, long, c.requires))
