@@ -1,4 +1,4 @@
--- The number and the column m of all answers of the search are those of the definitions over rows.
+-- The number and the column m of all answers of the search are those of the definitions over rows; what the answers of h and z say.
 use mathlib.Core.Path.{◌≡◌, refl, sym, ap, ap₂, ◌∙◌}
 use mathlib.Core.Bool.{Bool, true, false, cond, ◌&&◌}
 use mathlib.Core.List.{List, [], ◌∷◌, map}
@@ -7,15 +7,15 @@ use mathlib.Core.Option as maybe
 use Prim.Native.Nat.{ℕ, ◌+◌}
 use native.Mathlib.Omega.{arith}
 use lib.Dec.{eqb}
-use lib.ListN.{length, replicate}
-use Rattle.std.specs.Prelude.{Some, None}
+use lib.ListN.{length, replicate, length-replicate}
+use Rattle.std.specs.Prelude.{Some, None, Ok, Err, IsErr}
 use Rattle.field.specs.Algebra.{Field}
 use Rattle.field.specs.Field.{𝔾}
 use Rattle.lists.specs.Lists.{tabulate, range, filter, count_of, all_of, total, is_some, is_at, write_at}
 use Rattle.lists.proofs.Columns.{tabulate_cong}
 use Rattle.prover.specs.Lookup.{last_equal, multiplicity, covered}
 use Rattle.prover.specs.Words.{count_words}
-use Rattle.prover.specs.Answers.{found_of, counted_at, found, searches, first_number, m_words}
+use Rattle.prover.specs.Answers.{found_of, counted_at, found, searches, first_number, m_words, Outcome, outcome_of, outcome_words}
 
 -- what an answer says of the last equal row
 at_some : (o : maybe.Option ℕ) (a : ℕ) → found_of o ≡ Some a → o ≡ some a
@@ -97,3 +97,23 @@ module _ (rows : ℕ) (input table : ℕ → 𝔾.F) (r : Bool) (d : List ℕ) (
       h.1 ∙ ap (write_at d at) (sym (words_are 𝔾 rows input table)),
     ),
   )
+
+-- ---- h and z
+
+-- what each answer says of the test
+pub written_none : (t : Bool) → outcome_of t ≡ Ok tt → t ≡ false
+written_none true e = cc
+written_none false e = refl
+
+pub zero_some : (t : Bool) → outcome_of t ≡ Err (record {}) → t ≡ true
+zero_some true e = refl
+zero_some false e = cc
+
+-- there is one error, so this is what `?` passes on
+pub only_error : (o : Outcome) → IsErr o → o ≡ Err (record {})
+only_error (Ok written) e = cc
+only_error (Err zero) e = refl
+
+pub outcome_length : (o : Outcome) (ws : List ℕ) → length (outcome_words o ws) ≡ length ws
+outcome_length (Ok written) ws = refl
+outcome_length (Err zero) ws = length-replicate (length ws) 0
