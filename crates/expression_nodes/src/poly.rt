@@ -1,4 +1,4 @@
-// The value of a given polynomial at a row, from the three places where these stand.
+// The value of a polynomial at a row, from the three places where these stand.
 ghost use Rattle.std.specs.Prelude.{◌≡◌, ◌+◌, ◌*◌, ◌≤◌, ◌<◌, get_or};
 ghost use Rattle.field.specs.Field.{𝔾, el};
 ghost use Rattle.expression.specs.Value.{poly_of};
@@ -16,6 +16,47 @@ pub fn cell(ws: &[u64], start: usize, i: usize, rows: usize, row: usize) -> u64
     word_at(ws, start + i * rows + row)
 }
 
+// Polynomial q at a row, 0 where there is none.
+pub fn poly_at(
+    circuit: &[u64],
+    witness: &[u64],
+    columns: &[u64],
+    layout: &Layout,
+    q: u64,
+    row: usize,
+) -> u64
+    requires { LayoutSmall layout.now × (row < 1048576) }
+    ensures { el result ≡ poly_of 𝔾 (polys_of layout.now circuit.now witness.now columns.now) q row }
+{
+    let rows = layout.rows;
+    let instances = layout.instances;
+    let preprocess = layout.preprocess;
+    let witnesses = layout.witness;
+    let permutations = layout.permutations;
+    let rest = layout.rest;
+    let at = index(q);
+    if at < instances {
+        return cell(columns, 0, at, rows, row);
+    }
+    let at1 = at - instances;
+    if at1 < preprocess {
+        return cell(circuit, layout.start, at1, rows, row);
+    }
+    let at2 = at1 - preprocess;
+    if at2 < witnesses {
+        return cell(witness, 0, at2, rows, row);
+    }
+    let at3 = at2 - witnesses;
+    if at3 < permutations {
+        return cell(columns, 0, instances + at3, rows, row);
+    }
+    let at4 = at3 - permutations;
+    if at4 < rest {
+        return cell(columns, 0, instances + permutations + layout.skipped + at4, rows, row);
+    }
+    0
+}
+
 // Polynomial q at a row, of those that are given: 0 where there is none.
 pub fn given_at(
     circuit: &[u64],
@@ -28,22 +69,5 @@ pub fn given_at(
     requires { LayoutSmall layout × ((layout.permutations ≡ 0) × (layout.rest ≡ 0)) × (row < 1048576) }
     ensures { el result ≡ poly_of 𝔾 (polys_of layout circuit.now witness.now columns.now) q row }
 {
-    let rows = layout.rows;
-    let instances = layout.instances;
-    let preprocess = layout.preprocess;
-    let start = layout.start;
-    let witnesses = layout.witness;
-    let at = index(q);
-    if at < instances {
-        return cell(columns, 0, at, rows, row);
-    }
-    let at1 = at - instances;
-    if at1 < preprocess {
-        return cell(circuit, start, at1, rows, row);
-    }
-    let at2 = at1 - preprocess;
-    if at2 < witnesses {
-        return cell(witness, 0, at2, rows, row);
-    }
-    0
+    poly_at(circuit, witness, columns, &layout, q, row)
 }

@@ -1,118 +1,71 @@
 // The queries of an expression (Rust `used_query`), from its node words.
 #![tactic(auto)]
 
-ghost use Rattle.std.specs.Prelude.{◌≡◌, cond, ◌&&◌, ◌||◌, ◌+◌, ◌-◌, ◌*◌, ◌≤◌, ◌<◌, eqb, leb, length};
+ghost use Rattle.std.specs.Prelude.{◌≡◌, Bool, cond, ◌&&◌, ◌||◌, ◌+◌, ◌-◌, ◌*◌, ◌≤◌, ◌<◌, eqb, leb, length};
 ghost use Rattle.lists.specs.Lists.{write_prefix};
-ghost use Rattle.expression.specs.Expr.{evaluate, powers_first, powers_rest};
-ghost use Rattle.expression.specs.Nodes.{expr_of, items_of, under, no_expr};
+ghost use Rattle.expression.specs.Nodes.{expr_of};
 ghost use Rattle.expression.specs.Walks.{used_ops};
 ghost use Rattle.expression.specs.Queries.{query_of, used_queries, queries_into};
 
-use expression::kind;
 use expression::node::SIGNED_OFFSET;
-use expression_nodes::{index, read_node};
+use expression_walk::{Operations, node};
 
-fn either(a: bool, b: bool) -> bool
-    ensures { result ≡ (a || b) }
-{
-    a || b
-}
-
-fn same(a: u64, b: u64, x: u64, y: u64) -> bool
-    ensures { result ≡ (eqb a x && eqb b y) }
-{
-    a == x && b == y
-}
-
-// Is the query used at node n? `word` keeps its rotation.
-#[cycle(chain_uses_items_uses_lower_uses_node_uses)]
-fn node_uses(ws: &[u64], n: usize, polynomial: u64, word: u64) -> bool
-    requires { n * 4 + 4 ≤ length ws.now }
-    ensures { result ≡ evaluate (used_ops (query_of polynomial word)) (expr_of ws.now n) }
-{
-    let d = read_node(ws, n);
-    let kind = d.kind;
-    match kind {
-        kind::POLYNOMIAL => same(polynomial, word, d.first, d.value),
-        kind::NEGATED => lower_uses(ws, n, d.first, polynomial, word),
-        kind::SUM => {
-            let x = lower_uses(ws, n, d.first, polynomial, word);
-            let y = lower_uses(ws, n, d.second, polynomial, word);
-            either(x, y)
-        }
-        kind::PRODUCT => {
-            let x = lower_uses(ws, n, d.first, polynomial, word);
-            let y = lower_uses(ws, n, d.second, polynomial, word);
-            either(x, y)
-        }
-        kind::SCALED => lower_uses(ws, n, d.first, polynomial, word),
-        kind::DISTRIBUTE_POWERS => {
-            let base = lower_uses(ws, n, d.first, polynomial, word);
-            let item = index(d.second);
-            if item < n {
-                return chain_uses(ws, item, polynomial, word, base);
-            }
-            false
-        }
-        _ => false,
-    }
-}
-
-#[cycle(chain_uses_items_uses_lower_uses_node_uses)]
-fn lower_uses(ws: &[u64], n: usize, a: u64, polynomial: u64, word: u64) -> bool
-    requires { n * 4 + 4 ≤ length ws.now }
-    ensures { result ≡ evaluate (used_ops (query_of polynomial word)) (under n no_expr (expr_of ws.now) a) }
-{
-    let b = index(a);
-    if b < n {
-        return node_uses(ws, b, polynomial, word);
-    }
-    false
-}
-
-// The same of the chain that begins at Item n; `base`: is it used by the base?
-#[cycle(chain_uses_items_uses_lower_uses_node_uses)]
-fn chain_uses(ws: &[u64], n: usize, polynomial: u64, word: u64, base: bool) -> bool
-    requires { n * 4 + 4 ≤ length ws.now }
-    ensures { result ≡ powers_first (used_ops (query_of polynomial word)) base (items_of ws.now n) }
-{
-    let d = read_node(ws, n);
-    let x = lower_uses(ws, n, d.first, polynomial, word);
-    if d.value == 0 {
-        return x;
-    }
-    let item = index(d.second);
-    if item < n {
-        return items_uses(ws, item, polynomial, word, base, base, x);
-    }
-    either(x, either(base, false))
-}
-
-#[cycle(chain_uses_items_uses_lower_uses_node_uses)]
-fn items_uses(
-    ws: &[u64],
-    n: usize,
+// Is a query used? `word` keeps its rotation.
+#[derive(Clone, Copy)]
+struct Uses {
     polynomial: u64,
     word: u64,
-    base: bool,
-    power: bool,
-    acc: bool,
-) -> bool
-    requires { n * 4 + 4 ≤ length ws.now }
-    ensures { result ≡ powers_rest (used_ops (query_of polynomial word)) base power acc (items_of ws.now n) }
-{
-    let d = read_node(ws, n);
-    let x = lower_uses(ws, n, d.first, polynomial, word);
-    let s = either(acc, either(power, x));
-    if d.value == 0 {
-        return s;
+}
+
+#[tactic(auto, unfolding(expression::specs::Walks::used_ops))]
+impl Operations for Uses {
+    type Value = bool;
+
+    ghost Carrier = { Bool };
+
+    ghost meaning = { λ b. b };
+
+    ghost ops = { λ s. used_ops (query_of s.polynomial s.word) };
+
+    fn constant(&self, _value: u64) -> bool {
+        false
     }
-    let p = either(power, base);
-    let item = index(d.second);
-    if item < n {
-        return items_uses(ws, item, polynomial, word, base, p, s);
+
+    fn identity(&self) -> bool {
+        false
     }
-    either(s, either(p, false))
+
+    fn lagrange(&self, _number: u64) -> bool {
+        false
+    }
+
+    fn eq_xy(&self, _number: u64) -> bool {
+        false
+    }
+
+    fn poly(&self, polynomial: u64, rotation: u64) -> bool {
+        self.polynomial == polynomial && self.word == rotation
+    }
+
+    fn challenge(&self, _number: u64) -> bool {
+        false
+    }
+
+    fn negated(&self, x: bool) -> bool {
+        x
+    }
+
+    fn sum(&self, x: bool, y: bool) -> bool {
+        x || y
+    }
+
+    fn product(&self, x: bool, y: bool) -> bool {
+        x || y
+    }
+
+    fn scaled(&self, x: bool, _scalar: u64) -> bool {
+        x
+    }
 }
 
 // How many queries are used at node n, with a polynomial below `polys` and a rotation from -k to k.
@@ -124,12 +77,14 @@ fn count_queries(ws: &[u64], n: usize, polys: usize, k: usize) -> usize
     let low = SIGNED_OFFSET as usize - k;
     let end = polys * wide;
     let mut count: usize = 0;
-    let mut i: usize = 0;
-    while i < end {
-        if node_uses(ws, n, (i / wide) as u64, (low + i % wide) as u64) {
+    for i in 0..end {
+        let query = Uses {
+            polynomial: (i / wide) as u64,
+            word: (low + i % wide) as u64,
+        };
+        if node(&query, ws, n) {
             count += 1;
         }
-        i += 1;
     }
     count
 }
@@ -148,16 +103,16 @@ pub fn used_queries(ws: &[u64], n: usize, polys: usize, k: usize, out: &mut [u64
     let low = SIGNED_OFFSET as usize - k;
     let end = polys * wide;
     let mut at: usize = 0;
-    let mut i: usize = 0;
-    while i < end {
-        let polynomial = (i / wide) as u64;
-        let word = (low + i % wide) as u64;
-        if node_uses(ws, n, polynomial, word) {
-            out[at] = polynomial;
-            out[at + 1] = word;
+    for i in 0..end {
+        let query = Uses {
+            polynomial: (i / wide) as u64,
+            word: (low + i % wide) as u64,
+        };
+        if node(&query, ws, n) {
+            out[at] = query.polynomial;
+            out[at + 1] = query.word;
             at += 2;
         }
-        i += 1;
     }
     count
 }

@@ -36,18 +36,18 @@ fn same_at(ws: &[u64], p: usize, q: usize) -> bool
         kind::SUM => {
             let x = same_lower(ws, p, q, d.first, e.first);
             let y = same_lower(ws, p, q, d.second, e.second);
-            both(x, y)
+            x & y
         }
         kind::PRODUCT => {
             let x = same_lower(ws, p, q, d.first, e.first);
             let y = same_lower(ws, p, q, d.second, e.second);
-            both(x, y)
+            x & y
         }
         kind::SCALED => same_lower(ws, p, q, d.first, e.first),
         kind::DISTRIBUTE_POWERS => {
             let x = same_lower(ws, p, q, d.first, e.first);
             let y = lower_items(ws, p, q, d.second, e.second);
-            both(x, y)
+            x & y
         }
         _ => true,
     }
@@ -72,18 +72,18 @@ fn same_items(ws: &[u64], p: usize, q: usize) -> bool
 {
     let d = words_at(ws, p);
     let e = words_at(ws, q);
-    let x = same_lower(ws, p, q, d.first, e.first);
+    let first = same_lower(ws, p, q, d.first, e.first);
     if d.value == 0 {
         if e.value == 0 {
-            return x;
+            return first;
         }
         return false;
     }
     if e.value == 0 {
         return false;
     }
-    let y = lower_items(ws, p, q, d.second, e.second);
-    both(x, y)
+    let rest = lower_items(ws, p, q, d.second, e.second);
+    first & rest
 }
 
 #[cycle(lower_items_same_at_same_items_same_lower)]
@@ -138,7 +138,7 @@ fn same_top(d: Node, e: Node) -> bool
     let kind = x.kind;
     match kind {
         kind::IDENTITY => true,
-        kind::POLYNOMIAL => both(x.first == y.first, x.value == y.value),
+        kind::POLYNOMIAL => (x.first == y.first) & (x.value == y.value),
         kind::CHALLENGE => x.first == y.first,
         kind::NEGATED => true,
         kind::SUM => true,
@@ -170,13 +170,4 @@ fn as_expression(d: Node) -> Node
         };
     }
     d
-}
-
-fn both(x: bool, y: bool) -> bool
-    ensures { result ≡ (x && y) }
-{
-    if x {
-        return y;
-    }
-    false
 }

@@ -72,13 +72,6 @@ queries_small nodes n polys k e =
     (omega arith, (leb-true polys 1048576 (and_left _ _ s), leb-true k 1048576 (and_right (leb polys 1048576) _ s)))
 
 -- ---- the values
-pub same_layout : (a b c d e f g h a' b' c' d' e' f' g' h' : ℕ)
-    → a ≡ a' → b ≡ b' → c ≡ c' → d ≡ d' → e ≡ e' → f ≡ f' → g ≡ g' → h ≡ h'
-    → ◌≡◌ {A = Layout}
-    (record { rows = a; instances = b; preprocess = c; start = d; witness = e; permutations = f; skipped = g; rest = h })
-    (record { rows = a'; instances = b'; preprocess = c'; start = d'; witness = e'; permutations = f'; skipped = g'; rest = h' })
-same_layout a b c d e f g h a' b' c' d' e' f' g' h' p q r s t u v w = cc (p, q, r, s, t, u, v, w)
-
 pub layout_small : (k : ℕ) (ws : List ℕ) → k ≤ 20 → (eqb (length ws) 7 && all_of (λ w. ltb w 1048577) ws) ≡ true
     → LayoutSmall (layout_from k ws)
 layout_small k ws h e =

@@ -3,11 +3,6 @@
 
 ghost use Rattle.std.specs.Prelude.{◌≡◌, ◌&&◌, ◌+◌, ◌*◌, ◌^◌, ◌≤◌, ◌<◌, eqb, ltb, length};
 ghost use Rattle.lists.specs.Lists.{tabulate, write_at, all_of, first_no};
-ghost use Rattle.field.specs.Field.{𝔾};
-ghost use Rattle.field.specs.Element.{elem};
-ghost use Rattle.expression.specs.Nodes.{expr_of};
-ghost use Rattle.expression.specs.Value.{value_at};
-ghost use Rattle.expression.specs.Point.{PointInOrder, environment_of};
 ghost use Rattle.expression.specs.Reader.{LayoutSmall};
 ghost use Rattle.expression.specs.Queries.{queries_into};
 ghost use Rattle.backend.specs.Questions.{circuit_questions};
@@ -19,11 +14,9 @@ use bh::{row_after, rows_of};
 use expression::poly::Layout;
 use expression::value::Point;
 use expression_degree::degree_of;
-use expression_evaluate::lower;
+use expression_evaluate::value;
 use expression_nodes::index;
-use expression_nodes::leaves::{context, word};
 use expression_query::used_queries;
-use field::goldilocks::Goldilocks;
 use lists::word_at;
 
 // The degree of node n, 1025 where it is more, 0 where there is no node.
@@ -53,48 +46,21 @@ fn layout_from(k: usize, words: &[u64]) -> Layout
     requires { k ≤ 20 }
     ensures { result ≡ layout_from k words.now }
 {
-    let rows = rows_of(k);
-    let instances = index(word_at(words, 0));
-    let preprocess = index(word_at(words, 1));
-    let start = index(word_at(words, 2));
-    let witness = index(word_at(words, 3));
-    let permutations = index(word_at(words, 4));
-    let skipped = index(word_at(words, 5));
-    let rest = index(word_at(words, 6));
     Layout {
-        rows,
-        instances,
-        preprocess,
-        start,
-        witness,
-        permutations,
-        skipped,
-        rest,
+        rows: rows_of(k),
+        instances: index(word_at(words, 0)),
+        preprocess: index(word_at(words, 1)),
+        start: index(word_at(words, 2)),
+        witness: index(word_at(words, 3)),
+        permutations: index(word_at(words, 4)),
+        skipped: index(word_at(words, 5)),
+        rest: index(word_at(words, 6)),
     }
-}
-
-// The value of node n at a point; a leaf is read at once.
-fn value_of<'a>(
-    nodes: &'a [u64],
-    circuit: &'a [u64],
-    witness: &'a [u64],
-    columns: &'a [u64],
-    challenges: &'a [u64],
-    layout: Layout,
-    point: Point,
-    n: usize,
-) -> Goldilocks
-    requires { (n * 4 + 4 ≤ length nodes.now) × (LayoutSmall layout × PointInOrder point) }
-    ensures { elem result ≡ value_at 𝔾 (environment_of circuit.now witness.now columns.now challenges.now layout point) (expr_of nodes.now n) point.row }
-{
-    let c = context(layout, point);
-    let s = [nodes, circuit, witness, columns, challenges];
-    Goldilocks::from_u64(lower(&s, &c, nodes.len() / 4, word(n)))
 }
 
 // What is evaluated at every row: node n, over polynomials of 2^k rows that stand as `layout` says.
 #[derive(Clone, Copy)]
-struct Evaluation {
+struct EveryRow {
     layout: Layout,
     k: usize,
     n: usize,
@@ -108,7 +74,7 @@ fn values<'a>(
     columns: &'a [u64],
     challenges: &'a [u64],
     eq: &[u64],
-    of: Evaluation,
+    of: EveryRow,
     out: &mut [u64],
 )
     requires { (of.n * 4 + 4 ≤ length nodes.now) × LayoutSmall of.layout × (0 < of.k) × (of.k < 21) × (2 ^ of.k ≤ length out.old) }
@@ -116,10 +82,9 @@ fn values<'a>(
 {
     let rows = rows_of(of.k);
     let mut row: usize = 0;
-    let mut place: usize = 0;
-    while place < rows {
+    for place in 0..rows {
         let e = word_at(eq, row);
-        let x = value_of(
+        let x = value(
             nodes,
             circuit,
             witness,
@@ -136,7 +101,6 @@ fn values<'a>(
         );
         out[row] = x.to_u64();
         row = row_after(row, place, of.k);
-        place += 1;
     }
 }
 
@@ -174,7 +138,7 @@ pub fn expression_values<'a>(
     if !room {
         return;
     }
-    let of = Evaluation {
+    let of = EveryRow {
         layout: layout_from(k, layout),
         k: k,
         n: n,

@@ -9,7 +9,7 @@ use Rattle.expression.specs.Queries.{candidates, used_queries}
 use Rattle.expression.proofs.Folds.{used}
 use Rattle.expression.proofs.Queries.{candidate, end_small, count_start, count_yes, count_no}
 use Rattle.expression_query.proofs.count_queries.Goals as goal
-use Rattle.expression_query.proofs.count_queries.Goals.{then-node_uses, else-node_uses}
+use Rattle.expression_query.proofs.count_queries.Goals.{then-node, else-node}
 
 pub overflow_mul-end : goal.overflow_mul-end
 overflow_mul-end c = omega (arith, end_small c.args.polys c.args.k c.requires.1.0 c.requires.1.1)
@@ -19,16 +19,13 @@ loop-i-init c =
     let a = c.args in
     (omega arith, omega arith, count_start (used_query (expr_of a.ws.now a.n)) (candidate a.k))
 
-pub overflow_add-low : goal.overflow_add-low
-overflow_add-low c =
+pub overflow_add-query : goal.overflow_add-query
+overflow_add-query c =
     let k = c.args.k in
     omega (arith, mod-lt c.loop-i.i {m = k + k + 1} (omega arith))
 
 pub overflow_add-count : goal.overflow_add-count
 overflow_add-count c = omega (arith, end_small c.args.polys c.args.k c.requires.1.0 c.requires.1.1)
-
-pub overflow_add-i : goal.overflow_add-i
-overflow_add-i c = omega (arith, end_small c.args.polys c.args.k c.requires.1.0 c.requires.1.1)
 
 pub loop-i-preserved : goal.loop-i-preserved
 loop-i-preserved c =
@@ -37,10 +34,10 @@ loop-i-preserved c =
     let e = expr_of a.ws.now a.n in
     let p = used_query e in
     let f = candidate a.k in
-    let t = sym (used (f l.i) e) ∙ sym c.node_uses.ensures in
-    elim c.if-node_uses.branch [
-      | then-node_uses w ↦ (omega arith, omega arith, w.count-is ∙ count_yes p f l.count l.i (t ∙ w.if-node_uses.true) l.invariant.2)
-      | else-node_uses w ↦ (omega arith, omega arith, w.count-is ∙ count_no p f l.count l.i (t ∙ w.if-node_uses.false) l.invariant.2)
+    let t = sym (used (f l.i) e) ∙ sym c.node.ensures in
+    elim c.if-node.branch [
+      | then-node w ↦ (omega arith, omega arith, w.count-is ∙ count_yes p f l.count l.i (t ∙ w.if-node.true) l.invariant.2)
+      | else-node w ↦ (omega arith, omega arith, w.count-is ∙ count_no p f l.count l.i (t ∙ w.if-node.false) l.invariant.2)
     ]
 
 pub returns : goal.returns

@@ -8,6 +8,3 @@ use Rattle.expression_query.proofs.count_queries.Given as goal
 
 abbrev pub invariant-loop-i : goal.invariant-loop-i
 invariant-loop-i l = (l.i ≤ l.end) × (l.count ≤ l.i) × (l.count ≡ count_of (used_query (expr_of l.ws l.n)) (tabulate (λ j. query_of (j / l.wide) (l.low + j % l.wide)) l.i))
-
-abbrev pub decreases-loop-i : goal.decreases-loop-i
-decreases-loop-i l = l.end - l.i

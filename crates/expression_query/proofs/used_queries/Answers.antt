@@ -10,7 +10,7 @@ use Rattle.expression.specs.Queries.{candidates, used_queries, query_words}
 use Rattle.expression.proofs.Folds.{used}
 use Rattle.expression.proofs.Queries.{candidate, end_small, into_start, into_no, into_room, into_yes, into_all, into_none, into_keeps, room_is}
 use Rattle.expression_query.proofs.used_queries.Goals as goal
-use Rattle.expression_query.proofs.used_queries.Goals.{then-node_uses, else-node_uses}
+use Rattle.expression_query.proofs.used_queries.Goals.{then-node, else-node}
 
 pub returns-then-out-count : goal.returns-then-out-count
 returns-then-out-count c =
@@ -27,8 +27,8 @@ loop-i-init c =
     let a = c.args in
     (omega arith, refl, into_start (used_query (expr_of a.ws.now a.n)) (candidate a.k) a.out.now)
 
-pub overflow_add-word : goal.overflow_add-word
-overflow_add-word c =
+pub overflow_add-query : goal.overflow_add-query
+overflow_add-query c =
     let k = c.args.k in
     omega (arith, mod-lt c.loop-i.i {m = k + k + 1} (omega arith))
 
@@ -41,7 +41,7 @@ offset_bounds-out-at c = omega (
       let e = expr_of a.ws.now a.n in
       let f = candidate a.k in
       into_room (used_query e) f a.out.now l.out l.i l.at (a.polys * (a.k + a.k + 1))
-      (sym (used (f l.i) e) ∙ sym c.node_uses.ensures ∙ c.if-node_uses.true)
+      (sym (used (f l.i) e) ∙ sym c.node.ensures ∙ c.if-node.true)
       l.invariant.2
       c.loop-i-test.true
       (room_is (used_queries e a.polys a.k) c.count_queries-count.result (length a.out.now) c.count_queries-count.ensures c.if-out-count.false)),
@@ -57,7 +57,7 @@ bounds-out-at c = omega (
       let e = expr_of a.ws.now a.n in
       let f = candidate a.k in
       into_room (used_query e) f a.out.now l.out l.i l.at (a.polys * (a.k + a.k + 1))
-      (sym (used (f l.i) e) ∙ sym c.node_uses.ensures ∙ c.if-node_uses.true)
+      (sym (used (f l.i) e) ∙ sym c.node.ensures ∙ c.if-node.true)
       l.invariant.2
       c.loop-i-test.true
       (room_is (used_queries e a.polys a.k) c.count_queries-count.result (length a.out.now) c.count_queries-count.ensures c.if-out-count.false)),
@@ -73,37 +73,37 @@ overflow_add-out c = omega (
       let e = expr_of a.ws.now a.n in
       let f = candidate a.k in
       into_room (used_query e) f a.out.now l.out l.i l.at (a.polys * (a.k + a.k + 1))
-      (sym (used (f l.i) e) ∙ sym c.node_uses.ensures ∙ c.if-node_uses.true)
+      (sym (used (f l.i) e) ∙ sym c.node.ensures ∙ c.if-node.true)
       l.invariant.2
       c.loop-i-test.true
       (room_is (used_queries e a.polys a.k) c.count_queries-count.result (length a.out.now) c.count_queries-count.ensures c.if-out-count.false)),
   c.loop-i.invariant.1,
 )
 
-pub offset_bounds-out-at-then-node_uses : goal.offset_bounds-out-at-then-node_uses
+pub offset_bounds-out-at-then-node : goal.offset_bounds-out-at-then-node
 unfolding used_queries candidates
-offset_bounds-out-at-then-node_uses c = omega (
+offset_bounds-out-at-then-node c = omega (
   arith,
   (let a = c.args in
       let l = c.loop-i in
       let e = expr_of a.ws.now a.n in
       let f = candidate a.k in
       into_room (used_query e) f a.out.now l.out l.i l.at (a.polys * (a.k + a.k + 1))
-      (sym (used (f l.i) e) ∙ sym c.node_uses.ensures ∙ c.if-node_uses.true)
+      (sym (used (f l.i) e) ∙ sym c.node.ensures ∙ c.if-node.true)
       l.invariant.2
       c.loop-i-test.true
       (room_is (used_queries e a.polys a.k) c.count_queries-count.result (length a.out.now) c.count_queries-count.ensures c.if-out-count.false)),
   c.loop-i.invariant.1,
 )
 
-pub bounds-out-at-then-node_uses : goal.bounds-out-at-then-node_uses
+pub bounds-out-at-then-node : goal.bounds-out-at-then-node
 unfolding used_queries candidates
-bounds-out-at-then-node_uses c = simp length-set (let a = c.args in
+bounds-out-at-then-node c = simp length-set (let a = c.args in
     let l = c.loop-i in
     let e = expr_of a.ws.now a.n in
     let f = candidate a.k in
     into_room (used_query e) f a.out.now l.out l.i l.at (a.polys * (a.k + a.k + 1))
-    (sym (used (f l.i) e) ∙ sym c.node_uses.ensures ∙ c.if-node_uses.true)
+    (sym (used (f l.i) e) ∙ sym c.node.ensures ∙ c.if-node.true)
     l.invariant.2
     c.loop-i-test.true
     (room_is (used_queries e a.polys a.k) c.count_queries-count.result (length a.out.now) c.count_queries-count.ensures c.if-out-count.false))
@@ -117,15 +117,12 @@ overflow_add-at c = omega (
       let e = expr_of a.ws.now a.n in
       let f = candidate a.k in
       into_room (used_query e) f a.out.now l.out l.i l.at (a.polys * (a.k + a.k + 1))
-      (sym (used (f l.i) e) ∙ sym c.node_uses.ensures ∙ c.if-node_uses.true)
+      (sym (used (f l.i) e) ∙ sym c.node.ensures ∙ c.if-node.true)
       l.invariant.2
       c.loop-i-test.true
       (room_is (used_queries e a.polys a.k) c.count_queries-count.result (length a.out.now) c.count_queries-count.ensures c.if-out-count.false)),
   c.loop-i.invariant.1,
 )
-
-pub overflow_add-i : goal.overflow_add-i
-overflow_add-i c = omega (arith, end_small c.args.polys c.args.k c.requires.1.0 c.requires.1.1)
 
 pub loop-i-preserved : goal.loop-i-preserved
 unfolding used_queries candidates
@@ -135,15 +132,15 @@ loop-i-preserved c =
     let e = expr_of a.ws.now a.n in
     let p = used_query e in
     let f = candidate a.k in
-    let t = sym (used (f l.i) e) ∙ sym c.node_uses.ensures in
+    let t = sym (used (f l.i) e) ∙ sym c.node.ensures in
     let m = a.polys * (a.k + a.k + 1) in
     let r = room_is (used_queries e a.polys a.k) c.count_queries-count.result (length a.out.now) c.count_queries-count.ensures c.if-out-count.false in
-    elim c.if-node_uses.branch [
-      | then-node_uses w ↦
-          let y = into_yes p f a.out.now l.out l.i l.at m (t ∙ w.if-node_uses.true) l.invariant.2 c.loop-i-test.true r (l.i / (a.k + a.k + 1)) (2147483648 - a.k + l.i % (a.k + a.k + 1)) refl in
+    elim c.if-node.branch [
+      | then-node w ↦
+          let y = into_yes p f a.out.now l.out l.i l.at m (t ∙ w.if-node.true) l.invariant.2 c.loop-i-test.true r (l.i / (a.k + a.k + 1)) (2147483648 - a.k + l.i % (a.k + a.k + 1)) refl in
           (omega arith, ap length w.out-is ∙ into_keeps a.out.now l.out l.at _ _ l.invariant.1, (w.out-is ∙ y.0, w.at-is ∙ y.1))
-      | else-node_uses w ↦
-          let y = into_no p f a.out.now l.out l.i l.at (t ∙ w.if-node_uses.false) l.invariant.2 in
+      | else-node w ↦
+          let y = into_no p f a.out.now l.out l.i l.at (t ∙ w.if-node.false) l.invariant.2 in
           (omega arith, ap length w.out-is ∙ l.invariant.1, (w.out-is ∙ y.0, w.at-is ∙ y.1))
     ]
 

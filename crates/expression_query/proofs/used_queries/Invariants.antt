@@ -10,6 +10,3 @@ use Rattle.expression_query.proofs.used_queries.Given as goal
 abbrev pub invariant-loop-i : goal.invariant-loop-i
 invariant-loop-i l = (l.i ≤ l.end) × (length l.out ≡ length l.initial.out)
     × Into (used_query (expr_of l.ws l.n)) (λ j. query_of (j / l.wide) (l.low + j % l.wide)) l.initial.out l.i l.out l.at
-
-abbrev pub decreases-loop-i : goal.decreases-loop-i
-decreases-loop-i l = l.end - l.i

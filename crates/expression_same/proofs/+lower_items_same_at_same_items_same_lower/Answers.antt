@@ -1,4 +1,5 @@
 -- The walk by two places at once: each way through the code is `same_expr` and `same_exprs`.
+use mathlib.Core.Path.{refl}
 use borrow.Author.Rules.{rules}
 use native.Mathlib.Omega.{arith}
 use Rattle.expression.specs.Nodes.{expr_of, items_of, no_expr, no_exprs}
@@ -94,14 +95,14 @@ same_at-returns-in-8 t c =
     let a = c.args in
     let d = c.words_at-d in
     let e = c.words_at-e in
-    same_sum a.ws.now a.p a.q d.result e.result d.ensures e.ensures c.same_top.result c.same_top.ensures (c.if-not-same_top.false) c.same_lower-x.result c.same_lower-x.ensures c.same_lower-y.result c.both.result c.both.ensures c.same_lower-y.ensures c.in-8.is
+    same_sum a.ws.now a.p a.q d.result e.result d.ensures e.ensures c.same_top.result c.same_top.ensures (c.if-not-same_top.false) c.same_lower-x.result c.same_lower-x.ensures c.same_lower-y.result _ refl c.same_lower-y.ensures c.in-8.is
 
 pub same_at-returns-in-9 : goal.same_at-returns-in-9
 same_at-returns-in-9 t c =
     let a = c.args in
     let d = c.words_at-d in
     let e = c.words_at-e in
-    same_product a.ws.now a.p a.q d.result e.result d.ensures e.ensures c.same_top.result c.same_top.ensures (c.if-not-same_top.false) c.same_lower-x-in-9.result c.same_lower-x-in-9.ensures c.same_lower-y-in-9.result c.both-in-9.result c.both-in-9.ensures c.same_lower-y-in-9.ensures c.in-9.is
+    same_product a.ws.now a.p a.q d.result e.result d.ensures e.ensures c.same_top.result c.same_top.ensures (c.if-not-same_top.false) c.same_lower-x-in-9.result c.same_lower-x-in-9.ensures c.same_lower-y-in-9.result _ refl c.same_lower-y-in-9.ensures c.in-9.is
 
 pub same_at-returns-in-10 : goal.same_at-returns-in-10
 same_at-returns-in-10 t c =
@@ -115,7 +116,7 @@ same_at-returns-in-11 t c =
     let a = c.args in
     let d = c.words_at-d in
     let e = c.words_at-e in
-    same_powers a.ws.now a.p a.q d.result e.result d.ensures e.ensures c.same_top.result c.same_top.ensures (c.if-not-same_top.false) c.same_lower-x-in-11.result c.same_lower-x-in-11.ensures c.lower_items-y.result c.both-in-11.result c.both-in-11.ensures c.lower_items-y.ensures c.in-11.is
+    same_powers a.ws.now a.p a.q d.result e.result d.ensures e.ensures c.same_top.result c.same_top.ensures (c.if-not-same_top.false) c.same_lower-x-in-11.result c.same_lower-x-in-11.ensures c.lower_items-y.result _ refl c.lower_items-y.ensures c.in-11.is
 
 pub same_at-returns-in_default : goal.same_at-returns-in_default
 same_at-returns-in_default t c =
@@ -129,7 +130,7 @@ same_items-returns-then-e-eq0 t c =
     let a = c.args in
     let d = c.words_at-d in
     let e = c.words_at-e in
-    chain_last a.ws.now a.p a.q d.result e.result d.ensures e.ensures c.same_lower-x.result c.same_lower-x.ensures c.if-d-eq0.true c.if-e-eq0.true
+    chain_last a.ws.now a.p a.q d.result e.result d.ensures e.ensures c.same_lower-first.result c.same_lower-first.ensures c.if-d-eq0.true c.if-e-eq0.true
 
 pub same_items-returns-then-d-eq0 : goal.same_items-returns-then-d-eq0
 same_items-returns-then-d-eq0 t c =
@@ -145,8 +146,8 @@ same_items-returns-then-e-eq0-2 t c =
     let e = c.words_at-e in
     chain_longer a.ws.now a.p a.q d.result e.result d.ensures e.ensures c.if-d-eq0.false c.if-e-eq0-2.true
 
-pub same_items-lower_items-y-requires : goal.same_items-lower_items-y-requires
-same_items-lower_items-y-requires t c =
+pub same_items-lower_items-rest-requires : goal.same_items-lower_items-rest-requires
+same_items-lower_items-rest-requires t c =
     let a = c.args in
     let d = c.words_at-d in
     let l = value_placed a.ws.now d.result a.p d.ensures c.if-d-eq0.false in
@@ -157,7 +158,7 @@ same_items-returns t c =
     let a = c.args in
     let d = c.words_at-d in
     let e = c.words_at-e in
-    chain_more a.ws.now a.p a.q d.result e.result d.ensures e.ensures c.same_lower-x.result c.lower_items-y.result c.both.result c.both.ensures c.same_lower-x.ensures c.lower_items-y.ensures c.if-d-eq0.false c.if-e-eq0-2.false
+    chain_more a.ws.now a.p a.q d.result e.result d.ensures e.ensures c.same_lower-first.result c.lower_items-rest.result _ refl c.same_lower-first.ensures c.lower_items-rest.ensures c.if-d-eq0.false c.if-e-eq0-2.false
 
 pub same_lower-returns : goal.same_lower-returns
 same_lower-returns t c =

@@ -1,4 +1,5 @@
 -- Each kind's words compared: the nodes, as expressions', are the same by what they keep.
+use mathlib.Core.Path.{refl}
 use Rattle.expression_same.proofs.Ways.{top_apart, top_identity, top_poly, top_challenge, top_negated, top_sum, top_product, top_powers, top_value}
 use Rattle.expression_same.proofs.same_top.Goals as goal
 
@@ -21,7 +22,7 @@ returns-in-5 c =
     let a = c.args in
     let x = c.as_expression-x in
     let y = c.as_expression-y in
-    top_poly a.d a.e x.result y.result x.ensures y.ensures c.if-x-y.false c.both.result c.both.ensures c.in-5.is
+    top_poly a.d a.e x.result y.result x.ensures y.ensures c.if-x-y.false _ refl c.in-5.is
 
 pub returns-in-6 : goal.returns-in-6
 returns-in-6 c =

@@ -17,8 +17,8 @@ pub loop-place-init : goal.loop-place-init
 loop-place-init c =
     (sym (row_zero c.args.of.k), turn_start _ _ _ _ (row_turns c.args.of.k c.requires.2 c.requires.3) c.args.out.now 0 (from_zero _ _ c.requires.4))
 
-pub value_of-x-requires : goal.value_of-x-requires
-value_of-x-requires c = (
+pub value-x-requires : goal.value-x-requires
+value-x-requires c = (
   c.requires.0,
   (
     c.requires.1,
@@ -43,12 +43,6 @@ pub row_after-row-requires : goal.row_after-row-requires
 row_after-row-requires c =
     (c.requires.2, c.requires.3, c.loop-place.invariant.0)
 
-pub overflow_add-place : goal.overflow_add-place
-overflow_add-place c = omega (arith, c.loop-place-test.true)
-
-pub loop-place-smaller : goal.loop-place-smaller
-loop-place-smaller c = omega (arith, c.loop-place-test.true)
-
 pub loop-place-preserved : goal.loop-place-preserved
 loop-place-preserved c =
     let a = c.args in
@@ -58,7 +52,7 @@ loop-place-preserved c =
           (value_word_is a.nodes.now a.circuit.now a.witness.now a.columns.now a.challenges.now a.of.layout a.of.k a.eq.now a.of.n c.loop-place.row c.loop-place.place _ _ _
           (placed_at a.of.k c.loop-place.row c.loop-place.place c.requires.2 c.requires.3 inside c.loop-place.invariant.0)
           c.word_at-e.ensures
-          c.value_of-x.ensures
+          c.value-x.ensures
           c.to_u64.ensures
           ∙ ap (λ (b : ℕ). value_word a.nodes.now a.circuit.now a.witness.now a.columns.now a.challenges.now a.of.layout a.of.k a.eq.now a.of.n b) c.loop-place.invariant.0),
     )

@@ -24,8 +24,8 @@ pub loop-place-init : goal.loop-place-init
 loop-place-init c =
     let a = c.args in
     let pre = c.requires in (
-      sym (row_zero a.poly.k),
-      turn_start _ _ _ _ (row_turns a.poly.k pre.0.positive pre.0.small) _ _ pre.0.room,
+      sym (row_zero a.polys.k),
+      turn_start _ _ _ _ (row_turns a.polys.k pre.0.positive pre.0.small) _ _ pre.0.room,
     )
 
 pub slice_bounds-compressed_at-end : goal.slice_bounds-compressed_at-end
@@ -44,8 +44,8 @@ compressed_at-x-requires c =
         record {
           positive = pre.0.positive;
           small = pre.0.small;
-          inside = row_in a.poly.k l.row l.place pre.0.positive pre.0.small l.invariant.0;
-          placed = placed_at a.poly.k l.row l.place pre.0.positive pre.0.small (omega (arith, c.loop-place-test.true, c.rows_of-rows.ensures)) l.invariant.0;
+          inside = row_in a.polys.k l.row l.place pre.0.positive pre.0.small l.invariant.0;
+          placed = placed_at a.polys.k l.row l.place pre.0.positive pre.0.small (omega (arith, c.loop-place-test.true, c.rows_of-rows.ensures)) l.invariant.0;
         },
       ),
       pre.1,
@@ -56,30 +56,24 @@ pub overflow_add-columns : goal.overflow_add-columns
 overflow_add-columns c =
     let pre = c.requires in
     let l = c.loop-place in
-    omega (arith, pre.0.room, l.invariant.1.size, row_in c.args.poly.k l.row l.place pre.0.positive pre.0.small l.invariant.0)
+    omega (arith, pre.0.room, l.invariant.1.size, row_in c.args.polys.k l.row l.place pre.0.positive pre.0.small l.invariant.0)
 
-pub offset_bounds-columns-poly : goal.offset_bounds-columns-poly
-offset_bounds-columns-poly c =
+pub offset_bounds-columns-polys : goal.offset_bounds-columns-polys
+offset_bounds-columns-polys c =
     let pre = c.requires in
     let l = c.loop-place in
-    omega (arith, pre.0.room, l.invariant.1.size, row_in c.args.poly.k l.row l.place pre.0.positive pre.0.small l.invariant.0)
+    omega (arith, pre.0.room, l.invariant.1.size, row_in c.args.polys.k l.row l.place pre.0.positive pre.0.small l.invariant.0)
 
-pub bounds-columns-poly : goal.bounds-columns-poly
-bounds-columns-poly c =
+pub bounds-columns-polys : goal.bounds-columns-polys
+bounds-columns-polys c =
     let pre = c.requires in
     let l = c.loop-place in
-    omega (arith, pre.0.room, l.invariant.1.size, row_in c.args.poly.k l.row l.place pre.0.positive pre.0.small l.invariant.0)
+    omega (arith, pre.0.room, l.invariant.1.size, row_in c.args.polys.k l.row l.place pre.0.positive pre.0.small l.invariant.0)
 
 pub row_after-row-requires : goal.row_after-row-requires
 row_after-row-requires c =
     let pre = c.requires in
     (pre.0.positive, pre.0.small, c.loop-place.invariant.0)
-
-pub overflow_add-place : goal.overflow_add-place
-overflow_add-place c = omega (arith, c.loop-place-test.true)
-
-pub loop-place-smaller : goal.loop-place-smaller
-loop-place-smaller c = omega (arith, c.loop-place-test.true)
 
 pub loop-place-preserved : goal.loop-place-preserved
 loop-place-preserved c =
@@ -88,11 +82,11 @@ loop-place-preserved c =
     let l = c.loop-place in
     let rows = c.rows_of-rows in (
       c.row_after-row.ensures.0,
-      turn_more _ _ _ _ (row_turns a.poly.k pre.0.positive pre.0.small) _ _ pre.0.room _ _ l.invariant.1 (omega (arith, c.loop-place-test.true, rows.ensures)) _ (ap (λ (x : ℕ). a.poly.to + x) l.invariant.0) _
-          (compressed_here a.poly.k pre.0.small a.poly.layout pre.0.given a.circuit.now a.witness.now a.challenges.now (elem a.poly.beta) _ a.columns.now
-          (λ j h. read_word l.columns a.columns.now a.poly.layout.instances _ a.poly.k a.poly.to j rows.ensures pre.0.before (turn_before _ _ _ _ (row_turns a.poly.k pre.0.positive pre.0.small) _ _ pre.0.room _ _ l.invariant.1) h)
-          (roots_of a.nodes.now a.pairs.now a.poly.roots) l.row l.place _ (row_in a.poly.k l.row l.place pre.0.positive pre.0.small l.invariant.0) (c.to_u64.ensures ∙ ap val c.compressed_at-x.ensures)
-          ∙ ap (λ (x : ℕ). val (compressed_in 𝔾 (environment_from_words a.circuit.now a.witness.now a.columns.now a.challenges.now a.poly.layout a.poly.k) (elem a.poly.beta) (roots_of a.nodes.now a.pairs.now a.poly.roots) x)) l.invariant.0),
+      turn_more _ _ _ _ (row_turns a.polys.k pre.0.positive pre.0.small) _ _ pre.0.room _ _ l.invariant.1 (omega (arith, c.loop-place-test.true, rows.ensures)) _ (ap (λ (x : ℕ). a.polys.to + x) l.invariant.0) _
+          (compressed_here a.polys.k pre.0.small a.polys.layout pre.0.given a.lent.now.circuit.now a.lent.now.witness.now a.lent.now.challenges.now (elem a.polys.beta) _ a.columns.now
+          (λ j h. read_word l.columns a.columns.now a.polys.layout.instances _ a.polys.k a.polys.to j rows.ensures pre.0.before (turn_before _ _ _ _ (row_turns a.polys.k pre.0.positive pre.0.small) _ _ pre.0.room _ _ l.invariant.1) h)
+          (roots_of a.lent.now.nodes.now a.lent.now.pairs.now a.roots) l.row l.place _ (row_in a.polys.k l.row l.place pre.0.positive pre.0.small l.invariant.0) (c.to_u64.ensures ∙ ap val c.compressed_at-x.ensures)
+          ∙ ap (λ (x : ℕ). val (compressed_in 𝔾 (environment_from_words a.lent.now.circuit.now a.lent.now.witness.now a.columns.now a.lent.now.challenges.now a.polys.layout a.polys.k) (elem a.polys.beta) (roots_of a.lent.now.nodes.now a.lent.now.pairs.now a.roots) x)) l.invariant.0),
     )
 
 pub shape_of-columns : goal.shape_of-columns
@@ -101,4 +95,4 @@ shape_of-columns c = c.loop-place.invariant.1.size
 pub returns : goal.returns
 returns c =
     let pre = c.requires in
-    turn_end _ _ _ _ (row_turns c.args.poly.k pre.0.positive pre.0.small) _ _ pre.0.room _ _ c.loop-place.invariant.1 (omega (arith, c.loop-place-test.false, c.rows_of-rows.ensures))
+    turn_end _ _ _ _ (row_turns c.args.polys.k pre.0.positive pre.0.small) _ _ pre.0.room _ _ c.loop-place.invariant.1 (omega (arith, c.loop-place-test.false, c.rows_of-rows.ensures))

@@ -1,5 +1,5 @@
 use mathlib.Core.Path.{◌≡◌}
-use Prim.Native.Nat.{◌-◌, ◌^◌}
+use Prim.Native.Nat.{◌^◌}
 use Rattle.field.specs.Field.{𝔾, val}
 use Rattle.field.specs.Element.{elem}
 use Rattle.bh.specs.Rows.{row_at, place_of}
@@ -8,9 +8,6 @@ use Rattle.prover.specs.Lent.{environment_from_words, compressed_in, roots_of}
 use Rattle.prover_compressed.proofs.lookup_compressed_poly.Given as goal
 
 abbrev pub invariant-loop-place : goal.invariant-loop-place
-invariant-loop-place l = (l.row ≡ row_at l.poly.k l.place)
-    × Turned (2 ^ l.poly.k) (place_of l.poly.k)
-    (λ b. val (compressed_in 𝔾 (environment_from_words l.circuit l.witness l.initial.columns l.challenges l.poly.layout l.poly.k) (elem l.poly.beta) (roots_of l.nodes l.pairs l.poly.roots) b)) l.initial.columns l.poly.to l.columns l.place
-
-abbrev pub decreases-loop-place : goal.decreases-loop-place
-decreases-loop-place l = l.rows - l.place
+invariant-loop-place l = (l.row ≡ row_at l.polys.k l.place)
+    × Turned (2 ^ l.polys.k) (place_of l.polys.k)
+    (λ b. val (compressed_in 𝔾 (environment_from_words l.lent.circuit.now l.lent.witness.now l.initial.columns l.lent.challenges.now l.polys.layout l.polys.k) (elem l.polys.beta) (roots_of l.lent.nodes.now l.lent.pairs.now l.roots) b)) l.initial.columns l.polys.to l.columns l.place

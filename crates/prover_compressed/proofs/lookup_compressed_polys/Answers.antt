@@ -49,7 +49,6 @@ compressed_pair-requires c =
         room = rw l.invariant.3 (lookup_there _ _ _ _ _ _ test.true l.invariant.2 pre.0.room);
       },
       omega (arith, part_there _ _ test.true _ _ l.invariant.1 (let q : total a.widths.now ≤ total a.widths.now = omega arith in q), c.index-width.ensures, pre.1),
-      refl,
     )
 
 pub overflow_add-start : goal.overflow_add-start
@@ -62,12 +61,6 @@ overflow_add-at c = omega (arith, lookup_there _ _ _ _ _ _ c.loop-i-test.true c.
 
 pub overflow_add-at-in-loop-i : goal.overflow_add-at-in-loop-i
 overflow_add-at-in-loop-i c = omega (arith, lookup_there _ _ _ _ _ _ c.loop-i-test.true c.loop-i.invariant.2 c.requires.0.room, c.rows_of-rows.ensures)
-
-pub overflow_add-i : goal.overflow_add-i
-overflow_add-i c = omega (arith, c.loop-i-test.true)
-
-pub loop-i-smaller : goal.loop-i-smaller
-loop-i-smaller c = omega (arith, c.loop-i-test.true)
 
 pub loop-i-preserved : goal.loop-i-preserved
 loop-i-preserved c =

@@ -1,5 +1,5 @@
 use mathlib.Core.Path.{◌≡◌}
-use Prim.Native.Nat.{◌+◌, ◌-◌, ◌*◌, ◌^◌, ◌≤◌}
+use Prim.Native.Nat.{◌+◌, ◌*◌, ◌^◌, ◌≤◌}
 use lib.ListN.{length, take}
 use Rattle.field.specs.Field.{𝔾}
 use Rattle.field.specs.Element.{elem}
@@ -15,6 +15,3 @@ invariant-loop-i l = (l.i ≤ length l.widths)
     × (l.at ≡ l.polys.to + l.i * (2 ^ l.polys.k + 2 ^ l.polys.k))
     × (length l.columns ≡ length l.initial.columns)
     × (l.columns ≡ write_at l.initial.columns l.polys.to (words_of (2 ^ l.polys.k) (compressed_polys_in 𝔾 (environment_from_words l.circuit l.witness l.initial.columns l.challenges l.polys.layout l.polys.k) (elem l.polys.beta) (split (take l.i l.widths) (pairs_of l.nodes l.pairs)))))
-
-abbrev pub decreases-loop-i : goal.decreases-loop-i
-decreases-loop-i l = length l.widths - l.i

@@ -1,17 +1,28 @@
 -- `value_of_root` meets its contract: past the last node the words read as 0.
-use mathlib.Core.Path.{◌∙◌}
+use mathlib.Core.Path.{◌≡◌, ap, sym, ◌∙◌}
+use Prim.Native.Nat.{◌/◌, ◌<◌}
+use native.Mathlib.Decide.{dec_lt}
 use native.Mathlib.Omega.{arith}
-use Rattle.expression_evaluate.specs.Lent.{lent}
-use Rattle.prover.proofs.PowerSums.{root_value_is}
+use lib.ListN.{length}
+use Rattle.field.specs.Field.{𝔾}
+use Rattle.expression.specs.Expr.{evaluate}
+use Rattle.expression.specs.Nodes.{expr_of, under, no_expr}
+use Rattle.expression.specs.Value.{value_ops, value_at}
+use Rattle.expression.proofs.Step.{under_yes, under_no}
+use Rattle.expression_evaluate.specs.Environment.{environment}
+use Rattle.prover.proofs.PowerSums.{no_node}
 use Rattle.prover_compressed.proofs.value_of_root.Goals as goal
 
-pub lower-requires : goal.lower-requires
-lower-requires c = (omega (arith, c.requires.0), c.requires.2)
-
 pub returns : goal.returns
+unfolding value_at
 returns c =
     let a = c.args in
-    let pre = c.requires in
-    c.from_u64.ensures
-    ∙ root_value_is (lent a.s.now 1) (lent a.s.now 2) (lent a.s.now 3) (lent a.s.now 4) a.c.now (lent a.s.now 0)
-    a.count a.root pre.0 pre.1 _ c.lower.ensures
+    let ws = a.nodes.now in
+    let n = length ws / 4 in
+    let f = expr_of ws in
+    c.lower.ensures
+    ∙ ap (evaluate (value_ops 𝔾 (environment a.over.now) a.over.now.point.row))
+    (elim (dec_lt a.root n) [
+      | yes l ↦ under_yes n no_expr f a.root l
+      | no g ↦ under_no n no_expr f a.root (omega (arith, g)) ∙ sym (no_node ws a.root c.requires (omega (arith, g)))
+    ])

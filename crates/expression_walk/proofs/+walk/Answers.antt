@@ -1,0 +1,235 @@
+-- The walk: each way through the code is the fold by the operations.
+use mathlib.Core.Path.{◌∙◌, ap, refl}
+use Rattle.expression.proofs.Ways as ways
+use Rattle.expression_walk.proofs.+walk.Goals as goal
+
+pub chain-returns-then-d-eq0 : goal.chain-returns-then-d-eq0
+chain-returns-then-d-eq0 g t c =
+    let a = c.args in
+    let m = g.O.Operations.meaning in
+    let o = g.O.Operations.ops a.ops.now in
+    let ws = a.nodes.now in
+    let d = c.read_node-d in
+    ways.met_last o ws a.n d.result d.ensures (m a.base) (m c.lower-x.result) c.lower-x.ensures c.if-d-eq0.true
+
+pub chain-returns-then-item-n : goal.chain-returns-then-item-n
+chain-returns-then-item-n g t c =
+    let a = c.args in
+    let m = g.O.Operations.meaning in
+    let o = g.O.Operations.ops a.ops.now in
+    let ws = a.nodes.now in
+    let d = c.read_node-d in
+    ways.met_more o ws a.n d.result d.ensures (m a.base) (m c.lower-x.result) c.lower-x.ensures c.if-d-eq0.false c.index-item.result c.index-item.ensures (m c.items.result) c.if-item-n.true c.items.ensures
+
+pub chain-returns : goal.chain-returns
+chain-returns g t c =
+    let a = c.args in
+    let m = g.O.Operations.meaning in
+    let o = g.O.Operations.ops a.ops.now in
+    let ws = a.nodes.now in
+    let d = c.read_node-d in
+    c.sum.ensures ∙ ap (o.sum_op (m c.lower-x.result)) (c.product-last.ensures ∙ ap (o.product_op (m a.base)) c.constant-zero.ensures)
+    ∙ ways.met_no_more o ws a.n d.result d.ensures (m a.base) (m c.lower-x.result) c.lower-x.ensures c.if-d-eq0.false c.index-item.result c.index-item.ensures c.if-item-n.false
+
+pub items-returns-then-d-eq0 : goal.items-returns-then-d-eq0
+items-returns-then-d-eq0 g t c =
+    let a = c.args in
+    let m = g.O.Operations.meaning in
+    let o = g.O.Operations.ops a.ops.now in
+    let ws = a.nodes.now in
+    let d = c.read_node-d in
+    ways.met_rest_last o ws a.n d.result d.ensures (m a.base) (m a.power) (m a.acc) (m c.lower-x.result) (m c.sum-sum.result) c.lower-x.ensures
+    (c.sum-sum.ensures ∙ ap (o.sum_op (m a.acc)) c.product-term.ensures)
+    c.if-d-eq0.true
+
+pub items-returns-then-item-n : goal.items-returns-then-item-n
+items-returns-then-item-n g t c =
+    let a = c.args in
+    let m = g.O.Operations.meaning in
+    let o = g.O.Operations.ops a.ops.now in
+    let ws = a.nodes.now in
+    let d = c.read_node-d in
+    ways.met_rest_more o ws a.n d.result d.ensures (m a.base) (m a.power) (m a.acc) (m c.lower-x.result) (m c.sum-sum.result) c.lower-x.ensures
+    (c.sum-sum.ensures ∙ ap (o.sum_op (m a.acc)) c.product-term.ensures)
+    c.if-d-eq0.false c.index-item.result c.index-item.ensures (m c.product-p.result) c.product-p.ensures (m c.items.result) c.if-item-n.true c.items.ensures
+
+pub items-returns : goal.items-returns
+items-returns g t c =
+    let a = c.args in
+    let m = g.O.Operations.meaning in
+    let o = g.O.Operations.ops a.ops.now in
+    let ws = a.nodes.now in
+    let d = c.read_node-d in
+    c.sum.ensures ∙ ap (o.sum_op (m c.sum-sum.result)) (c.product-last.ensures ∙ ap (o.product_op (m c.product-p.result)) c.constant-zero.ensures)
+    ∙ ways.met_rest_none o ws a.n d.result d.ensures (m a.base) (m a.power) (m a.acc) (m c.lower-x.result) (m c.sum-sum.result) c.lower-x.ensures
+    (c.sum-sum.ensures ∙ ap (o.sum_op (m a.acc)) c.product-term.ensures)
+    c.if-d-eq0.false c.index-item.result c.index-item.ensures (m c.product-p.result) c.product-p.ensures c.if-item-n.false
+
+pub lower-returns-then-kind-eq-POLYNOMIAL : goal.lower-returns-then-kind-eq-POLYNOMIAL
+lower-returns-then-kind-eq-POLYNOMIAL g t c =
+    let a = c.args in
+    let m = g.O.Operations.meaning in
+    let o = g.O.Operations.ops a.ops.now in
+    let ws = a.nodes.now in
+    let d = c.read_node-d in
+    let x = c.index-b in
+    ways.met_lower o ws a.n a.a x.result (m c.poly.result) x.ensures c.if-b-n.true
+    (c.poly.ensures ∙ ways.met_poly o ws x.result d.result d.ensures c.if-kind-eq-POLYNOMIAL.true)
+
+pub lower-returns-then-kind-eq-CHALLENGE : goal.lower-returns-then-kind-eq-CHALLENGE
+lower-returns-then-kind-eq-CHALLENGE g t c =
+    let a = c.args in
+    let m = g.O.Operations.meaning in
+    let o = g.O.Operations.ops a.ops.now in
+    let ws = a.nodes.now in
+    let d = c.read_node-d in
+    let x = c.index-b in
+    ways.met_lower o ws a.n a.a x.result (m c.challenge.result) x.ensures c.if-b-n.true
+    (c.challenge.ensures ∙ ways.met_challenge o ws x.result d.result d.ensures c.if-kind-eq-CHALLENGE.true)
+
+pub lower-returns-then-b-n : goal.lower-returns-then-b-n
+lower-returns-then-b-n g t c =
+    let a = c.args in
+    let m = g.O.Operations.meaning in
+    let o = g.O.Operations.ops a.ops.now in
+    let ws = a.nodes.now in
+    let x = c.index-b in
+    ways.met_lower o ws a.n a.a x.result (m c.node.result) x.ensures c.if-b-n.true c.node.ensures
+
+pub lower-returns : goal.lower-returns
+lower-returns g t c =
+    let a = c.args in
+    let m = g.O.Operations.meaning in
+    let o = g.O.Operations.ops a.ops.now in
+    let ws = a.nodes.now in
+    c.constant.ensures ∙ ways.met_not_lower o ws a.n a.a c.index-b.result c.index-b.ensures c.if-b-n.false
+
+pub node-returns-then-item-n : goal.node-returns-then-item-n
+node-returns-then-item-n g t c =
+    let a = c.args in
+    let m = g.O.Operations.meaning in
+    let o = g.O.Operations.ops a.ops.now in
+    let ws = a.nodes.now in
+    let d = c.read_node-d in
+    ways.met_powers o ws a.n d.result d.ensures c.index-item.result c.index-item.ensures (m c.lower-base.result) c.lower-base.ensures (m c.chain.result) c.in-11.is c.if-item-n.true c.chain.ensures
+
+pub node-returns-in-1 : goal.node-returns-in-1
+node-returns-in-1 g t c =
+    let a = c.args in
+    let m = g.O.Operations.meaning in
+    let o = g.O.Operations.ops a.ops.now in
+    let ws = a.nodes.now in
+    let d = c.read_node-d in
+    c.constant.ensures ∙ ways.met_constant o ws a.n d.result d.ensures c.in-1.is
+
+pub node-returns-in-2 : goal.node-returns-in-2
+node-returns-in-2 g t c =
+    let a = c.args in
+    let m = g.O.Operations.meaning in
+    let o = g.O.Operations.ops a.ops.now in
+    let ws = a.nodes.now in
+    let d = c.read_node-d in
+    c.identity.ensures ∙ ways.met_identity o ws a.n d.result d.ensures c.in-2.is
+
+pub node-returns-in-3 : goal.node-returns-in-3
+node-returns-in-3 g t c =
+    let a = c.args in
+    let m = g.O.Operations.meaning in
+    let o = g.O.Operations.ops a.ops.now in
+    let ws = a.nodes.now in
+    let d = c.read_node-d in
+    c.lagrange.ensures ∙ ways.met_lagrange o ws a.n d.result d.ensures c.in-3.is
+
+pub node-returns-in-4 : goal.node-returns-in-4
+node-returns-in-4 g t c =
+    let a = c.args in
+    let m = g.O.Operations.meaning in
+    let o = g.O.Operations.ops a.ops.now in
+    let ws = a.nodes.now in
+    let d = c.read_node-d in
+    c.eq_xy.ensures ∙ ways.met_eq_xy o ws a.n d.result d.ensures c.in-4.is
+
+pub node-returns-in-5 : goal.node-returns-in-5
+node-returns-in-5 g t c =
+    let a = c.args in
+    let m = g.O.Operations.meaning in
+    let o = g.O.Operations.ops a.ops.now in
+    let ws = a.nodes.now in
+    let d = c.read_node-d in
+    c.poly.ensures ∙ ways.met_poly o ws a.n d.result d.ensures c.in-5.is
+
+pub node-returns-in-6 : goal.node-returns-in-6
+node-returns-in-6 g t c =
+    let a = c.args in
+    let m = g.O.Operations.meaning in
+    let o = g.O.Operations.ops a.ops.now in
+    let ws = a.nodes.now in
+    let d = c.read_node-d in
+    c.challenge.ensures ∙ ways.met_challenge o ws a.n d.result d.ensures c.in-6.is
+
+pub node-returns-in-7 : goal.node-returns-in-7
+node-returns-in-7 g t c =
+    let a = c.args in
+    let m = g.O.Operations.meaning in
+    let o = g.O.Operations.ops a.ops.now in
+    let ws = a.nodes.now in
+    let d = c.read_node-d in
+    c.negated.ensures ∙ ways.met_negated o ws a.n d.result d.ensures (m c.lower-x.result) c.lower-x.ensures c.in-7.is
+
+pub node-returns-in-8 : goal.node-returns-in-8
+node-returns-in-8 g t c =
+    let a = c.args in
+    let m = g.O.Operations.meaning in
+    let o = g.O.Operations.ops a.ops.now in
+    let ws = a.nodes.now in
+    let d = c.read_node-d in
+    c.sum.ensures ∙ ways.met_sum o ws a.n d.result d.ensures (m c.lower-x-in-8.result) c.lower-x-in-8.ensures (m c.lower-y.result) c.lower-y.ensures c.in-8.is
+
+pub node-returns-in-9 : goal.node-returns-in-9
+node-returns-in-9 g t c =
+    let a = c.args in
+    let m = g.O.Operations.meaning in
+    let o = g.O.Operations.ops a.ops.now in
+    let ws = a.nodes.now in
+    let d = c.read_node-d in
+    c.product.ensures ∙ ways.met_product o ws a.n d.result d.ensures (m c.lower-x-in-9.result) c.lower-x-in-9.ensures (m c.lower-y-in-9.result) c.lower-y-in-9.ensures c.in-9.is
+
+pub node-returns-in-10 : goal.node-returns-in-10
+node-returns-in-10 g t c =
+    let a = c.args in
+    let m = g.O.Operations.meaning in
+    let o = g.O.Operations.ops a.ops.now in
+    let ws = a.nodes.now in
+    let d = c.read_node-d in
+    c.scaled.ensures ∙ ways.met_scaled o ws a.n d.result d.ensures (m c.lower-x-in-10.result) c.lower-x-in-10.ensures c.in-10.is
+
+pub node-returns-else-item-n : goal.node-returns-else-item-n
+node-returns-else-item-n g t c =
+    let a = c.args in
+    let m = g.O.Operations.meaning in
+    let o = g.O.Operations.ops a.ops.now in
+    let ws = a.nodes.now in
+    let d = c.read_node-d in
+    c.constant-in-11.ensures ∙ ways.met_no_powers o ws a.n d.result d.ensures c.index-item.result c.index-item.ensures c.in-11.is c.if-item-n.false
+
+pub node-returns-in_default : goal.node-returns-in_default
+node-returns-in_default g t c =
+    let a = c.args in
+    let m = g.O.Operations.meaning in
+    let o = g.O.Operations.ops a.ops.now in
+    let ws = a.nodes.now in
+    let d = c.read_node-d in
+    let r = c.in_default.in_default-own.rest in
+    ways.met_other o ws a.n d.result d.ensures (m c.constant-in_default.result)
+    (λ z. absurd (r.0.0.0.0.0.0.0.0.0.0.1 z))
+    (λ z. absurd (r.0.0.0.0.0.0.0.0.0.1 z))
+    (λ z. absurd (r.0.0.0.0.0.0.0.0.1 z))
+    (λ z. absurd (r.0.0.0.0.0.0.0.1 z))
+    r.0.0.0.0.0.0.1
+    (λ z. absurd (r.0.0.0.0.0.1 z))
+    r.0.0.0.0.1
+    r.0.0.0.1
+    r.0.0.1
+    r.0.1
+    r.1
+    c.constant-in_default.ensures
