@@ -14,19 +14,27 @@ ghost use Rattle.expression.specs.Written.{most_words, Pushed, ExprWritten, Writ
 use expression::kind;
 use expression_nodes::{index, read_node};
 
+// What writing a list returns: the next node's number, and the base's.
+#[derive(Clone, Copy)]
+pub struct Listed {
+    pub next: usize,
+    pub base: usize,
+}
+
 // Word i, if it falls into the buffer, which stands for the words from `from` on.
 fn put(nodes: &mut [u64], from: usize, i: usize, word: u64)
     ensures { nodes.new ≡ write_window from nodes.old i (word ∷ []) }
 {
-    if from <= i {
-        let j = i - from;
-        if j < nodes.len() {
-            nodes[j] = word;
-        }
+    let Some(j) = i.checked_sub(from) else {
+        return;
+    };
+    if j < nodes.len() {
+        nodes[j] = word;
     }
 }
 
 // Writes one node's words, and returns the next node's number.
+// Kept: a struct of the buffer and `from` is no plainer: each contract below would say once more that its reference and `from` stay.
 pub fn push(
     nodes: &mut [u64],
     from: usize,
@@ -147,13 +155,6 @@ fn copy_powers(
         (l.next - 1) as u64,
         0,
     )
-}
-
-// What writing a list returns: the next node's number, and the base's.
-#[derive(Clone, Copy)]
-struct Listed {
-    next: usize,
-    base: usize,
 }
 
 // The expressions of the list that begins at the Item, if it is below `bound`, then the base, then the Items from last to first.

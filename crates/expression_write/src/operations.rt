@@ -4,7 +4,7 @@ ghost use Rattle.std.specs.Prelude.{◌+◌, ◌-◌, ◌*◌, ◌≤◌, ◌<�
 ghost use Rattle.expression.specs.Expr.{Expr};
 ghost use Rattle.expression.specs.Written.{most_words, Pushed, ExprWritten, WrittenBase};
 
-use crate::push;
+use crate::{Listed, push};
 use expression::kind;
 use expression::node::SIGNED_OFFSET;
 
@@ -56,13 +56,6 @@ pub fn negated(out: &mut [u64], from: usize, x: usize) -> usize
 }
 
 // ---- lists
-
-// What writing a list returns: the next node's number, and the base's.
-#[derive(Clone, Copy)]
-pub struct Listed {
-    pub next: usize,
-    pub base: usize,
-}
 
 // The base, a challenge, and the last Item, whose expression ends before node x.
 pub fn list_end(out: &mut [u64], from: usize, x: usize, base: usize) -> Listed

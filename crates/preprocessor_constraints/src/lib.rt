@@ -1,7 +1,7 @@
 // hyperplonk/preprocessor.rs: the permutation and lookup constraints, written as node words.
 #![tactic(auto)]
 
-mod factors;
+pub mod factors;
 pub mod group;
 pub mod lookup;
 pub mod permutation;
