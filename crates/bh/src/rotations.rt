@@ -1,33 +1,20 @@
 // Rows far on or back in the row order of the Boolean hypercube: rotations and places.
-ghost use Rattle.std.specs.Prelude.{◌≡◌, ◌+◌, ◌-◌, ◌*◌, ◌^◌, ◌<◌, ◌≤◌, nat_abs};
+ghost use Rattle.std.specs.Prelude.{ℕ, ◌≡◌, ◌+◌, ◌-◌, ◌*◌, ◌^◌, ◌<◌, ◌≤◌};
 ghost use Rattle.bh.specs.Rows.{next_row, prev_row, iter, place_of, rotated};
 
 use crate::{Rotation, next, prev};
 
-// n rows on.
-fn forwards(b: usize, n: usize, k: usize) -> usize
-    requires { (k < 32) × (b < 2 ^ k) }
-    ensures { (result ≡ iter (next_row k) n b) × (result < 2 ^ k) }
+// A step n times from row b on, where the step goes from each row to the row that f says.
+fn repeated<F: Fn(usize) -> usize>(step: F, b: usize, n: usize, k: usize) -> usize
+    ghost f: { ℕ → ℕ }
+    requires can { (x : ℕ) → x < 2 ^ k → F.pre step x }
+    requires goes { (x r : ℕ) → x < 2 ^ k → F.post step x r → (r ≡ f x) × (r < 2 ^ k) }
+    requires row { b < 2 ^ k }
+    ensures { (result ≡ iter f n b) × (result < 2 ^ k) }
 {
     let mut row = b;
-    let mut i: usize = 0;
-    while i < n {
-        row = next(row, k);
-        i += 1;
-    }
-    row
-}
-
-// n rows back.
-fn backwards(b: usize, n: usize, k: usize) -> usize
-    requires { (k < 32) × (b < 2 ^ k) }
-    ensures { (result ≡ iter (prev_row k) n b) × (result < 2 ^ k) }
-{
-    let mut row = b;
-    let mut i: usize = 0;
-    while i < n {
-        row = prev(row, k);
-        i += 1;
+    for _ in 0..n {
+        row = step(row);
     }
     row
 }
@@ -42,26 +29,13 @@ pub fn place_of(row: usize, k: usize) -> usize
     }
     let n = 1 << k;
     let mut at: usize = 1;
-    let mut place: usize = 1;
-    while place < n {
+    for place in 1..n {
         if at == row {
             return place;
         }
         at = next(at, k);
-        place += 1;
     }
-    place
-}
-
-// How far a signed number is from 0.
-fn distance(n: i32) -> usize
-    ensures { result ≡ nat_abs n }
-{
-    if n < 0 {
-        (0 - (n as i64)) as usize
-    } else {
-        n as usize
-    }
+    n
 }
 
 // The row that a rotation leads to.
@@ -70,10 +44,10 @@ pub fn rotate(b: usize, r: Rotation, k: usize) -> usize
     ensures { (result ≡ rotated k b r.0) × (result < 2 ^ k) }
 {
     let n = r.0;
-    let d = distance(n);
+    let d = n.unsigned_abs() as usize;
     if n < 0 {
-        backwards(b, d, k)
+        repeated(|row| prev(row, k), b, d, k)
     } else {
-        forwards(b, d, k)
+        repeated(|row| next(row, k), b, d, k)
     }
 }

@@ -7,6 +7,7 @@ ghost use Rattle.field.specs.Element.{elem, is_zero};
 ghost use Rattle.field.specs.Inverse.{inverse_in, inverted};
 
 use crate::{MODULUS, invert_u64, neg_u64, product_word, reduce_u64, sub_u64, sum_word};
+use std::ops::{Add, Mul, Neg, Sub};
 
 #[derive(Clone, Copy)]
 pub struct Goldilocks(u64);
@@ -109,5 +110,64 @@ impl Goldilocks {
         ensures { inverted result ≡ inverse_in 𝔾 (elem self) }
     {
         Some(Goldilocks(invert_u64(self.0)?))
+    }
+}
+
+// The element of any word.
+impl From<u64> for Goldilocks {
+    ghost from_gives = { λ x e. elem e ≡ el x };
+
+    fn from(x: u64) -> Goldilocks {
+        Goldilocks::from_u64(x)
+    }
+}
+
+// The element's number, below p.
+impl From<Goldilocks> for u64 {
+    ghost from_gives = { λ e x. x ≡ val (elem e) };
+
+    fn from(e: Goldilocks) -> u64 {
+        e.to_u64()
+    }
+}
+
+// The operators are the methods above.
+impl Add for Goldilocks {
+    type Output = Goldilocks;
+
+    ghost add_gives = { λ a b r. elem r ≡ 𝔾.add (elem a) (elem b) };
+
+    fn add(self, b: Goldilocks) -> Goldilocks {
+        Goldilocks::add(self, b)
+    }
+}
+
+impl Sub for Goldilocks {
+    type Output = Goldilocks;
+
+    ghost sub_gives = { λ a b r. elem r ≡ 𝔾.add (elem a) (𝔾.neg (elem b)) };
+
+    fn sub(self, b: Goldilocks) -> Goldilocks {
+        Goldilocks::sub(self, b)
+    }
+}
+
+impl Neg for Goldilocks {
+    type Output = Goldilocks;
+
+    ghost neg_gives = { λ a r. elem r ≡ 𝔾.neg (elem a) };
+
+    fn neg(self) -> Goldilocks {
+        Goldilocks::neg(self)
+    }
+}
+
+impl Mul for Goldilocks {
+    type Output = Goldilocks;
+
+    ghost mul_gives = { λ a b r. elem r ≡ 𝔾.mul (elem a) (elem b) };
+
+    fn mul(self, b: Goldilocks) -> Goldilocks {
+        Goldilocks::mul(self, b)
     }
 }

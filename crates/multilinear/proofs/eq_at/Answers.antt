@@ -9,7 +9,7 @@ use Rattle.multilinear.proofs.eq_at.Goals as goal
 use Rattle.multilinear.proofs.eq_at.Goals.{then-left-eq1, else-left-eq1}
 
 pub loop-i-init : goal.loop-i-init
-loop-i-init c = (omega arith, omega arith, el_one ∙ row_start c.args.y.now c.args.b)
+loop-i-init c = (omega arith, el_one ∙ row_start c.args.y.now c.args.b)
 
 pub loop-i-preserved : goal.loop-i-preserved
 loop-i-preserved c =
@@ -18,13 +18,12 @@ loop-i-preserved c =
     let v = c.at-v in
     let other = c.sub-other in
     let times = 𝔾.mul (elem l.acc) in (
-      omega arith,
-      half s.y.now s.b l.left l.i l.invariant.1,
+      half s.y.now s.b l.left l.i l.invariant.0,
       c.mul-acc.ensures
           ∙ (elim c.if-left-eq1.branch [
-            | then-left-eq1 w ↦ ap times (ap elem w.f-is) ∙ row_set s.y.now s.b l.left l.i _ _ l.invariant.1 l.invariant.2 v.ensures w.if-left-eq1.true
+            | then-left-eq1 w ↦ ap times (ap elem w.f-is) ∙ row_set s.y.now s.b l.left l.i _ _ l.invariant.0 l.invariant.1 v.ensures w.if-left-eq1.true
             | else-left-eq1 w ↦ ap times (ap elem w.f-is ∙ other.ensures)
-                ∙ row_unset s.y.now s.b l.left l.i _ _ l.invariant.1 l.invariant.2 v.ensures w.if-left-eq1.false _ el_one
+                ∙ row_unset s.y.now s.b l.left l.i _ _ l.invariant.0 l.invariant.1 v.ensures w.if-left-eq1.false _ el_one
           ]),
     )
 
@@ -33,4 +32,4 @@ returns c =
     let s = c.args in
     let l = c.loop-i in
     let e : l.i ≡ s.k = omega arith in
-    l.invariant.2 ∙ ap (λ (n : ℕ). row s.y.now n s.b) e
+    l.invariant.1 ∙ ap (λ (n : ℕ). row s.y.now n s.b) e

@@ -1,6 +1,5 @@
 -- `eq_xy` meets its contract: after i turns the first 2^i words are the table of the first i values.
 use mathlib.Core.Path.{◌≡◌, refl, sym, ap, ◌∙◌}
-use mathlib.Core.List.{List}
 use Prim.Native.Nat.{ℕ, suc, ◌+◌, ◌*◌, ◌^◌, ◌≤◌, ◌<◌}
 use native.Mathlib.Nat.{pow-suc}
 use native.Mathlib.Numerals.{add-one}
@@ -18,77 +17,43 @@ room i k n l h = omega (arith, pow-suc 2 i, pow_mono {i = suc i} {j = k} l)
 positive : (k n : ℕ) → 2 ^ k ≤ n → 0 < n
 positive k n h = omega (arith, pow_pos k)
 
--- the size and the buffer's length, in a turn of the inner loop
-sizes : (i k n size b : ℕ) (out whole first : List ℕ) → i < k → 2 ^ k ≤ n → b < size → size ≡ 2 ^ i → length out ≡ length first
-    → length first ≡ length whole → length whole ≡ n → size + b < length out
-sizes i k n size b out whole first h l m e o f w = omega (arith, room i k n h l)
-
 pub bounds-out-0 : goal.bounds-out-0
 bounds-out-0 c = positive c.args.k (length c.args.out.now) c.requires.2
 
 pub loop-i-init : goal.loop-i-init
-loop-i-init c = (omega arith, refl, refl, λ d h e. e ∙ table_start c.args.y.now d _ _ refl el_one (positive _ _ h))
+loop-i-init c = (refl, λ d h e. e ∙ table_start c.args.y.now d _ _ refl el_one (positive _ _ h))
 
 pub loop-b-init : goal.loop-b-init
-loop-b-init c = (omega arith, refl, λ d _ _ _ e. double_start _ d _ _ e)
-
-pub at-x-requires : goal.at-x-requires
-at-x-requires c = omega (arith, sizes c.loop-i.i c.args.k _ c.loop-i.size c.loop-b.b c.loop-b.out c.args.out.now _ c.loop-i-test.true c.requires.2 c.loop-b-test.true c.loop-i.invariant.1 c.loop-b.invariant.1 (c.loop-i.invariant.2 ∙ length-set c.args.out.now 0 _) refl)
-
-pub overflow_add-out : goal.overflow_add-out
-overflow_add-out c = omega (arith, sizes c.loop-i.i c.args.k _ c.loop-i.size c.loop-b.b c.loop-b.out c.args.out.now _ c.loop-i-test.true c.requires.2 c.loop-b-test.true c.loop-i.invariant.1 c.loop-b.invariant.1 (c.loop-i.invariant.2 ∙ length-set c.args.out.now 0 _) refl, c.type_inv, c.loop-i.invariant.2, c.loop-b.invariant.1, length-set c.args.out.now 0 c.to_u64.result)
-
-pub offset_bounds-out-size : goal.offset_bounds-out-size
-offset_bounds-out-size c = omega (arith, sizes c.loop-i.i c.args.k _ c.loop-i.size c.loop-b.b c.loop-b.out c.args.out.now _ c.loop-i-test.true c.requires.2 c.loop-b-test.true c.loop-i.invariant.1 c.loop-b.invariant.1 (c.loop-i.invariant.2 ∙ length-set c.args.out.now 0 _) refl, c.type_inv, c.loop-i.invariant.2, c.loop-b.invariant.1, length-set c.args.out.now 0 c.to_u64.result)
-
-pub bounds-out-size : goal.bounds-out-size
-bounds-out-size c = omega (arith, sizes c.loop-i.i c.args.k _ c.loop-i.size c.loop-b.b c.loop-b.out c.args.out.now _ c.loop-i-test.true c.requires.2 c.loop-b-test.true c.loop-i.invariant.1 c.loop-b.invariant.1 (c.loop-i.invariant.2 ∙ length-set c.args.out.now 0 _) refl)
-
-pub offset_bounds-out-b : goal.offset_bounds-out-b
-offset_bounds-out-b c = omega (arith, sizes c.loop-i.i c.args.k _ c.loop-i.size c.loop-b.b c.loop-b.out c.args.out.now _ c.loop-i-test.true c.requires.2 c.loop-b-test.true c.loop-i.invariant.1 c.loop-b.invariant.1 (c.loop-i.invariant.2 ∙ length-set c.args.out.now 0 _) refl, c.type_inv, c.loop-i.invariant.2, c.loop-b.invariant.1, length-set c.args.out.now 0 c.to_u64.result)
-
-pub bounds-out-b : goal.bounds-out-b
-bounds-out-b c = simp length-set (omega (arith, sizes c.loop-i.i c.args.k _ c.loop-i.size c.loop-b.b c.loop-b.out c.args.out.now _ c.loop-i-test.true c.requires.2 c.loop-b-test.true c.loop-i.invariant.1 c.loop-b.invariant.1 (c.loop-i.invariant.2 ∙ length-set c.args.out.now 0 _) refl))
-
-pub overflow_add-b : goal.overflow_add-b
-overflow_add-b c = omega (arith, sizes c.loop-i.i c.args.k _ c.loop-i.size c.loop-b.b c.loop-b.out c.args.out.now _ c.loop-i-test.true c.requires.2 c.loop-b-test.true c.loop-i.invariant.1 c.loop-b.invariant.1 (c.loop-i.invariant.2 ∙ length-set c.args.out.now 0 _) refl, c.type_inv, c.loop-i.invariant.2, c.loop-b.invariant.1, length-set c.args.out.now 0 c.to_u64.result)
+loop-b-init c = (
+  omega (arith, c.loop-i.invariant.0, room c.loop-i.i c.args.k (length c.args.out.now) c.loop-i-test.true c.requires.2, length-set {A = ℕ}),
+  λ d _ _ _ e. double_start _ d _ _ e,
+)
 
 pub loop-b-preserved : goal.loop-b-preserved
 loop-b-preserved c =
     let l = c.loop-i in
     let m = c.loop-b in (
-      omega arith,
-      simp length-set m.invariant.1,
+      simp length-set m.invariant.0,
       λ d e v r h.
-          double_more _ d l.i m.out m.b (m.invariant.2 d e v r h) (omega (arith, e, c.loop-b-test.true)) _ _ _ _ _ _ c.at-x.ensures v
+          double_more _ d l.i m.out m.b (m.invariant.1 d e v r h) (omega (arith, e, c.loop-b-test.true)) _ _ _ _ _ _ c.at-x.ensures v
           c.mul-t.ensures c.to_u64-in-loop-b.ensures c.sub.ensures c.to_u64-in-loop-b-2.ensures r (l.size + m.b) (ap (λ (x : ℕ). x + m.b) e),
     )
-
-pub overflow_mul-size : goal.overflow_mul-size
-overflow_mul-size c =
-    let l = c.loop-i in
-    omega (arith, l.invariant.1, room l.i c.args.k (length c.args.out.now) c.loop-i-test.true c.requires.2, c.type_inv)
 
 pub loop-i-preserved : goal.loop-i-preserved
 loop-i-preserved c =
     let l = c.loop-i in
     let m = c.loop-b in (
-      omega arith,
-      ap (λ (x : ℕ). x * 2) l.invariant.1 ∙ sym (pow-suc 2 l.i) ∙ ap (λ (x : ℕ). 2 ^ x) (sym (add-one l.i)),
-      m.invariant.1 ∙ l.invariant.2,
+      ap (λ (x : ℕ). x * 2) l.invariant.0 ∙ sym (pow-suc 2 l.i) ∙ ap (λ (x : ℕ). 2 ^ x) (sym (add-one l.i)),
       λ d h e.
           double_end c.args.y.now d l.i m.out m.b
-          (m.invariant.2 d l.invariant.1 c.at-v.ensures (room l.i c.args.k (length d) c.loop-i-test.true h) (l.invariant.3 d h e))
-          (omega (arith, l.invariant.1, c.loop-b-test.false)),
+          (m.invariant.1 d l.invariant.0 c.at-v.ensures (room l.i c.args.k (length d) c.loop-i-test.true h) (l.invariant.1 d h e))
+          (omega (arith, l.invariant.0)),
     )
-
-pub shape_of-out : goal.shape_of-out
-shape_of-out c = c.loop-i.invariant.2 ∙ simp length-set
 
 pub returns : goal.returns
 returns c =
     let a = c.args in
     let l = c.loop-i in
     let e : l.i ≡ a.k = omega arith in
-    l.invariant.3 a.out.now c.requires.2 (ap (set a.out.now 0) c.to_u64.ensures)
+    l.invariant.1 a.out.now c.requires.2 (ap (set a.out.now 0) c.to_u64.ensures)
     ∙ ap (λ (n : ℕ). write_at a.out.now 0 (tabulate (word a.y.now n) (2 ^ n))) e

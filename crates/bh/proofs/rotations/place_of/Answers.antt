@@ -1,6 +1,6 @@
 use Rattle.bh.proofs.Place.{place_zero, place_start, place_here, place_step, place_end}
 use Rattle.bh.proofs.Words.{shifted}
-use mathlib.Core.Path.{ap, ◌∙◌, sym, subst⁻¹}
+use mathlib.Core.Path.{◌≡◌, ap, ◌∙◌, sym, subst⁻¹}
 use Prim.Native.Nat.{ℕ, ◌+◌, ◌-◌, ◌*◌, ◌%◌, ◌^◌, ◌≤◌}
 use native.Mathlib.Omega.{arith}
 use lib.Pow.{pow_pos, pow-lt}
@@ -50,4 +50,5 @@ returns c =
     let k = c.args.k in
     let r = c.args.row in
     let l = c.loop-place in
-    place_end k (1 * 2 ^ k % 18446744073709551616) l.place l.at r c.loop-place-test.false l.invariant.4
+    let e : 1 * 2 ^ k % 18446744073709551616 ≡ l.place = omega arith in
+    e ∙ place_end k (1 * 2 ^ k % 18446744073709551616) l.place l.at r (omega arith) l.invariant.4

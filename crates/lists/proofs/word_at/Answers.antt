@@ -1,6 +1,0 @@
-use mathlib.Core.Path.{sym}
-use lib.ListN.{get_or-eq_default}
-use Rattle.lists.proofs.word_at.Goals as goal
-
-pub returns : goal.returns
-returns c = sym (get_or-eq_default c.args.words.now 0 {n = c.args.i} c.if-i-words.false)
