@@ -16,5 +16,4 @@ pub mod Visits
 pub mod Queries
 pub mod Written
 pub mod Copied
-pub mod Context
 pub mod Same

@@ -1,5 +1,5 @@
 -- What each way through the code computes is the fold, for any operations: d is the node as read, and the other hypotheses are what
--- the calls ensure. The walks for the value, the degree and the queries cite these.
+-- the calls ensure. The walk (crate expression_walk) cites these.
 use mathlib.Core.Path.{◌≡◌, sym, ap, ap₂, ◌∙◌}
 use mathlib.Core.List.{List}
 use Prim.Native.Nat.{ℕ, ◌≤◌, ◌<◌}
@@ -130,12 +130,13 @@ module _ {T : Type 0} (o : Ops T) (ws : List ℕ) (n : ℕ) (d : Node) (read : d
           ∙ ap (λ (c : ℕ). powers_rest o base p u (low_items ws n c)) q
           ∙ sym rest_is
 
-  -- a node of another kind: its expression is one of the leaves left, or none
-  pub met_other : (r : T) → (d.kind ≡ 1 → r ≡ o.constant_op d.value) → (d.kind ≡ 2 → r ≡ o.identity_op)
-      → (d.kind ≡ 3 → r ≡ o.lagrange_op (decode_signed d.value))
-      → (d.kind ≡ 4 → r ≡ o.eq_xy_op d.value)
+  -- a node of another kind has no expression
+  pub met_other : (r : T) → (d.kind ≡ 1 → ⊥)
+      → (d.kind ≡ 2 → ⊥)
+      → (d.kind ≡ 3 → ⊥)
+      → (d.kind ≡ 4 → ⊥)
       → (d.kind ≡ 5 → ⊥)
-      → (d.kind ≡ 6 → r ≡ o.challenge_op d.first)
+      → (d.kind ≡ 6 → ⊥)
       → (d.kind ≡ 7 → ⊥)
       → (d.kind ≡ 8 → ⊥)
       → (d.kind ≡ 9 → ⊥)
@@ -145,9 +146,13 @@ module _ {T : Type 0} (o : Ops T) (ws : List ℕ) (n : ℕ) (d : Node) (read : d
       → r ≡ evaluate o (expr_of ws n)
   unfolding evaluate
   met_other r h1 h2 h3 h4 h5 h6 h7 h8 h9 h10 h11 h =
-      by_kind (λ (e : Expr). r ≡ evaluate o e) (low ws n) (low_items ws n) d.first d.second d.value d.kind h1 h2 h3 h4
+      by_kind (λ (e : Expr). r ≡ evaluate o e) (low ws n) (low_items ws n) d.first d.second d.value d.kind
+      (λ z. absurd (h1 z))
+      (λ z. absurd (h2 z))
+      (λ z. absurd (h3 z))
+      (λ z. absurd (h4 z))
       (λ z. absurd (h5 z))
-      h6
+      (λ z. absurd (h6 z))
       (λ z. absurd (h7 z))
       (λ z. absurd (h8 z))
       (λ z. absurd (h9 z))

@@ -1,10 +1,10 @@
 -- Where an expression is evaluated: a row of the order, over the words that are lent.
-use Rattle.std.specs.Prelude.{◌≡◌, List, [], ◌∷◌, map, ℕ, ◌^◌, ◌<◌, get_or, ℤ}
+use Rattle.std.specs.Prelude.{◌≡◌, List, map, ℕ, ◌^◌, ◌<◌, get_or}
 use Rattle.field.specs.Field.{𝔾, el}
-use Rattle.bh.specs.Rows.{place_of, rotated}
+use Rattle.bh.specs.Rows.{place_of}
 use Rattle.expression.specs.Expr.{Ops}
-use Rattle.expression.specs.Value.{Environment, poly_of, value_ops}
-use Rattle.expression.specs.Reader.{polys_of, LayoutSmall}
+use Rattle.expression.specs.Value.{Environment, value_ops}
+use Rattle.expression.specs.Reader.{polys_of}
 use Rattle.expression.specs.declared.poly.Layout.{Layout}
 use Rattle.expression.specs.declared.value.Point.{Point}
 
@@ -26,7 +26,7 @@ environment_of circuit witness columns challenges l p =
       eq = λ b. el p.eq;
     }
 
--- ---- the point and the layout, handed down as twelve words
+-- ---- the point and the layout, of twelve words
 
 abbrev pub point_of : List ℕ → Point
 point_of c = record { k = get_or c 0 0; row = get_or c 1 0; place = get_or c 2 0; eq = get_or c 3 0 }
@@ -43,20 +43,6 @@ layout_in c =
       skipped = get_or c 10 0;
       rest = get_or c 11 0;
     }
-
-abbrev pub context_of : Layout → Point → List ℕ
-context_of l p =
-    p.k ∷ p.row ∷ p.place ∷ p.eq ∷ l.rows ∷ l.instances ∷ l.preprocess ∷ l.start ∷ l.witness ∷ l.permutations ∷ l.skipped
-    ∷ l.rest
-    ∷ []
-
-pub record ContextReady (c : List ℕ) : Type 0 where
-  pub layout : LayoutSmall (layout_in c)
-  pub point : PointInOrder (point_of c)
-
-unfoldable pub poly_value : List ℕ → List ℕ → List ℕ → List ℕ → ℕ → ℤ → 𝔾.F
-poly_value circuit witness columns c q r =
-    poly_of 𝔾 (polys_of (layout_in c) circuit witness columns) q (rotated (get_or c 0 0) (get_or c 1 0) r)
 
 unfoldable pub ops_of : List ℕ → List ℕ → List ℕ → List ℕ → List ℕ → Ops 𝔾.F
 ops_of circuit witness columns challenges c =

@@ -52,7 +52,14 @@ impl<'a> Operations for Evaluation<'a> {
     // A query of a polynomial, 0 where there is none.
     fn poly(&self, polynomial: u64, rotation: u64) -> Goldilocks {
         let row = rotated_row(&self.point, rotation);
-        let word = poly_at(self.circuit, self.witness, self.columns, &self.layout, polynomial, row);
+        let word = poly_at(
+            self.circuit,
+            self.witness,
+            self.columns,
+            &self.layout,
+            polynomial,
+            row,
+        );
         Goldilocks::from_u64(word)
     }
 

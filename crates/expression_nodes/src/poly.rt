@@ -52,7 +52,13 @@ pub fn poly_at(
     }
     let at4 = at3 - permutations;
     if at4 < rest {
-        return cell(columns, 0, instances + permutations + layout.skipped + at4, rows, row);
+        return cell(
+            columns,
+            0,
+            instances + permutations + layout.skipped + at4,
+            rows,
+            row,
+        );
     }
     0
 }

@@ -180,8 +180,8 @@ pub fn lookup_compressed_polys<'a>(
     let rows = rows_of(polys.k);
     let mut start: usize = 0;
     let mut at = polys.to;
-    for i in 0..widths.len() {
-        let width = index(widths[i]);
+    for word in widths {
+        let width = index(*word);
         let here = CompressedPolys { to: at, ..polys };
         compressed_pair(&lent, columns, here, start, width);
         start += width;

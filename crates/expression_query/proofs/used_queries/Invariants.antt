@@ -1,5 +1,5 @@
 use mathlib.Core.Path.{◌≡◌}
-use Prim.Native.Nat.{◌+◌, ◌-◌, ◌/◌, ◌%◌, ◌≤◌}
+use Prim.Native.Nat.{◌+◌, ◌/◌, ◌%◌, ◌≤◌}
 use lib.ListN.{length}
 use Rattle.expression.specs.Expr.{used_query}
 use Rattle.expression.specs.Nodes.{expr_of}

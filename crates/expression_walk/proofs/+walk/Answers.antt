@@ -1,5 +1,5 @@
 -- The walk: each way through the code is the fold by the operations.
-use mathlib.Core.Path.{◌∙◌, ap, refl}
+use mathlib.Core.Path.{◌∙◌, ap}
 use Rattle.expression.proofs.Ways as ways
 use Rattle.expression_walk.proofs.+walk.Goals as goal
 
@@ -221,12 +221,12 @@ node-returns-in_default g t c =
     let d = c.read_node-d in
     let r = c.in_default.in_default-own.rest in
     ways.met_other o ws a.n d.result d.ensures (m c.constant-in_default.result)
-    (λ z. absurd (r.0.0.0.0.0.0.0.0.0.0.1 z))
-    (λ z. absurd (r.0.0.0.0.0.0.0.0.0.1 z))
-    (λ z. absurd (r.0.0.0.0.0.0.0.0.1 z))
-    (λ z. absurd (r.0.0.0.0.0.0.0.1 z))
+    r.0.0.0.0.0.0.0.0.0.0.1
+    r.0.0.0.0.0.0.0.0.0.1
+    r.0.0.0.0.0.0.0.0.1
+    r.0.0.0.0.0.0.0.1
     r.0.0.0.0.0.0.1
-    (λ z. absurd (r.0.0.0.0.0.1 z))
+    r.0.0.0.0.0.1
     r.0.0.0.0.1
     r.0.0.0.1
     r.0.0.1

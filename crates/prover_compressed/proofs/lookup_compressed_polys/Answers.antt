@@ -23,8 +23,8 @@ none ns = refl
 pub rows_of-rows-requires : goal.rows_of-rows-requires
 rows_of-rows-requires c = omega (arith, c.requires.0.small)
 
-pub loop-i-init : goal.loop-i-init
-loop-i-init c =
+pub loop-word-init : goal.loop-word-init
+loop-word-init c =
     let a = c.args in
     let pre = c.requires in (
       omega arith,
@@ -37,8 +37,8 @@ loop-i-init c =
 pub compressed_pair-requires : goal.compressed_pair-requires
 compressed_pair-requires c =
     let pre = c.requires in
-    let l = c.loop-i in
-    let test = c.loop-i-test in
+    let l = c.loop-word in
+    let test = c.loop-word-test in
     let a = c.args in (
       record {
         whole = pre.0.whole;
@@ -54,37 +54,37 @@ compressed_pair-requires c =
 pub overflow_add-start : goal.overflow_add-start
 overflow_add-start c =
     let a = c.args in
-    omega (arith, part_there _ _ c.loop-i-test.true _ _ c.loop-i.invariant.1 (let q : total a.widths.now ≤ total a.widths.now = omega arith in q), c.index-width.ensures, c.requires.1)
+    omega (arith, part_there _ _ c.loop-word-test.true _ _ c.loop-word.invariant.1 (let q : total a.widths.now ≤ total a.widths.now = omega arith in q), c.index-width.ensures, c.requires.1)
 
 pub overflow_add-at : goal.overflow_add-at
-overflow_add-at c = omega (arith, lookup_there _ _ _ _ _ _ c.loop-i-test.true c.loop-i.invariant.2 c.requires.0.room, c.rows_of-rows.ensures)
+overflow_add-at c = omega (arith, lookup_there _ _ _ _ _ _ c.loop-word-test.true c.loop-word.invariant.2 c.requires.0.room, c.rows_of-rows.ensures)
 
-pub overflow_add-at-in-loop-i : goal.overflow_add-at-in-loop-i
-overflow_add-at-in-loop-i c = omega (arith, lookup_there _ _ _ _ _ _ c.loop-i-test.true c.loop-i.invariant.2 c.requires.0.room, c.rows_of-rows.ensures)
+pub overflow_add-at-in-loop-word : goal.overflow_add-at-in-loop-word
+overflow_add-at-in-loop-word c = omega (arith, lookup_there _ _ _ _ _ _ c.loop-word-test.true c.loop-word.invariant.2 c.requires.0.room, c.rows_of-rows.ensures)
 
-pub loop-i-preserved : goal.loop-i-preserved
-loop-i-preserved c =
-    let test = c.loop-i-test in
-    let l = c.loop-i in
+pub loop-word-preserved : goal.loop-word-preserved
+loop-word-preserved c =
+    let test = c.loop-word-test in
+    let l = c.loop-word in
     let index = c.index-width in
     let a = c.args in
     let compressed-pair = c.compressed_pair in
     let pre = c.requires in (
       omega (arith, test.true),
-      ap₂ ◌+◌ l.invariant.1 index.ensures ∙ total_more a.widths.now l.i test.true,
-      lookup_next l.i (2 ^ a.polys.k) a.polys.to l.at _ l.invariant.2 c.rows_of-rows.ensures,
+      ap₂ ◌+◌ l.invariant.1 index.ensures ∙ total_more a.widths.now l.word-index test.true,
+      lookup_next l.word-index (2 ^ a.polys.k) a.polys.to l.at _ l.invariant.2 c.rows_of-rows.ensures,
       compressed-pair.auto.columns ∙ l.invariant.3,
-      all_more a.polys.k pre.0.small _ pre.0.given _ _ _ _ a.nodes.now a.pairs.now a.widths.now l.i test.true a.columns.now l.columns _ a.polys.to l.at l.start _
+      all_more a.polys.k pre.0.small _ pre.0.given _ _ _ _ a.nodes.now a.pairs.now a.widths.now l.word-index test.true a.columns.now l.columns _ a.polys.to l.at l.start _
           pre.0.before (omega (arith, lookup_there _ _ _ _ _ _ test.true l.invariant.2 pre.0.room)) l.invariant.1 index.ensures l.invariant.2 l.invariant.4 compressed-pair.ensures,
     )
 
 pub shape_of-columns : goal.shape_of-columns
-shape_of-columns c = c.loop-i.invariant.3
+shape_of-columns c = c.loop-word.invariant.3
 
 pub returns : goal.returns
 returns c =
-    let l = c.loop-i in
+    let l = c.loop-word in
     let a = c.args in
     l.invariant.4
     ∙ ap (λ (ws : List ℕ). write_at a.columns.now a.polys.to (words_of (2 ^ a.polys.k) (compressed_polys_in 𝔾 (environment_from_words a.circuit.now a.witness.now a.columns.now a.challenges.now a.polys.layout a.polys.k) (elem a.polys.beta) (split ws (pairs_of a.nodes.now a.pairs.now)))))
-    (take_all l.i a.widths.now c.loop-i-test.false)
+    (take_all l.word-index a.widths.now c.loop-word-test.false)
