@@ -34,12 +34,7 @@ fn plain(nodes: &[u64], limit: usize, node: u64) -> bool
     requires { limit ≤ def.node_count nodes.now }
     ensures { result ≡ def.right nodes.now limit (def.plain node) }
 {
-    if node < limit as u64 {
-        let at = node as usize * 4;
-        nodes[at] != 12
-    } else {
-        false
-    }
+    node < limit as u64 && nodes[node as usize * 4] != kind::ITEM
 }
 
 // A node that another names as an Item: lower than `limit`, and an Item.
@@ -47,12 +42,7 @@ fn item(nodes: &[u64], limit: usize, node: u64) -> bool
     requires { limit ≤ def.node_count nodes.now }
     ensures { result ≡ def.right nodes.now limit (def.as_item node) }
 {
-    if node < limit as u64 {
-        let at = node as usize * 4;
-        nodes[at] == 12
-    } else {
-        false
-    }
+    node < limit as u64 && nodes[node as usize * 4] == kind::ITEM
 }
 
 // The first Item of a list: an Item, and not the last.
@@ -60,12 +50,7 @@ fn first_item(nodes: &[u64], limit: usize, node: u64) -> bool
     requires { limit ≤ def.node_count nodes.now }
     ensures { result ≡ (def.right nodes.now limit (def.as_item node) && eqb (word_of nodes.now node 3) 1) }
 {
-    if node < limit as u64 {
-        let at = node as usize * 4;
-        (nodes[at] == kind::ITEM) & (nodes[at + 3] == 1)
-    } else {
-        false
-    }
+    item(nodes, limit, node) && nodes[node as usize * 4 + 3] == 1
 }
 
 // Is node `n` in its place: of the right shape, naming lower nodes only, Items as Items?

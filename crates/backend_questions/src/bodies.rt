@@ -10,22 +10,11 @@ use backend_sections::contents::{CELL_COUNT, PAIR_COUNT};
 use backend_sections::reader::{lengths_of, widths_of};
 use backend_sections::words::{all_below, total_to};
 
-// The sum of the widths, the limit where it is more.
-fn widths_to(circuit: &[u64], limit: u64) -> u64
-    requires { ContentsValid circuit.now }
-    ensures { result ≡ min (total (body_of circuit.now Section.widths)) limit }
+// The sum of the words of a section, the limit where it is more.
+fn sum_to(words: &[u64], limit: u64) -> u64
+    ensures { result ≡ min (total words.now) limit }
 {
-    let widths = widths_of(circuit);
-    total_to(widths, 1, 0, widths.len(), limit)
-}
-
-// The sum of the cycle lengths, the limit where it is more.
-fn lengths_to(circuit: &[u64], limit: u64) -> u64
-    requires { ContentsValid circuit.now }
-    ensures { result ≡ min (total (body_of circuit.now Section.lengths)) limit }
-{
-    let lengths = lengths_of(circuit);
-    total_to(lengths, 1, 0, lengths.len(), limit)
+    total_to(words, 1, 0, words.len(), limit)
 }
 
 // "width 0–8"
@@ -44,7 +33,7 @@ pub fn question_3_bodies(circuit: &[u64]) -> bool
     let witness = witness_to(circuit, 33);
     let user = user_to(circuit, 17);
     let narrow = widths_narrow(circuit);
-    let lengths = lengths_to(circuit, 4097);
+    let lengths = sum_to(lengths_of(circuit), 4097);
     (witness <= 32) & (user <= 16) & narrow & (lengths <= 4096)
 }
 
@@ -55,7 +44,7 @@ pub fn question_4_bodies(circuit: &[u64]) -> bool
 {
     let pairs = circuit[PAIR_COUNT];
     let cells = circuit[CELL_COUNT];
-    let widths = widths_to(circuit, pairs + 1);
-    let lengths = lengths_to(circuit, cells + 1);
+    let widths = sum_to(widths_of(circuit), pairs + 1);
+    let lengths = sum_to(lengths_of(circuit), cells + 1);
     (pairs == widths) & (cells == lengths)
 }

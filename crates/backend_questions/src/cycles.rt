@@ -10,82 +10,95 @@ ghost use Rattle.backend_questions.specs.Chains.{Linked};
 use backend_sections::bodies::{num_poly, rows};
 use backend_sections::reader::{cells_of, lengths_of};
 
-// Is cell `n` of the cells from `start` on none of those before it? Only cells of its chain can be the same: they are met from the last
-// down to `start`.
-fn fresh(cells: &[u64], heads: &[u16; 1024], earlier: &[u16; 4096], start: usize, n: usize) -> bool
-    requires { (start + n < length cells.now / 2) × (start + n < 4096) × Linked cells.now heads.now earlier.now (start + n) }
-    ensures { result ≡ def.fresh (cell_at cells.now (start + n)) (def.cells_from cells.now start n) }
-{
-    let at = start + n;
-    let polynomial = cells[at * 2];
-    let row = cells[at * 2 + 1];
-    let chain = (row % 1024) as usize;
-    let mut j = heads[chain] as usize;
-    while start < j {
-        let other = j - 1;
-        if (polynomial == cells[other * 2]) & (row == cells[other * 2 + 1]) {
-            return false;
+// The first `count` cells, each linked to the last before it whose row has the same remainder, its chain: `heads` has one more than the
+// number of the last cell of each chain, 0 for none, and `earlier` what `heads` had before the cell was put in.
+#[derive(Drop)]
+struct LinkedCells<'a> {
+    cells: &'a [u64],
+    count: usize,
+    heads: [u16; 1024],
+    earlier: [u16; 4096],
+    ghost linked: { Linked cells.now heads earlier count },
+}
+
+impl<'a> LinkedCells<'a> {
+    // None yet.
+    fn new(cells: &'a [u64]) -> LinkedCells<'a>
+        ensures cells { result.cells.now ≡ cells.entry.now }
+        ensures count { result.count ≡ 0 }
+    {
+        LinkedCells {
+            cells,
+            count: 0,
+            heads: [0; 1024],
+            earlier: [0; 4096],
         }
-        j = earlier[other] as usize;
     }
-    true
+
+    // Is cell `count` none of those before it from `start` on? Only cells of its chain can be the same: they are met from the last down to
+    // `start`.
+    fn fresh(&self, start: usize) -> bool
+        requires { (self.now.count < length self.now.cells.now / 2) × (self.now.count < 4096) }
+        ensures { result ≡ def.fresh (cell_at self.now.cells.now self.now.count) (def.cells_from self.now.cells.now start (self.now.count - start)) }
+    {
+        let polynomial = self.cells[self.count * 2];
+        let row = self.cells[self.count * 2 + 1];
+        let chain = (row % 1024) as usize;
+        let mut j = self.heads[chain] as usize;
+        while start < j {
+            let other = j - 1;
+            if (polynomial == self.cells[other * 2]) & (row == self.cells[other * 2 + 1]) {
+                return false;
+            }
+            j = self.earlier[other] as usize;
+        }
+        true
+    }
+
+    // Puts cell `count` into its chain.
+    fn link(&mut self)
+        requires { (self.old.count < length self.old.cells.now / 2) × (self.old.count < 4096) }
+        ensures cells { self.new.cells.now ≡ self.old.cells.now }
+        ensures count { self.new.count ≡ self.old.count + 1 }
+    {
+        let at = self.count;
+        let chain = (self.cells[at * 2 + 1] % 1024) as usize;
+        self.earlier[at] = self.heads[chain];
+        self.heads[chain] = at as u16 + 1;
+        self.count = at + 1;
+    }
 }
 
-// Puts cell `at` into its chain: `heads` has one more than the number of the last cell of each chain, 0 for none, and `earlier` what
-// `heads` had before the cell was put in.
-fn link(cells: &[u64], heads: &mut [u16; 1024], earlier: &mut [u16; 4096], at: usize)
-    requires { (at < length cells.now / 2) × (at < 4096) × Linked cells.now heads.old earlier.old at }
-    ensures { Linked cells.now heads.new earlier.new (at + 1) }
+// Is cell `count` good: its polynomial in range, its row from 1 to `rows` − 1, and none of those before it from `start` on?
+fn good_cell(linked: &LinkedCells, start: usize, polys: u64, rows: u64) -> bool
+    requires { (linked.now.count < length linked.now.cells.now / 2) × (linked.now.count < 4096) }
+    ensures { result ≡ def.good_at polys rows (cell_at linked.now.cells.now linked.now.count) (def.cells_from linked.now.cells.now start (linked.now.count - start)) }
 {
-    let chain = (cells[at * 2 + 1] % 1024) as usize;
-    earlier[at] = heads[chain];
-    heads[chain] = at as u16 + 1;
-}
-
-// Is that cell good: its polynomial in range, its row from 1 to `rows` − 1, and none of those before it?
-fn good_cell(
-    cells: &[u64],
-    heads: &[u16; 1024],
-    earlier: &[u16; 4096],
-    start: usize,
-    n: usize,
-    polys: u64,
-    rows: u64,
-) -> bool
-    requires { (start + n < length cells.now / 2) × (start + n < 4096) × Linked cells.now heads.now earlier.now (start + n) }
-    ensures { result ≡ def.good_at polys rows (cell_at cells.now (start + n)) (def.cells_from cells.now start n) }
-{
-    let at = start + n;
-    let row = cells[at * 2 + 1];
-    if (cells[at * 2] < polys) & (1 <= row) & (row < rows) {
-        fresh(cells, heads, earlier, start, n)
+    let at = linked.count;
+    let row = linked.cells[at * 2 + 1];
+    if (linked.cells[at * 2] < polys) & (1 <= row) & (row < rows) {
+        linked.fresh(start)
     } else {
         false
     }
 }
 
-// Is the cycle of `n` cells from `start` on good? If so, its cells are linked.
-fn good_cycle(
-    cells: &[u64],
-    heads: &mut [u16; 1024],
-    earlier: &mut [u16; 4096],
-    start: usize,
-    n: usize,
-    polys: u64,
-    rows: u64,
-) -> bool
-    requires { (start + n ≤ length cells.now / 2) × (start + n ≤ 4096) × Linked cells.now heads.old earlier.old start }
-    ensures value { result ≡ good_cycle polys rows (def.cells_from cells.now start n) }
-    ensures linked { result ≡ true → Linked cells.now heads.new earlier.new (start + n) }
+// Is the cycle of the next `n` cells good? If so, its cells are linked.
+fn good_cycle(linked: &mut LinkedCells, n: usize, polys: u64, rows: u64) -> bool
+    requires { (linked.old.count + n ≤ length linked.old.cells.now / 2) × (linked.old.count + n ≤ 4096) }
+    ensures value { result ≡ good_cycle polys rows (def.cells_from linked.old.cells.now linked.old.count n) }
+    ensures cells { linked.new.cells.now ≡ linked.old.cells.now }
+    ensures count { result ≡ true → linked.new.count ≡ linked.old.count + n }
 {
     if n == 0 {
         return false;
     }
-    for i in 0..n {
-        if !good_cell(cells, heads, earlier, start, i, polys, rows) {
+    let start = linked.count;
+    while linked.count < start + n {
+        if !good_cell(linked, start, polys, rows) {
             return false;
         }
-        link(cells, heads, earlier, start + i);
+        linked.link();
     }
     true
 }
@@ -95,15 +108,11 @@ fn cycles_good(lengths: &[u64], cells: &[u64], polys: u64, rows: u64) -> bool
     requires { (total lengths.now ≡ length cells.now / 2) × (length cells.now / 2 ≤ 4096) }
     ensures { result ≡ cycles_good polys rows (split lengths.now (cells_of cells.now)) }
 {
-    let mut heads = [0; 1024];
-    let mut earlier = [0; 4096];
-    let mut start: usize = 0;
-    for i in 0..lengths.len() {
-        let n = lengths[i] as usize;
-        if !good_cycle(cells, &mut heads, &mut earlier, start, n, polys, rows) {
+    let mut linked = LinkedCells::new(cells);
+    for n in lengths {
+        if !good_cycle(&mut linked, *n as usize, polys, rows) {
             return false;
         }
-        start += n;
     }
     true
 }

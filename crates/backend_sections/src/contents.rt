@@ -87,15 +87,15 @@ pub(crate) fn section(circuit: &[u64], s: usize) -> Part
     let count = circuit[FIRST_COUNT + s * 2] as usize;
     if s == GROUPS {
         return Part {
-            start: start,
+            start,
             end: circuit.len(),
-            count: count,
+            count,
         };
     }
     let end = circuit[NEXT_START + s * 2] as usize;
     Part {
-        start: start,
-        end: end,
-        count: count,
+        start,
+        end,
+        count,
     }
 }

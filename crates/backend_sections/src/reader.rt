@@ -30,7 +30,7 @@ impl<'a> Circuit<'a> {
     fn new(words: &'a [u64]) -> Circuit<'a>
         ensures { result.words ≡ words.entry }
     {
-        Circuit { words: words }
+        Circuit { words }
     }
 
     // "Word 0 is k."

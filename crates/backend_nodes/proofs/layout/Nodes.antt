@@ -148,28 +148,6 @@ module _ (nodes : List ℕ) (n : ℕ) where
       last true = refl
       last false = sym (and-true (right nodes n (as_item b)))
 
--- ---- one name
-module _ (nodes : List ℕ) (m x : ℕ) where
-  is_12 : eqb (get_or nodes (x * 4) 0) 12 ≡ eqb (word_of nodes x 0) 12
-  is_12 = ap (λ (i : ℕ). eqb (get_or nodes i 0) 12) (sym (add-zero (x * 4)))
-
-  pub plain_low : x < m → not (eqb (get_or nodes (x * 4) 0) 12) ≡ right nodes m (plain x)
-  plain_low l = go (eqb (word_of nodes x 0) 12) is_12 ∙ ap (λ (t : Bool). t && beq (eqb (word_of nodes x 0) 12) false) (sym (lt-ltb x m l))
-    where
-      go : (t : Bool) → eqb (get_or nodes (x * 4) 0) 12 ≡ t → not (eqb (get_or nodes (x * 4) 0) 12) ≡ beq t false
-      go true e = ap not e
-      go false e = ap not e
-
-  pub item_low : x < m → eqb (get_or nodes (x * 4) 0) 12 ≡ right nodes m (as_item x)
-  item_low l = go (eqb (word_of nodes x 0) 12) is_12 ∙ ap (λ (t : Bool). t && beq (eqb (word_of nodes x 0) 12) true) (sym (lt-ltb x m l))
-    where
-      go : (t : Bool) → eqb (get_or nodes (x * 4) 0) 12 ≡ t → eqb (get_or nodes (x * 4) 0) 12 ≡ beq t true
-      go true e = e
-      go false e = e
-
-  pub not_low : (y : Name) → y.node ≡ x → m ≤ x → false ≡ right nodes m y
-  not_low y e l = ap (λ (t : Bool). t && beq (eqb (word_of nodes y.node 0) 12) y.item) (sym (le-ltb x m l) ∙ ap (λ (z : ℕ). ltb z m) (sym e))
-
 -- ---- node n's words, its kind known
 module _ (nodes : List ℕ) (n : ℕ) where
   pub by_kind : {B : Type 0} (f : Kind → ℕ → ℕ → ℕ → B) (w : ℕ) → get_or nodes (n * 4) 0 ≡ w

@@ -1,5 +1,5 @@
 -- The cells before one that are in its chain, met from the last on.
-use mathlib.Core.Path.{◌≡◌, refl, sym, ap, ◌∙◌, subst}
+use mathlib.Core.Path.{◌≡◌, refl, sym, ap, ◌∙◌}
 use mathlib.Core.Bool.{Bool, true, false, cond, not}
 use mathlib.Core.List.{List}
 use Prim.Native.Nat.{ℕ, zero, suc, ◌+◌, ◌-◌, ◌%◌, ◌≤◌, ◌<◌}
@@ -117,20 +117,20 @@ module _ (cells : List ℕ) where
             go m i k (no p) (no q) = d.none m (omega arith) k
 
   -- ---- the answer
-  module _ (start n j : ℕ) where
-    pub down_end : Down (start + n) j → j ≤ start → true ≡ fresh (cell_at cells (start + n)) (cells_from cells start n)
+  module _ (start at j : ℕ) where
+    pub down_end : Down at j → j ≤ start → true ≡ fresh (cell_at cells at) (cells_from cells start (at - start))
     down_end d l =
         sym
-        (true_all (λ y. not (same_cell (cell_at cells (start + n)) y)) (cells_from cells start n)
-        (all_tabulate (λ y. not (same_cell (cell_at cells (start + n)) y) ≡ true) (λ i. cell_at cells (start + i)) n
+        (true_all (λ y. not (same_cell (cell_at cells at) y)) (cells_from cells start (at - start))
+        (all_tabulate (λ y. not (same_cell (cell_at cells at) y) ≡ true) (λ i. cell_at cells (start + i)) (at - start)
         (λ i k. ap not (d.none (start + i) (omega arith) (omega arith)))))
 
-    pub down_met : Down (start + n) j → start < j → same_cell (cell_at cells (start + n)) (cell_at cells (j - 1)) ≡ true
-        → false ≡ fresh (cell_at cells (start + n)) (cells_from cells start n)
+    pub down_met : Down at j → start < j → same_cell (cell_at cells at) (cell_at cells (j - 1)) ≡ true
+        → false ≡ fresh (cell_at cells at) (cells_from cells start (at - start))
     down_met d l e =
-        walk_fails (λ y. not (same_cell (cell_at cells (start + n)) y)) (λ i. cell_at cells (start + i)) n (j - 1 - start)
+        walk_fails (λ y. not (same_cell (cell_at cells at) y)) (λ i. cell_at cells (start + i)) (at - start) (j - 1 - start)
         (let k = d.low in omega arith)
-        (ap (λ (o : ℕ). not (same_cell (cell_at cells (start + n)) (cell_at cells o))) (let q : start + (j - 1 - start) ≡ j - 1 = omega arith in q) ∙ ap not e)
+        (ap (λ (o : ℕ). not (same_cell (cell_at cells at) (cell_at cells o))) (let q : start + (j - 1 - start) ≡ j - 1 = omega arith in q) ∙ ap not e)
 
   -- ---- one cell more is linked
   module _ (heads earlier : List ℕ) (at : ℕ) (v : Linked cells heads earlier at) (l : at < 4096) where
@@ -160,10 +160,6 @@ module _ (cells : List ℕ) where
             ∙ ap (λ (i : ℕ). last_in cells (chain_of cells i) i) (sym e)
         of_cell m k (no ne) =
             get_or-set_other earlier at m (get_or heads (chain_of cells at) 0) 0 ne ∙ v.earlier_are m (let q : (m ≡ at) → ⊥ = ne in omega arith)
-
-  -- as many are linked as it is said
-  pub linked_at : (heads earlier : List ℕ) (m n : ℕ) → Linked cells heads earlier m → m ≡ n → Linked cells heads earlier n
-  linked_at heads earlier m n v e = subst (Linked cells heads earlier) e v
 
   pub link_none : (heads earlier : List ℕ) → heads ≡ replicate 1024 0 → earlier ≡ replicate 4096 0 → Linked cells heads earlier 0
   link_none heads earlier p q =

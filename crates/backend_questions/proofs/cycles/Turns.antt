@@ -1,5 +1,5 @@
 -- Question 11, cell by cell and cycle by cycle.
-use mathlib.Core.Path.{◌≡◌, refl, sym, ap, ap₂, ◌∙◌}
+use mathlib.Core.Path.{◌≡◌, refl, sym, ap, ap₂, ◌∙◌, subst}
 use mathlib.Core.Bool.{Bool, true, false, not, ◌&&◌, and-false}
 use mathlib.Core.List.{List}
 use Prim.Native.Nat.{ℕ, ◌+◌, ◌-◌, ◌/◌, ◌≤◌, ◌<◌}
@@ -9,6 +9,7 @@ use lib.ListN.{length, get_or, drop, drop_of_length-le}
 use borrow.Author.Tests.{leb-true, le-leb, ltb-true, lt-ltb, not-true, not-false}
 use Rattle.lists.specs.Lists.{range, all_of, split, total, within}
 use Rattle.lists.proofs.Tests.{and_left, and_right, and_both}
+use Rattle.lists.proofs.Walks.{Walked, walk_none, walk_more, walk_done, walk_fails}
 use Rattle.lists.proofs.Columns.{tabulate_length}
 use Rattle.lists.proofs.Searches.{tabulate_part, total_drop, split_drop}
 use Rattle.lists.proofs.Once.{same_tests, once_by_turns}
@@ -67,6 +68,41 @@ module _ (polys rows : ℕ) (cells : List ℕ) (start : ℕ) where
   good_cells n ne e =
       ap₂ ◌&&◌ (sym (lt-ltb 0 (length (cells_from cells start n)) (let q = tabulate_length (λ i. cell_at cells (start + i)) n in omega arith)))
       (e ∙ by_turns n)
+
+  -- the cells of a cycle of n before cell `count` are good
+  pub record Cycled (n count : ℕ) : Type 0 where
+    pub from_start : start ≤ count
+    pub walked : Walked turn (λ i. i) n (count - start)
+
+  pub cycled_none : (n : ℕ) → Cycled n start
+  cycled_none n =
+      record {
+        from_start = omega arith;
+        walked = subst (Walked turn (λ i. i) n) (let e : 0 ≡ start - start = omega arith in e) (walk_none turn (λ i. i) n);
+      }
+
+  module _ (n count : ℕ) (v : Cycled n count) where
+    this : (t : Bool) → t ≡ good_at polys rows (cell_at cells count) (cells_from cells start (count - start)) → t ≡ turn (count - start)
+    this t e =
+        e
+        ∙ ap (λ (m : ℕ). good_at polys rows (cell_at cells m) (cells_from cells start (count - start)))
+        (let l = v.from_start in let q : count ≡ start + (count - start) = omega arith in q)
+
+    module _ (t : Bool) (e : t ≡ good_at polys rows (cell_at cells count) (cells_from cells start (count - start))) (l : count < start + n) where
+      pub cycled_more : t ≡ true → Cycled n (count + 1)
+      cycled_more f =
+          record {
+            from_start = (let k = v.from_start in omega arith);
+            walked = subst (Walked turn (λ i. i) n) (let k = v.from_start in let q : count - start + 1 ≡ count + 1 - start = omega arith in q)
+                (walk_more turn (λ i. i) n (count - start) v.walked (let k = v.from_start in omega arith) (sym (this t e) ∙ f));
+          }
+
+      pub cycled_fails : t ≡ false → false ≡ good_cycle polys rows (cells_from cells start n)
+      cycled_fails f =
+          bad_cell n (walk_fails turn (λ i. i) n (count - start) (let k = v.from_start in omega arith) (sym (this t e) ∙ f))
+
+    pub cycled_all : (n ≡ 0 → ⊥) → start + n ≤ count → true ≡ good_cycle polys rows (cells_from cells start n)
+    cycled_all ne l = good_cells n ne (walk_done turn (λ i. i) n (count - start) v.walked (let k = v.from_start in omega arith))
 
 -- ---- the cycles
 module _ (polys rows : ℕ) (lengths body : List ℕ) where

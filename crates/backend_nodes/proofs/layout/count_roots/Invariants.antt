@@ -1,4 +1,3 @@
-use lib.ListN.{length}
 use Rattle.backend_nodes.proofs.layout.Counts.{Rooted}
 use Rattle.backend_nodes.proofs.layout.count_roots.Given as goal
 

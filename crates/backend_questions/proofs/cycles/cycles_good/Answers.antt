@@ -1,36 +1,42 @@
 -- The cycles passed are good, and their cells linked.
-use mathlib.Core.Path.{refl}
+use mathlib.Core.Path.{sym, ap, subst, ◌∙◌}
+use mathlib.Core.Bool.{not}
+use mathlib.Core.List.{List}
+use Prim.Native.Nat.{ℕ, ◌+◌}
 use native.Mathlib.Omega.{arith}
-use Rattle.backend_questions.proofs.cycles.Chains.{link_none}
-use Rattle.backend_questions.proofs.cycles.Turns.{before_first, room, before_next, bad_cycle, no_cycle_left}
+use lib.ListN.{length, get_or}
+use Rattle.backend.specs.Cycles.{cells_from}
+use Rattle.backend.specs.Questions.{good_cycle}
+use Rattle.backend_questions.proofs.cycles.Turns.{Before, room, before_next, bad_cycle, no_cycle_left}
 use Rattle.backend_questions.proofs.cycles.cycles_good.Goals as goal
-
-pub loop-i-init : goal.loop-i-init
-loop-i-init c =
-    (before_first c.args.polys c.args.rows c.args.lengths.now c.args.cells.now c.requires.0, link_none c.args.cells.now _ _ refl refl)
 
 pub good_cycle-requires : goal.good_cycle-requires
 good_cycle-requires c =
-    let l = room c.args.polys c.args.rows c.args.lengths.now c.args.cells.now c.loop-i.start c.loop-i.i c.loop-i.invariant.0 c.loop-i-test.true in
+    let a = c.args in
+    let l = room a.polys a.rows a.lengths.now a.cells.now c.loop-n.linked.count c.loop-n.n-index c.loop-n.invariant.before c.loop-n-test.true in
+    let e = ap length c.loop-n.invariant.cells in
     let m = c.requires.1 in
-    (l, omega arith, c.loop-i.invariant.1)
+    (omega arith, omega arith)
 
 pub returns-then-not-good_cycle : goal.returns-then-not-good_cycle
 returns-then-not-good_cycle c =
-    bad_cycle c.args.polys c.args.rows c.args.lengths.now c.args.cells.now c.loop-i.start c.loop-i.i c.loop-i.invariant.0 c.loop-i-test.true c.good_cycle.result c.good_cycle.ensures.value (mathlib.Core.Path.ap mathlib.Core.Bool.not c.if-not-good_cycle.true)
+    let a = c.args in
+    bad_cycle a.polys a.rows a.lengths.now a.cells.now c.loop-n.linked.count c.loop-n.n-index c.loop-n.invariant.before c.loop-n-test.true c.good_cycle.result
+    (c.good_cycle.ensures.value ∙ ap (λ (xs : List ℕ). good_cycle a.polys a.rows (cells_from xs c.loop-n.linked.count (get_or a.lengths.now c.loop-n.n-index 0))) c.loop-n.invariant.cells)
+    (ap not c.if-not-good_cycle.true)
 
-pub overflow_add-start : goal.overflow_add-start
-overflow_add-start c =
-    let l = room c.args.polys c.args.rows c.args.lengths.now c.args.cells.now c.loop-i.start c.loop-i.i c.loop-i.invariant.0 c.loop-i-test.true in
-    let m = c.requires.1 in
-    record { fits = omega arith }
-
-pub loop-i-preserved : goal.loop-i-preserved
-loop-i-preserved c = (
-  before_next c.args.polys c.args.rows c.args.lengths.now c.args.cells.now c.loop-i.start c.loop-i.i c.loop-i.invariant.0 c.loop-i-test.true c.good_cycle.result c.good_cycle.ensures.value (mathlib.Core.Path.ap mathlib.Core.Bool.not c.if-not-good_cycle.false),
-  c.good_cycle.ensures.linked (c.if-not-good_cycle.false),
-)
+pub loop-n-preserved : goal.loop-n-preserved
+loop-n-preserved c =
+    let a = c.args in
+    record {
+      cells = c.good_cycle.ensures.cells ∙ c.loop-n.invariant.cells;
+      before = subst (λ (s : ℕ). Before a.polys a.rows a.lengths.now a.cells.now s (c.loop-n.n-index + 1)) (sym (c.good_cycle.ensures.count c.if-not-good_cycle.false))
+          (before_next a.polys a.rows a.lengths.now a.cells.now c.loop-n.linked.count c.loop-n.n-index c.loop-n.invariant.before c.loop-n-test.true c.good_cycle.result
+          (c.good_cycle.ensures.value ∙ ap (λ (xs : List ℕ). good_cycle a.polys a.rows (cells_from xs c.loop-n.linked.count (get_or a.lengths.now c.loop-n.n-index 0))) c.loop-n.invariant.cells)
+          (ap not c.if-not-good_cycle.false));
+    }
 
 pub returns : goal.returns
 returns c =
-    no_cycle_left c.args.polys c.args.rows c.args.lengths.now c.args.cells.now c.loop-i.start c.loop-i.i c.loop-i.invariant.0 c.loop-i-test.false
+    let a = c.args in
+    no_cycle_left a.polys a.rows a.lengths.now a.cells.now c.loop-n.linked.count c.loop-n.n-index c.loop-n.invariant.before c.loop-n-test.false

@@ -1,56 +1,48 @@
 -- The cells passed are good, and linked.
-use mathlib.Core.Path.{sym, ◌∙◌}
-use Prim.Native.Nat.{◌+◌}
-use native.Mathlib.Omega.{arith}
-use Rattle.lists.proofs.Tests.{false_true}
-use Rattle.lists.proofs.Walks.{walk_none, walk_more, walk_done, walk_fails}
-use Rattle.backend_questions.proofs.cycles.Chains.{linked_at}
-use Rattle.backend_questions.proofs.cycles.Turns.{turn, no_cell_is, bad_cell, good_cells}
+use mathlib.Core.Path.{refl, sym, ap, subst, ◌∙◌}
+use mathlib.Core.List.{List}
+use Prim.Native.Nat.{ℕ, ◌-◌}
+use Rattle.backend.specs.Circuit.{cell_at}
+use Rattle.backend.specs.Cycles.{cells_from, good_at}
+use Rattle.backend_questions.proofs.cycles.Turns.{Cycled, no_cell_is, cycled_none, cycled_more, cycled_fails, cycled_all}
 use Rattle.backend_questions.proofs.cycles.good_cycle.Goals as goal
 
-pub returns-then-n-eq0 : goal.returns-then-n-eq0
-returns-then-n-eq0 c =
+pub returns-then-n-eq0-clause-value : goal.returns-then-n-eq0-clause-value
+returns-then-n-eq0-clause-value c =
     let a = c.args in
-    record { value = no_cell_is a.polys a.rows a.cells.now a.start a.n c.if-n-eq0.true; linked = λ e. false_true e }
+    no_cell_is a.polys a.rows a.linked.now.cells.now a.linked.now.count a.n c.if-n-eq0.true
 
-pub loop-i-init : goal.loop-i-init
-loop-i-init c =
-    (walk_none (turn c.args.polys c.args.rows c.args.cells.now c.args.start) (λ i. i) c.args.n, linked_at c.args.cells.now c.args.heads.now c.args.earlier.now c.args.start (c.args.start + 0) c.requires.2 (omega arith))
+pub loop-linked-init : goal.loop-linked-init
+loop-linked-init c =
+    let a = c.args in
+    record { cells = refl; cycled = cycled_none a.polys a.rows a.linked.now.cells.now a.linked.now.count a.n }
 
-pub good_cell-requires : goal.good_cell-requires
-good_cell-requires c =
-    let l = c.loop-i-test.true in
-    let p = c.requires.0 in
-    let q = c.requires.1 in
-    (omega arith, omega arith, c.loop-i.invariant.1)
+pub returns-then-not-good_cell-clause-value : goal.returns-then-not-good_cell-clause-value
+returns-then-not-good_cell-clause-value c =
+    let a = c.args in
+    let s = a.linked.now in
+    let at = c.loop-linked.linked.count in
+    cycled_fails a.polys a.rows s.cells.now s.count a.n at c.loop-linked.invariant.cycled c.good_cell.result
+    (c.good_cell.ensures ∙ ap (λ (xs : List ℕ). good_at a.polys a.rows (cell_at xs at) (cells_from xs s.count (at - s.count))) c.loop-linked.invariant.cells)
+    c.loop-linked-test.true
+    c.if-not-good_cell.true
 
-pub returns-then-not-good_cell : goal.returns-then-not-good_cell
-returns-then-not-good_cell c =
+pub loop-linked-preserved : goal.loop-linked-preserved
+loop-linked-preserved c =
+    let a = c.args in
+    let s = a.linked.now in
+    let at = c.loop-linked.linked.count in
     record {
-      value = bad_cell c.args.polys c.args.rows c.args.cells.now c.args.start c.args.n
-          (walk_fails (turn c.args.polys c.args.rows c.args.cells.now c.args.start) (λ i. i) c.args.n c.loop-i.i c.loop-i-test.true (sym c.good_cell.ensures ∙ c.if-not-good_cell.true));
-      linked = λ e. false_true e;
+      cells = c.link.ensures.cells ∙ c.loop-linked.invariant.cells;
+      cycled = subst (Cycled a.polys a.rows s.cells.now s.count a.n) (sym c.link.ensures.count)
+          (cycled_more a.polys a.rows s.cells.now s.count a.n at c.loop-linked.invariant.cycled c.good_cell.result
+          (c.good_cell.ensures ∙ ap (λ (xs : List ℕ). good_at a.polys a.rows (cell_at xs at) (cells_from xs s.count (at - s.count))) c.loop-linked.invariant.cells)
+          c.loop-linked-test.true
+          c.if-not-good_cell.false);
     }
 
-pub link-requires : goal.link-requires
-link-requires c =
-    let l = c.loop-i-test.true in
-    let p = c.requires.0 in
-    let q = c.requires.1 in
-    (omega arith, omega arith, c.loop-i.invariant.1)
-
-pub loop-i-preserved : goal.loop-i-preserved
-loop-i-preserved c = (
-  walk_more (turn c.args.polys c.args.rows c.args.cells.now c.args.start) (λ i. i) c.args.n c.loop-i.i c.loop-i.invariant.0 c.loop-i-test.true
-      (sym c.good_cell.ensures ∙ c.if-not-good_cell.false),
-  linked_at c.args.cells.now c.link.new.heads c.link.new.earlier (c.args.start + c.loop-i.i + 1) (c.args.start + (c.loop-i.i + 1)) c.link.ensures (omega arith),
-)
-
-pub returns : goal.returns
-returns c =
-    record {
-      value = good_cells c.args.polys c.args.rows c.args.cells.now c.args.start c.args.n c.if-n-eq0.false (walk_done (turn c.args.polys c.args.rows c.args.cells.now c.args.start) (λ i. i) c.args.n c.loop-i.i c.loop-i.invariant.0 c.loop-i-test.false);
-      linked = λ e.
-          linked_at c.args.cells.now c.loop-i.heads c.loop-i.earlier (c.args.start + c.loop-i.i) (c.args.start + c.args.n) c.loop-i.invariant.1
-          (let u = c.loop-i.invariant.0.upto in let l = c.loop-i-test.false in omega arith);
-    }
+pub returns-clause-value : goal.returns-clause-value
+returns-clause-value c =
+    let a = c.args in
+    let s = a.linked.now in
+    cycled_all a.polys a.rows s.cells.now s.count a.n c.loop-linked.linked.count c.loop-linked.invariant.cycled c.if-n-eq0.false c.loop-linked-test.false

@@ -1,8 +1,13 @@
-use Prim.Native.Nat.{◌+◌}
-use Rattle.lists.proofs.Walks.{Walked}
-use Rattle.backend_questions.specs.Chains.{Linked}
-use Rattle.backend_questions.proofs.cycles.Turns.{turn}
+use mathlib.Core.Path.{◌≡◌}
+use Prim.Native.Nat.{◌+◌, ◌-◌}
+use Rattle.backend_questions.proofs.cycles.Turns.{Cycled}
 use Rattle.backend_questions.proofs.cycles.good_cycle.Given as goal
 
-abbrev pub invariant-loop-i : goal.invariant-loop-i
-invariant-loop-i l = Walked (turn l.polys l.rows l.cells l.start) (λ i. i) l.n l.i × Linked l.cells l.heads l.earlier (l.start + l.i)
+abbrev pub invariant-loop-linked : goal.invariant-loop-linked
+invariant-loop-linked l = record {
+  cells : l.linked.cells.now ≡ l.fn.linked.cells.now;
+  cycled : Cycled l.polys l.rows l.fn.linked.cells.now l.start l.n l.linked.count;
+}
+
+abbrev pub decreases-loop-linked : goal.decreases-loop-linked
+decreases-loop-linked l = l.start + l.n - l.linked.count

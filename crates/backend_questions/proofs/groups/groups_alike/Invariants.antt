@@ -1,4 +1,3 @@
-use lib.ListN.{length}
 use Rattle.backend.proofs.Alike.{Likened}
 use Rattle.backend_questions.proofs.groups.groups_alike.Given as goal
 

@@ -1,4 +1,3 @@
-use lib.ListN.{length}
 use Rattle.backend.proofs.Alike.{Followed}
 use Rattle.backend_questions.proofs.groups.numbers_good.Given as goal
 

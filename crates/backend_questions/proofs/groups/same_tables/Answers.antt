@@ -2,7 +2,6 @@ use mathlib.Core.Path.{sym, ◌∙◌}
 use native.Mathlib.Omega.{arith}
 use Rattle.lists.proofs.Walks.{walk_none, walk_more, walk_done, walk_fails}
 use Rattle.backend.proofs.Degree.{root_in}
-use Rattle.lists.proofs.Runs.{total_none}
 use Rattle.backend.proofs.Alike.{tables_same, tables_unlike, place_fits, same_at}
 use Rattle.backend_questions.proofs.groups.same_tables.Goals as goal
 
