@@ -41,7 +41,11 @@ pub fn compose_nodes(
         pairs,
         params,
     };
-    compose(&Input { words, copied }, nodes, from)
+    let input = Input {
+        words: &words,
+        copied,
+    };
+    compose(&input, nodes, from)
 }
 
 // Are the words the same?

@@ -36,7 +36,7 @@ impl Input<'_> {
         requires room { (at + size (get_or (constraints_of self.now) i (Expr.constant 0))) * 4 ≤ most_words }
         ensures { ExprWritten from (get_or (constraints_of self.now) i (Expr.constant 0)) at out.old out.new result }
     {
-        let words = &self.words;
+        let words = self.words;
         let params = words.params;
         let own = words.roots.len();
         if i < own {
@@ -71,7 +71,7 @@ impl Input<'_> {
     fn constraint_items(&self, out: &mut [u64], from: usize, i: usize, at: usize) -> Listed
         requires below { i < count_of self.now }
         requires room { (at + sizes (exprs_from (constraints_of self.now) i) + extra (exprs_from (constraints_of self.now) i) + 2) * 4 ≤ most_words }
-        ensures { WrittenList from (exprs_from (constraints_of self.now) i) (Expr.challenge (self.now.words.params.num_challenges + 2)) at out.old out.new result.next result.base }
+        ensures { WrittenList from (exprs_from (constraints_of self.now) i) (Expr.challenge (self.now.words.now.params.num_challenges + 2)) at out.old out.new result.next result.base }
     {
         let n = num_constraints(self.words.roots.len(), self.words.params);
         let x = self.constraint(out, from, i, at);
@@ -85,8 +85,8 @@ impl Input<'_> {
 
     // The constraints by powers of alpha.
     pub fn constraint_powers(&self, out: &mut [u64], from: usize, at: usize) -> usize
-        requires { (at + size (distribute_powers (constraints_of self.now) (Expr.challenge (self.now.words.params.num_challenges + 2)))) * 4 ≤ most_words }
-        ensures { ExprWritten from (distribute_powers (constraints_of self.now) (Expr.challenge (self.now.words.params.num_challenges + 2))) at out.old out.new result }
+        requires { (at + size (distribute_powers (constraints_of self.now) (Expr.challenge (self.now.words.now.params.num_challenges + 2)))) * 4 ≤ most_words }
+        ensures { ExprWritten from (distribute_powers (constraints_of self.now) (Expr.challenge (self.now.words.now.params.num_challenges + 2))) at out.old out.new result }
     {
         let n = num_constraints(self.words.roots.len(), self.words.params);
         if n == 0 {

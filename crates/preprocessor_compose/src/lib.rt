@@ -31,9 +31,9 @@ impl Input<'_> {
 
     // The h queries from number i on, the zero check, the base, the Items.
     fn outer_items(&self, out: &mut [u64], from: usize, i: usize, at: usize) -> Listed
-        requires below { i ≤ self.now.words.params.num_groups }
+        requires below { i ≤ self.now.words.now.params.num_groups }
         requires room { (at + sizes (exprs_from (outer_of self.now) i) + extra (exprs_from (outer_of self.now) i) + 2) * 4 ≤ most_words }
-        ensures { WrittenList from (exprs_from (outer_of self.now) i) (Expr.challenge (self.now.words.params.num_challenges + 2)) at out.old out.new result.next result.base }
+        ensures { WrittenList from (exprs_from (outer_of self.now) i) (Expr.challenge (self.now.words.now.params.num_challenges + 2)) at out.old out.new result.next result.base }
     {
         let params = self.words.params;
         if i < params.num_groups {

@@ -18,10 +18,10 @@ pub struct CircuitWords<'a> {
     pub ghost fits: { Words params user.now roots.now sizes.now widths.now pairs.now } by { Words-prop params user.now roots.now sizes.now widths.now pairs.now },
 }
 
-// The same, with the numbers of the copied columns.
+// Those words, with the numbers of the copied columns.
 #[derive(Clone, Copy)]
 pub struct Input<'a> {
-    pub words: CircuitWords<'a>,
+    pub words: &'a CircuitWords<'a>,
     pub copied: &'a [u64],
-    pub ghost all_copied: { words.params.num_permutation_polys ≤ length copied.now },
+    pub ghost all_copied: { words.now.params.num_permutation_polys ≤ length copied.now },
 }

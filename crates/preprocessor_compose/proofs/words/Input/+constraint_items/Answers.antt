@@ -13,7 +13,7 @@ use Rattle.preprocessor_compose.proofs.words.Input.+constraint_items.Goals as go
 pub constraint-x-requires-clause-room : goal.constraint-x-requires-clause-room
 constraint-x-requires-clause-room t c =
     let a = c.args.self.now in
-    let w = a.words in
+    let w = a.words.now in
     let v = w.params in
     let es = constraints_of a in
     let n = num_constraints (length w.roots.now) v in
@@ -28,7 +28,7 @@ overflow_add-i t c = omega (arith, c.requires.below, c.num_constraints-n.ensures
 pub constraint_items-l-requires : goal.constraint_items-l-requires
 constraint_items-l-requires t c =
     let a = c.args.self.now in
-    let w = a.words in
+    let w = a.words.now in
     let v = w.params in
     let es = constraints_of a in
     let n = num_constraints (length w.roots.now) v in
@@ -43,7 +43,7 @@ pub item-next-requires : goal.item-next-requires
 unfolding body
 item-next-requires t c =
     let a = c.args.self.now in
-    let w = a.words in
+    let w = a.words.now in
     let v = w.params in
     let es = constraints_of a in
     let n = num_constraints (length w.roots.now) v in
@@ -58,7 +58,7 @@ item-next-requires t c =
 pub returns-then-i-n : goal.returns-then-i-n
 returns-then-i-n t c =
     let a = c.args.self.now in
-    let w = a.words in
+    let w = a.words.now in
     let v = w.params in
     let es = constraints_of a in
     let n = num_constraints (length w.roots.now) v in
@@ -70,7 +70,7 @@ returns-then-i-n t c =
 pub list_end-requires : goal.list_end-requires
 list_end-requires t c =
     let a = c.args.self.now in
-    let w = a.words in
+    let w = a.words.now in
     let v = w.params in
     let es = constraints_of a in
     let n = num_constraints (length w.roots.now) v in
@@ -83,7 +83,7 @@ list_end-requires t c =
 pub returns : goal.returns
 returns t c =
     let a = c.args.self.now in
-    let w = a.words in
+    let w = a.words.now in
     let v = w.params in
     let es = constraints_of a in
     let n = num_constraints (length w.roots.now) v in

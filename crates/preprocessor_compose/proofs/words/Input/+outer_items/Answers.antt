@@ -14,13 +14,13 @@ pub query-x-requires : goal.query-x-requires
 query-x-requires t c = omega (arith, c.requires.room)
 
 pub overflow_add-i : goal.overflow_add-i
-overflow_add-i t c = omega (arith, c.if-i-params.true, c.args.self.now.words.fits.limits)
+overflow_add-i t c = omega (arith, c.if-i-params.true, c.args.self.now.words.now.fits.limits)
 
 pub outer_items-l-requires : goal.outer_items-l-requires
 unfolding body
 outer_items-l-requires t c =
     let a = c.args.self.now in
-    let w = a.words in
+    let w = a.words.now in
     let v = w.params in
     let hs = constraints_of a in
     let es = outer_trees v hs in
@@ -36,7 +36,7 @@ pub item-next-requires : goal.item-next-requires
 unfolding body
 item-next-requires t c =
     let a = c.args.self.now in
-    let w = a.words in
+    let w = a.words.now in
     let v = w.params in
     let hs = constraints_of a in
     let es = outer_trees v hs in
@@ -52,7 +52,7 @@ item-next-requires t c =
 pub returns-then-i-params : goal.returns-then-i-params
 returns-then-i-params t c =
     let a = c.args.self.now in
-    let w = a.words in
+    let w = a.words.now in
     let v = w.params in
     let hs = constraints_of a in
     let es = outer_trees v hs in
@@ -65,7 +65,7 @@ returns-then-i-params t c =
 pub zero_check-x-requires : goal.zero_check-x-requires
 zero_check-x-requires t c =
     let a = c.args.self.now in
-    let w = a.words in
+    let w = a.words.now in
     let v = w.params in
     let hs = constraints_of a in
     let es = outer_trees v hs in
@@ -79,7 +79,7 @@ zero_check-x-requires t c =
 pub list_end-requires : goal.list_end-requires
 list_end-requires t c =
     let a = c.args.self.now in
-    let w = a.words in
+    let w = a.words.now in
     let v = w.params in
     let hs = constraints_of a in
     let es = outer_trees v hs in
@@ -94,7 +94,7 @@ list_end-requires t c =
 pub returns : goal.returns
 returns t c =
     let a = c.args.self.now in
-    let w = a.words in
+    let w = a.words.now in
     let v = w.params in
     let hs = constraints_of a in
     let es = outer_trees v hs in

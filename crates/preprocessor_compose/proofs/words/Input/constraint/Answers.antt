@@ -11,7 +11,7 @@ use Rattle.preprocessor_compose.proofs.words.Input.constraint.Goals as goal
 pub copy_expr-requires : goal.copy_expr-requires
 copy_expr-requires c =
     let a = c.args.self.now in
-    let w = a.words in
+    let w = a.words.now in
     let v = w.params in
     let n = c.index-n.result in
     let q = ap size (trees.own_nth v a.copied.now w.user.now w.roots.now w.sizes.now w.widths.now w.pairs.now c.args.i n c.if-i-own.true c.index-n.ensures) in
@@ -20,14 +20,14 @@ copy_expr-requires c =
 pub returns-then-i-own : goal.returns-then-i-own
 returns-then-i-own c =
     let a = c.args.self.now in
-    let w = a.words in
+    let w = a.words.now in
     let v = w.params in
     written.written_as (trees.own_nth v a.copied.now w.user.now w.roots.now w.sizes.now w.widths.now w.pairs.now c.args.i c.index-n.result c.if-i-own.true c.index-n.ensures) c.copy_expr.ensures
 
 pub lookup_constraint-requires-clause-members_in : goal.lookup_constraint-requires-clause-members_in
 lookup_constraint-requires-clause-members_in c =
     let a = c.args.self.now in
-    let w = a.words in
+    let w = a.words.now in
     let v = w.params in
     let j = c.args.i - length w.roots.now in
     let g = trees.group_in v w.user.now w.roots.now w.sizes.now w.widths.now w.pairs.now w.fits j c.sum_before-first.result c.index-count.result c.if-j-params.true c.sum_before-first.ensures c.index-count.ensures in
@@ -36,7 +36,7 @@ lookup_constraint-requires-clause-members_in c =
 pub lookup_constraint-requires-clause-room : goal.lookup_constraint-requires-clause-room
 lookup_constraint-requires-clause-room c =
     let a = c.args.self.now in
-    let w = a.words in
+    let w = a.words.now in
     let v = w.params in
     let j = c.args.i - length w.roots.now in
     let t = ap size (trees.lookup_nth v a.copied.now w.user.now w.roots.now w.sizes.now w.widths.now w.pairs.now c.args.i j c.sum_before-first.result c.index-count.result (omega (arith, c.if-i-own.false)) c.if-j-params.true w.fits.all_groups w.fits.some_members w.fits.all_members w.fits.all_pairs c.sum_before-first.ensures c.index-count.ensures) in
@@ -45,7 +45,7 @@ lookup_constraint-requires-clause-room c =
 pub returns-then-j-params : goal.returns-then-j-params
 returns-then-j-params c =
     let a = c.args.self.now in
-    let w = a.words in
+    let w = a.words.now in
     let v = w.params in
     let j = c.args.i - length w.roots.now in
     written.written_as (trees.lookup_nth v a.copied.now w.user.now w.roots.now w.sizes.now w.widths.now w.pairs.now c.args.i j c.sum_before-first.result c.index-count.result (omega (arith, c.if-i-own.false)) c.if-j-params.true w.fits.all_groups w.fits.some_members w.fits.all_members w.fits.all_pairs c.sum_before-first.ensures c.index-count.ensures) c.lookup_constraint.ensures
@@ -53,7 +53,7 @@ returns-then-j-params c =
 pub start_constraint-requires : goal.start_constraint-requires
 start_constraint-requires c =
     let a = c.args.self.now in
-    let w = a.words in
+    let w = a.words.now in
     let v = w.params in
     let q = ap size (trees.start_nth v a.copied.now w.user.now w.roots.now w.sizes.now w.widths.now w.pairs.now c.args.i (omega (arith, c.if-i-own.false, c.if-j-params.false, c.if-p-eq0.true)) c.requires.below) in
     let r = parts.start_size v in
@@ -62,26 +62,26 @@ start_constraint-requires c =
 pub returns-then-p-eq0 : goal.returns-then-p-eq0
 returns-then-p-eq0 c =
     let a = c.args.self.now in
-    let w = a.words in
+    let w = a.words.now in
     let v = w.params in
     written.written_as (trees.start_nth v a.copied.now w.user.now w.roots.now w.sizes.now w.widths.now w.pairs.now c.args.i (omega (arith, c.if-i-own.false, c.if-j-params.false, c.if-p-eq0.true)) c.requires.below) c.start_constraint.ensures
 
 pub part_constraint-requires : goal.part_constraint-requires
 part_constraint-requires c =
     let a = c.args.self.now in
-    let w = a.words in
+    let w = a.words.now in
     let v = w.params in
     let p = c.args.i - length w.roots.now - v.num_groups - 1 in
     let e : c.args.i ≡ length w.roots.now + (v.num_groups + suc p) = omega (arith, c.if-i-own.false, c.if-j-params.false, c.if-p-eq0.false) in
     let h = trees.part_below v a.copied.now w.user.now w.roots.now w.sizes.now w.widths.now w.pairs.now c.args.i p e c.requires.below in
     let q = ap size (trees.part_nth v a.copied.now w.user.now w.roots.now w.sizes.now w.widths.now w.pairs.now c.args.i p e c.requires.below) in
-    let r = parts.part_size_is v c.args.self.now.words.fits.limits p h a.copied.now in
+    let r = parts.part_size_is v c.args.self.now.words.now.fits.limits p h a.copied.now in
     record { below = h; room = omega (arith, c.requires.room) }
 
 pub returns : goal.returns
 returns c =
     let a = c.args.self.now in
-    let w = a.words in
+    let w = a.words.now in
     let v = w.params in
     let p = c.args.i - length w.roots.now - v.num_groups - 1 in
     let e : c.args.i ≡ length w.roots.now + (v.num_groups + suc p) = omega (arith, c.if-i-own.false, c.if-j-params.false, c.if-p-eq0.false) in

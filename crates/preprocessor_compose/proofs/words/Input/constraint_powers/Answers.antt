@@ -11,7 +11,7 @@ use Rattle.preprocessor_compose.proofs.words.Input.constraint_powers.Goals as go
 pub returns-then-n-eq0 : goal.returns-then-n-eq0
 returns-then-n-eq0 c =
     let a = c.args.self.now in
-    let w = a.words in
+    let w = a.words.now in
     let v = w.params in
     let es = constraints_of a in
     let long = trees.constraints_length v a.copied.now w.user.now w.roots.now w.sizes.now w.widths.now w.pairs.now in
@@ -21,7 +21,7 @@ returns-then-n-eq0 c =
 pub constraint-requires : goal.constraint-requires
 constraint-requires c =
     let a = c.args.self.now in
-    let w = a.words in
+    let w = a.words.now in
     let v = w.params in
     let es = constraints_of a in
     let long = trees.constraints_length v a.copied.now w.user.now w.roots.now w.sizes.now w.widths.now w.pairs.now in
@@ -32,7 +32,7 @@ constraint-requires c =
 pub returns-then-n-eq1 : goal.returns-then-n-eq1
 returns-then-n-eq1 c =
     let a = c.args.self.now in
-    let w = a.words in
+    let w = a.words.now in
     let v = w.params in
     let es = constraints_of a in
     let long = trees.constraints_length v a.copied.now w.user.now w.roots.now w.sizes.now w.widths.now w.pairs.now in
@@ -43,7 +43,7 @@ pub constraint_items-l-requires : goal.constraint_items-l-requires
 unfolding body
 constraint_items-l-requires c =
     let a = c.args.self.now in
-    let w = a.words in
+    let w = a.words.now in
     let v = w.params in
     let es = constraints_of a in
     let long = trees.constraints_length v a.copied.now w.user.now w.roots.now w.sizes.now w.widths.now w.pairs.now in
@@ -55,7 +55,7 @@ pub list_head-requires : goal.list_head-requires
 unfolding body
 list_head-requires c =
     let a = c.args.self.now in
-    let w = a.words in
+    let w = a.words.now in
     let v = w.params in
     let es = constraints_of a in
     let long = trees.constraints_length v a.copied.now w.user.now w.roots.now w.sizes.now w.widths.now w.pairs.now in
@@ -67,7 +67,7 @@ list_head-requires c =
 pub returns : goal.returns
 returns c =
     let a = c.args.self.now in
-    let w = a.words in
+    let w = a.words.now in
     let v = w.params in
     let es = constraints_of a in
     let long = trees.constraints_length v a.copied.now w.user.now w.roots.now w.sizes.now w.widths.now w.pairs.now in

@@ -13,7 +13,7 @@ use Rattle.preprocessor_compose.proofs.words.Input.outer.Goals as goal
 pub zero_check-requires : goal.zero_check-requires
 zero_check-requires c =
     let a = c.args.self.now in
-    let w = a.words in
+    let w = a.words.now in
     let v = w.params in
     let hs = constraints_of a in
     let es = outer_trees v hs in
@@ -25,7 +25,7 @@ zero_check-requires c =
 pub returns-then-self-eq0 : goal.returns-then-self-eq0
 returns-then-self-eq0 c =
     let a = c.args.self.now in
-    let w = a.words in
+    let w = a.words.now in
     let v = w.params in
     let hs = constraints_of a in
     let es = outer_trees v hs in
@@ -37,7 +37,7 @@ pub outer_items-l-requires : goal.outer_items-l-requires
 unfolding compose_tree body
 outer_items-l-requires c =
     let a = c.args.self.now in
-    let w = a.words in
+    let w = a.words.now in
     let v = w.params in
     let hs = constraints_of a in
     let es = outer_trees v hs in
@@ -50,7 +50,7 @@ pub list_head-requires : goal.list_head-requires
 unfolding compose_tree body
 list_head-requires c =
     let a = c.args.self.now in
-    let w = a.words in
+    let w = a.words.now in
     let v = w.params in
     let hs = constraints_of a in
     let es = outer_trees v hs in
@@ -64,7 +64,7 @@ pub returns : goal.returns
 unfolding compose_tree
 returns c =
     let a = c.args.self.now in
-    let w = a.words in
+    let w = a.words.now in
     let v = w.params in
     let hs = constraints_of a in
     let es = outer_trees v hs in
