@@ -12,6 +12,7 @@ ghost use Rattle.hyperplonk_prepare.specs.Prepared.{Prepared};
 use backend_sections::reader::{constraints_of, nodes_of, pairs_of, widths_of};
 use preprocessor::CircuitParams;
 use preprocessor_compose::compose;
+use preprocessor_compose::words::{CircuitWords, Input};
 
 // The words that are composed at a time to be compared.
 const WINDOW: usize = 2048;
@@ -32,9 +33,19 @@ pub fn compose_nodes(
     let roots = constraints_of(circuit);
     let widths = widths_of(circuit);
     let pairs = pairs_of(circuit);
-    compose(
-        copied, user, roots, sizes, widths, pairs, nodes, from, params,
-    )
+    let words = CircuitWords {
+        user,
+        roots,
+        sizes,
+        widths,
+        pairs,
+        params,
+    };
+    let input = Input {
+        words: &words,
+        copied,
+    };
+    compose(&input, nodes, from)
 }
 
 // Are the words the same?

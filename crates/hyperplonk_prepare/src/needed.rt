@@ -13,6 +13,7 @@ use crate::group_sizes_of;
 use backend_sections::contents::INSTANCE_COUNT;
 use backend_sections::reader::{constraints_of, nodes_of, pairs_of, widths_of};
 use preprocessor::CircuitParams;
+use preprocessor_compose::words::CircuitWords;
 
 // The column words needed.
 pub fn column_words(circuit: &[u64], params: CircuitParams) -> usize
@@ -40,15 +41,15 @@ fn composed_count(circuit: &[u64], params: CircuitParams, item: u64) -> u64
     let groups = group_sizes_of(circuit);
     let count = groups.count;
     let sizes = groups.of;
-    preprocessor_compose::count::composed_nodes(
+    let words = CircuitWords {
         user,
         roots,
-        &sizes[0..count],
+        sizes: &sizes[0..count],
         widths,
         pairs,
         params,
-        item,
-    )
+    };
+    preprocessor_compose::count::composed_nodes(&words, item)
 }
 
 // The nodes that the composed expression takes.

@@ -1,18 +1,20 @@
 // The composed constraints: user, lookup and permutation constraints by powers of alpha, written as node words into a lent buffer.
 ghost use Rattle.std.specs.Prelude.{◌≡◌, ◌+◌, ◌*◌, ◌≤◌, ◌<◌, ◌^◌, length, get_or};
 ghost use Rattle.expression.specs.Expr.{Expr, distribute_powers};
-ghost use Rattle.expression.specs.Flat.{size, sizes as sizes_of, extra};
+ghost use Rattle.expression.specs.Flat.{size, sizes, extra};
 ghost use Rattle.expression.specs.Written.{most_words, ExprWritten, WrittenList};
-ghost use Rattle.preprocessor.specs.ComposeWords.{constraints_from_words, exprs_from, Limits, ComposeInput, num_constraints};
+ghost use Rattle.preprocessor.specs.ComposeWords.{exprs_from, Limits, num_constraints};
 
+use crate::words::Input;
 use expression::kind;
 use expression_nodes::index;
-use expression_write::operations::{Listed, item, list_end, list_head};
-use expression_write::{copy_expr, push};
+use expression_write::operations::{item, list_end, list_head};
+use expression_write::{Listed, copy_expr, push};
+use lists::sum_before;
 use preprocessor::CircuitParams;
-use preprocessor_constraints::group::{Members, lookup_constraint};
-use preprocessor_constraints::lookup::sum_before;
-use preprocessor_constraints::permutation::{part_constraint, start_constraint};
+use preprocessor_constraints::factors::Copied;
+use preprocessor_constraints::group::Members;
+use preprocessor_constraints::lookup::Lookups;
 
 // How many constraints there are.
 pub fn num_constraints(own: usize, params: CircuitParams) -> usize
@@ -25,124 +27,75 @@ pub fn num_constraints(own: usize, params: CircuitParams) -> usize
     own + params.num_groups + (1 + params.num_chunks)
 }
 
-// Where nodes are written: node `at` is next, in a buffer that stands for the words from word `from` on.
-#[derive(Clone, Copy)]
-pub struct Place {
-    pub from: usize,
-    pub at: usize,
-}
+impl Input<'_> {
+    ghost use Rattle.preprocessor_compose.specs.Input.{count_of, constraints_of};
 
-// The same, with the number of the item that is written next.
-#[derive(Clone, Copy)]
-pub struct ItemPlace {
-    pub i: usize,
-    pub from: usize,
-    pub at: usize,
-}
-
-// Constraint i: "user, lookup, permutation constraints".
-fn constraint(
-    copied: &[u64],
-    user: &[u64],
-    roots: &[u64],
-    sizes: &[u64],
-    widths: &[u64],
-    pairs: &[u64],
-    out: &mut [u64],
-    params: CircuitParams,
-    place: ItemPlace,
-) -> usize
-    requires { ComposeInput params copied.now user.now roots.now sizes.now widths.now pairs.now × ((place.i < num_constraints (length roots.now) params) × ((place.at + size (get_or (constraints_from_words params copied.now user.now roots.now sizes.now widths.now pairs.now) place.i (Expr.constant 0))) * 4 ≤ most_words)) }
-    ensures { ExprWritten place.from (get_or (constraints_from_words params copied.now user.now roots.now sizes.now widths.now pairs.now) place.i (Expr.constant 0)) place.at out.old out.new result }
-{
-    let own = roots.len();
-    let i = place.i;
-    if i < own {
-        let n = index(roots[i]);
-        return copy_expr(user, out, place.from, n, place.at);
-    }
-    let j = i - own;
-    if j < params.num_groups {
-        let count = index(sizes[j]);
-        let first = sum_before(sizes, j);
-        let members = Members { first, count };
-        return lookup_constraint(
-            user, pairs, widths, out, place.from, params, j, members, place.at,
-        );
-    }
-    let p = j - params.num_groups;
-    if p == 0 {
-        return start_constraint(out, place.from, params, place.at);
-    }
-    part_constraint(copied, out, place.from, params, p - 1, place.at)
-}
-
-// The constraints from number i on, the base, the Items.
-fn constraint_items(
-    copied: &[u64],
-    user: &[u64],
-    roots: &[u64],
-    sizes: &[u64],
-    widths: &[u64],
-    pairs: &[u64],
-    out: &mut [u64],
-    params: CircuitParams,
-    place: ItemPlace,
-) -> Listed
-    requires { ComposeInput params copied.now user.now roots.now sizes.now widths.now pairs.now × ((place.i < num_constraints (length roots.now) params) × ((place.at + sizes_of (exprs_from (constraints_from_words params copied.now user.now roots.now sizes.now widths.now pairs.now) place.i) + extra (exprs_from (constraints_from_words params copied.now user.now roots.now sizes.now widths.now pairs.now) place.i) + 2) * 4 ≤ most_words)) }
-    ensures { WrittenList place.from (exprs_from (constraints_from_words params copied.now user.now roots.now sizes.now widths.now pairs.now) place.i) (Expr.challenge (params.num_challenges + 2)) place.at out.old out.new result.next result.base }
-{
-    let n = num_constraints(roots.len(), params);
-    let x = constraint(
-        copied, user, roots, sizes, widths, pairs, out, params, place,
-    );
-    if place.i + 1 < n {
-        let i = place.i + 1;
-        let after = ItemPlace {
-            i,
-            from: place.from,
-            at: x,
+    // Constraint i: "user, lookup, permutation constraints".
+    fn constraint(&self, out: &mut [u64], from: usize, i: usize, at: usize) -> usize
+        requires below { i < count_of self.now }
+        requires room { (at + size (get_or (constraints_of self.now) i (Expr.constant 0))) * 4 ≤ most_words }
+        ensures { ExprWritten from (get_or (constraints_of self.now) i (Expr.constant 0)) at out.old out.new result }
+    {
+        let words = self.words;
+        let params = words.params;
+        let own = words.roots.len();
+        if i < own {
+            let n = index(words.roots[i]);
+            return copy_expr(words.user, out, from, n, at);
+        }
+        let j = i - own;
+        if j < params.num_groups {
+            let count = index(words.sizes[j]);
+            let first = sum_before(words.sizes, j);
+            let members = Members { first, count };
+            let lookups = Lookups {
+                user: words.user,
+                widths: words.widths,
+                pairs: words.pairs,
+                params,
+            };
+            return lookups.lookup_constraint(members, out, from, j, at);
+        }
+        let p = j - params.num_groups;
+        let copied = Copied {
+            copied: self.copied,
+            params,
         };
-        let l = constraint_items(
-            copied, user, roots, sizes, widths, pairs, out, params, after,
-        );
-        let next = item(out, place.from, x, l.next);
-        return Listed { next, base: l.base };
+        if p == 0 {
+            return copied.start_constraint(out, from, at);
+        }
+        copied.part_constraint(out, from, p - 1, at)
     }
-    list_end(out, place.from, x, params.num_challenges + 2)
-}
 
-// The constraints by powers of alpha.
-pub fn constraint_powers(
-    copied: &[u64],
-    user: &[u64],
-    roots: &[u64],
-    sizes: &[u64],
-    widths: &[u64],
-    pairs: &[u64],
-    out: &mut [u64],
-    params: CircuitParams,
-    place: Place,
-) -> usize
-    requires { ComposeInput params copied.now user.now roots.now sizes.now widths.now pairs.now × ((place.at + size (distribute_powers (constraints_from_words params copied.now user.now roots.now sizes.now widths.now pairs.now) (Expr.challenge (params.num_challenges + 2)))) * 4 ≤ most_words) }
-    ensures { ExprWritten place.from (distribute_powers (constraints_from_words params copied.now user.now roots.now sizes.now widths.now pairs.now) (Expr.challenge (params.num_challenges + 2))) place.at out.old out.new result }
-{
-    let n = num_constraints(roots.len(), params);
-    if n == 0 {
-        return push(out, place.from, place.at, kind::CONSTANT, 0, 0, 0);
+    // The constraints from number i on, the base, the Items.
+    fn constraint_items(&self, out: &mut [u64], from: usize, i: usize, at: usize) -> Listed
+        requires below { i < count_of self.now }
+        requires room { (at + sizes (exprs_from (constraints_of self.now) i) + extra (exprs_from (constraints_of self.now) i) + 2) * 4 ≤ most_words }
+        ensures { WrittenList from (exprs_from (constraints_of self.now) i) (Expr.challenge (self.now.words.now.params.num_challenges + 2)) at out.old out.new result.next result.base }
+    {
+        let n = num_constraints(self.words.roots.len(), self.words.params);
+        let x = self.constraint(out, from, i, at);
+        if i + 1 < n {
+            let l = self.constraint_items(out, from, i + 1, x);
+            let next = item(out, from, x, l.next);
+            return Listed { next, base: l.base };
+        }
+        list_end(out, from, x, self.words.params.num_challenges + 2)
     }
-    let first = ItemPlace {
-        i: 0,
-        from: place.from,
-        at: place.at,
-    };
-    if n == 1 {
-        return constraint(
-            copied, user, roots, sizes, widths, pairs, out, params, first,
-        );
+
+    // The constraints by powers of alpha.
+    pub fn constraint_powers(&self, out: &mut [u64], from: usize, at: usize) -> usize
+        requires { (at + size (distribute_powers (constraints_of self.now) (Expr.challenge (self.now.words.now.params.num_challenges + 2)))) * 4 ≤ most_words }
+        ensures { ExprWritten from (distribute_powers (constraints_of self.now) (Expr.challenge (self.now.words.now.params.num_challenges + 2))) at out.old out.new result }
+    {
+        let n = num_constraints(self.words.roots.len(), self.words.params);
+        if n == 0 {
+            return push(out, from, at, kind::CONSTANT, 0, 0, 0);
+        }
+        if n == 1 {
+            return self.constraint(out, from, 0, at);
+        }
+        let l = self.constraint_items(out, from, 0, at);
+        list_head(out, from, l)
     }
-    let l = constraint_items(
-        copied, user, roots, sizes, widths, pairs, out, params, first,
-    );
-    list_head(out, place.from, l)
 }

@@ -7,15 +7,19 @@ ghost use Rattle.expression.specs.Flat.{largest_size};
 ghost use Rattle.expression.specs.Walks.{weight};
 ghost use Rattle.backend.specs.Circuit.{Circuit};
 ghost use Rattle.preprocessor.specs.Compose.{compose, lookup_tree_of};
-ghost use Rattle.preprocessor.specs.ComposeWords.{Limits, Words, GroupIn, IsNode, side_tree, table_side, input_sides, groups_from_words, DecodedFrom, permutation_nodes};
+ghost use Rattle.preprocessor.specs.ComposeWords.{Limits, IsNode, groups_from_words, permutation_nodes};
 ghost use Rattle.preprocessor.specs.Count.{nodes_in, list_nodes, group_nodes};
+ghost use Rattle.preprocessor_constraints.specs.Lookups.{side_of, table_of, inputs_of, MembersIn};
+ghost use Rattle.preprocessor_compose.specs.Input.{AreWordsOf};
 
 use crate::constraints::num_constraints;
+use crate::words::CircuitWords;
 use expression_degree::{add_sizes, size_of};
 use expression_nodes::index;
+use lists::sum_before;
 use preprocessor::CircuitParams;
 use preprocessor_constraints::group::Members;
-use preprocessor_constraints::lookup::sum_before;
+use preprocessor_constraints::lookup::Lookups;
 
 // What `distribute_powers` adds to n expressions.
 fn list_nodes(n: usize, item: u64) -> u64
@@ -34,79 +38,67 @@ fn list_nodes(n: usize, item: u64) -> u64
 
 // The nodes of w expressions, whose roots stand `step` words apart from word s on.
 fn roots_nodes(user: &[u64], roots: &[u64], s: usize, step: usize, w: usize, item: u64) -> u64
-    requires { All (IsNode user.now) roots.now × (s + w * step < length roots.now + step) }
+    requires named { All (IsNode user.now) roots.now }
+    requires bound { s + w * step < length roots.now + step }
     ensures { result ≡ min largest_size (nodes_in item (tabulate (λ i. expr_of user.now (get_or roots.now (s + i * step) 0)) w)) }
 {
     let mut sum: u64 = 0;
-    let mut i = 0;
-    while i < w {
+    for i in 0..w {
         let n = index(roots[s + i * step]);
         sum = add_sizes(sum, size_of(user, n, item));
-        i += 1;
     }
     sum
 }
 
 // The nodes of a lookup's side, with gamma.
-fn side_nodes(user: &[u64], pairs: &[u64], beta: usize, s: usize, w: usize, item: u64) -> u64
-    requires { All (IsNode user.now) pairs.now × (s + w * 2 ≤ length pairs.now + 1) × (item ≤ 1) }
-    ensures { result ≡ min largest_size (weight item (side_tree user.now pairs.now beta s w)) }
+fn side_nodes(lookups: &Lookups, s: usize, w: usize, item: u64) -> u64
+    requires bound { s + w * 2 ≤ length lookups.now.pairs.now + 1 }
+    requires one { item ≤ 1 }
+    ensures { result ≡ min largest_size (weight item (side_of lookups.now s w)) }
 {
-    let x = roots_nodes(user, pairs, s, 2, w, item);
+    let x = roots_nodes(lookups.user, lookups.pairs, s, 2, w, item);
     let y = list_nodes(w, item);
     let z = add_sizes(x, y);
     add_sizes(z, 2)
 }
 
 // The nodes of the inputs of a group.
-fn inputs_nodes(
-    user: &[u64],
-    widths: &[u64],
-    pairs: &[u64],
-    beta: usize,
-    members: Members,
-    item: u64,
-) -> u64
-    requires { GroupIn user.now widths.now pairs.now beta members.first members.count × (item ≤ 1) }
-    ensures { result ≡ min largest_size (nodes_in item (input_sides user.now widths.now pairs.now beta members.first members.count)) }
+fn inputs_nodes(lookups: &Lookups, members: Members, item: u64) -> u64
+    requires members_in { MembersIn lookups.now members.first members.count }
+    requires one { item ≤ 1 }
+    ensures { result ≡ min largest_size (nodes_in item (inputs_of lookups.now members.first members.count)) }
 {
     let mut sum: u64 = 0;
-    let mut s = sum_before(widths, members.first);
-    let mut i = 0;
-    while i < members.count {
-        let w = index(widths[members.first + i]);
-        let x = side_nodes(user, pairs, beta, s * 2, w, item);
+    let mut s = sum_before(lookups.widths, members.first);
+    for i in 0..members.count {
+        let w = index(lookups.widths[members.first + i]);
+        let x = side_nodes(lookups, s * 2, w, item);
         sum = add_sizes(sum, x);
         s += w;
-        i += 1;
     }
     sum
 }
 
 // The nodes of the table of lookup i.
-fn table_nodes(user: &[u64], widths: &[u64], pairs: &[u64], beta: usize, i: usize, item: u64) -> u64
-    requires { All (IsNode user.now) pairs.now × ((total widths.now * 2 ≤ length pairs.now) × ((i < length widths.now) × (item ≤ 1))) }
-    ensures { result ≡ min largest_size (weight item (table_side user.now widths.now pairs.now beta i)) }
+fn table_nodes(lookups: &Lookups, i: usize, item: u64) -> u64
+    requires below { i < length lookups.now.widths.now }
+    requires one { item ≤ 1 }
+    ensures { result ≡ min largest_size (weight item (table_of lookups.now i)) }
 {
-    let s = sum_before(widths, i);
-    let w = index(widths[i]);
-    side_nodes(user, pairs, beta, s * 2 + 1, w, item)
+    let s = sum_before(lookups.widths, i);
+    let w = index(lookups.widths[i]);
+    side_nodes(lookups, s * 2 + 1, w, item)
 }
 
 // The nodes of a group's constraint.
-fn group_nodes(
-    user: &[u64],
-    widths: &[u64],
-    pairs: &[u64],
-    beta: usize,
-    members: Members,
-    item: u64,
-) -> u64
-    requires { GroupIn user.now widths.now pairs.now beta members.first members.count × ((members.count ≤ 8) × (item ≤ 1)) }
-    ensures { result ≡ min largest_size (group_nodes members.count (nodes_in item (input_sides user.now widths.now pairs.now beta members.first members.count)) (weight item (table_side user.now widths.now pairs.now beta members.first))) }
+fn group_nodes(lookups: &Lookups, members: Members, item: u64) -> u64
+    requires members_in { MembersIn lookups.now members.first members.count }
+    requires few { members.count ≤ 8 }
+    requires one { item ≤ 1 }
+    ensures { result ≡ min largest_size (group_nodes members.count (nodes_in item (inputs_of lookups.now members.first members.count)) (weight item (table_of lookups.now members.first))) }
 {
-    let inputs = inputs_nodes(user, widths, pairs, beta, members, item);
-    let table = table_nodes(user, widths, pairs, beta, members.first, item);
+    let inputs = inputs_nodes(lookups, members, item);
+    let table = table_nodes(lookups, members.first, item);
     let x = add_sizes(inputs, members.count as u64);
     let y = (members.count as u64 + 1) * x;
     let z = add_sizes(y, table);
@@ -115,28 +107,24 @@ fn group_nodes(
 }
 
 // The nodes of the groups' constraints.
-fn groups_nodes(
-    user: &[u64],
-    roots: &[u64],
-    sizes: &[u64],
-    widths: &[u64],
-    pairs: &[u64],
-    params: CircuitParams,
-    item: u64,
-) -> u64
-    requires { Words params user.now roots.now sizes.now widths.now pairs.now × (item ≤ 1) }
-    ensures { result ≡ min largest_size (nodes_in item (tabulate (lookup_tree_of params (groups_from_words user.now sizes.now widths.now pairs.now)) params.num_groups)) }
+fn groups_nodes(words: &CircuitWords, item: u64) -> u64
+    requires { item ≤ 1 }
+    ensures { result ≡ min largest_size (nodes_in item (tabulate (lookup_tree_of words.now.params (groups_from_words words.now.user.now words.now.sizes.now words.now.widths.now words.now.pairs.now)) words.now.params.num_groups)) }
 {
+    let lookups = Lookups {
+        user: words.user,
+        widths: words.widths,
+        pairs: words.pairs,
+        params: words.params,
+    };
     let mut sum: u64 = 0;
     let mut first = 0;
-    let mut j = 0;
-    while j < params.num_groups {
-        let count = index(sizes[j]);
+    for j in 0..words.params.num_groups {
+        let count = index(words.sizes[j]);
         let members = Members { first, count };
-        let x = group_nodes(user, widths, pairs, params.num_challenges, members, item);
+        let x = group_nodes(&lookups, members, item);
         sum = add_sizes(sum, x);
         first += count;
-        j += 1;
     }
     sum
 }
@@ -153,22 +141,15 @@ fn permutation_nodes(params: CircuitParams) -> u64
 }
 
 // The nodes of the composed expression.
-pub fn composed_nodes(
-    user: &[u64],
-    roots: &[u64],
-    sizes: &[u64],
-    widths: &[u64],
-    pairs: &[u64],
-    params: CircuitParams,
-    item: u64,
-) -> u64
-    requires { Words params user.now roots.now sizes.now widths.now pairs.now × (item ≤ 1) }
-    ensures { (c : Circuit) (names : List ℕ) → DecodedFrom c params names user.now roots.now sizes.now widths.now pairs.now → result ≡ min largest_size (weight item (compose c)) }
+pub fn composed_nodes(words: &CircuitWords, item: u64) -> u64
+    requires { item ≤ 1 }
+    ensures { (c : Circuit) (names : List ℕ) → AreWordsOf c names words.now → result ≡ min largest_size (weight item (compose c)) }
 {
-    let own = roots_nodes(user, roots, 0, 1, roots.len(), item);
-    let groups = groups_nodes(user, roots, sizes, widths, pairs, params, item);
+    let params = words.params;
+    let own = roots_nodes(words.user, words.roots, 0, 1, words.roots.len(), item);
+    let groups = groups_nodes(words, item);
     let permutation = permutation_nodes(params);
-    let n = num_constraints(roots.len(), params);
+    let n = num_constraints(words.roots.len(), params);
     let x = add_sizes(own, groups);
     let y = add_sizes(x, permutation);
     let z = add_sizes(y, list_nodes(n, item));

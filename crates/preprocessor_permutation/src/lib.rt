@@ -9,16 +9,15 @@ ghost use Rattle.backend.specs.Circuit.{Cell, cells_of, max_polys};
 ghost use Rattle.preprocessor.specs.Permutation.{Once, Starts, Walkable, CycleIn, Walked, cell_word, permutation_columns};
 
 use backend::MAX_POLYS;
+use std::mem;
 
 // The first labels of `count` cells: column idx of the sorted list starts as idx × 2^k + row, so that the words are 0, 1, 2, …
 fn first_labels(columns: &mut [u64], at: usize, count: usize)
     requires { at + count ≤ length columns.old }
     ensures { columns.new ≡ write_at columns.old at (range count) }
 {
-    let mut j = 0;
-    while j < count {
+    for j in 0..count {
         columns[at + j] = j as u64;
-        j += 1;
     }
 }
 
@@ -28,11 +27,8 @@ fn column_starts(copied: &[u64], rows: usize, at: usize) -> [u64; MAX_POLYS]
     ensures { Starts result copied.now rows at }
 {
     let mut starts = [0; MAX_POLYS];
-    let mut i = 0;
-    while i < copied.len() {
-        let q = copied[i] as usize;
-        starts[q] = (at + i * rows) as u64;
-        i += 1;
+    for (i, q) in copied.iter().enumerate() {
+        starts[*q as usize] = (at + i * rows) as u64;
     }
     starts
 }
@@ -63,9 +59,7 @@ fn exchange(
 {
     let q = polynomial as usize;
     let word = starts[q] as usize + row as usize;
-    let held = columns[word];
-    columns[word] = label;
-    held
+    mem::replace(&mut columns[word], label)
 }
 
 // Along a cycle each cell takes the label that the cell before held when the cycle began, the first that of the last.
@@ -79,10 +73,8 @@ fn walk_cycle(columns: &mut [u64], starts: &[u64; MAX_POLYS], cells: &[u64])
     let count = cells.len() / 2;
     let last = count - 1;
     let mut label = cell_label(columns, starts, cells[last * 2], cells[last * 2 + 1]);
-    let mut i = 0;
-    while i < count {
+    for i in 0..count {
         label = exchange(columns, starts, cells[i * 2], cells[i * 2 + 1], label);
-        i += 1;
     }
 }
 
@@ -104,11 +96,9 @@ pub fn permutation_polys(
     first_labels(columns, at, copied.len() * rows);
     let starts = column_starts(copied, rows, at);
     let mut start: usize = 0;
-    let mut i = 0;
-    while i < lengths.len() {
-        let end = start + lengths[i] as usize * 2;
+    for count in lengths {
+        let end = start + *count as usize * 2;
         walk_cycle(columns, &starts, &cells[start..end]);
         start = end;
-        i += 1;
     }
 }

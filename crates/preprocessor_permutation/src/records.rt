@@ -24,13 +24,9 @@ pub fn walk_cells(columns: &mut [u64], starts: &[u64; MAX_POLYS], cells: &[Cell]
         × CycleIn starts.now (cycle_of cells.now) (length columns.old) }
     ensures { Walked starts.now (cycle_of cells.now) columns.old columns.new }
 {
-    let count = cells.len();
-    let last = cells[count - 1];
+    let last = cells[cells.len() - 1];
     let mut label = cell_label(columns, starts, last.polynomial, last.row);
-    let mut i = 0;
-    while i < count {
-        let cell = cells[i];
+    for cell in cells {
         label = exchange(columns, starts, cell.polynomial, cell.row, label);
-        i += 1;
     }
 }

@@ -15,9 +15,20 @@ widths_of-widths-requires c = laid_of c.args.circuit.now c.requires.0.accepted
 pub pairs_of-pairs-requires : goal.pairs_of-pairs-requires
 pairs_of-pairs-requires c = laid_of c.args.circuit.now c.requires.0.accepted
 
+pub invariant_of-words : goal.invariant_of-words
+invariant_of-words c =
+    let g = asked c.args.circuit.now c.args.copied.now c.args.sizes.now c.args.params c.requires.0 _ _ _ _ c.nodes_of-user.ensures c.constraints_of-roots.ensures c.widths_of-widths.ensures c.pairs_of-pairs.ensures c.requires.1 in
+    record { fits = g.0.words }
+
+pub invariant_of-input : goal.invariant_of-input
+invariant_of-input c =
+    let g = asked c.args.circuit.now c.args.copied.now c.args.sizes.now c.args.params c.requires.0 _ _ _ _ c.nodes_of-user.ensures c.constraints_of-roots.ensures c.widths_of-widths.ensures c.pairs_of-pairs.ensures c.requires.1 in
+    record { all_copied = g.0.all_copied }
+
 pub compose-requires : goal.compose-requires
 compose-requires c =
-    asked c.args.circuit.now c.args.copied.now c.args.sizes.now c.args.params c.requires.0 _ _ _ _ c.nodes_of-user.ensures c.constraints_of-roots.ensures c.widths_of-widths.ensures c.pairs_of-pairs.ensures c.requires.1
+    let g = asked c.args.circuit.now c.args.copied.now c.args.sizes.now c.args.params c.requires.0 _ _ _ _ c.nodes_of-user.ensures c.constraints_of-roots.ensures c.widths_of-widths.ensures c.pairs_of-pairs.ensures c.requires.1 in
+    g.1
 
 pub returns : goal.returns
 returns c =

@@ -1,8 +1,5 @@
 use Rattle.preprocessor.proofs.Composed.{composed_written}
 use Rattle.preprocessor_compose.proofs.compose.Goals as goal
 
-pub outer-requires : goal.outer-requires
-outer-requires c = c.requires
-
 pub returns : goal.returns
 returns c k p = composed_written p c.outer.ensures

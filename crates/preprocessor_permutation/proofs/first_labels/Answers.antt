@@ -1,4 +1,5 @@
 -- The first j words are 0, 1, …, j - 1.
+use native.Mathlib.Omega.{arith}
 use Rattle.preprocessor.proofs.Walks.{first_start, first_next, first_end}
 use Rattle.preprocessor_permutation.proofs.first_labels.Goals as goal
 
@@ -6,7 +7,7 @@ pub loop-j-init : goal.loop-j-init
 loop-j-init c = first_start _ _ _
 
 pub loop-j-preserved : goal.loop-j-preserved
-loop-j-preserved c = first_next _ _ _ _ _ c.requires c.loop-j.invariant c.loop-j-test.true
+loop-j-preserved c = first_next _ _ _ _ _ c.requires c.loop-j.invariant (omega arith)
 
 pub returns : goal.returns
-returns c = first_end _ _ _ _ _ c.loop-j.invariant c.loop-j-test.false
+returns c = first_end _ _ _ _ _ c.loop-j.invariant (omega arith)

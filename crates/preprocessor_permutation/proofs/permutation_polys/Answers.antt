@@ -10,31 +10,31 @@ pub column_starts-starts-requires : goal.column_starts-starts-requires
 column_starts-starts-requires c =
     (c.requires.walkable.once, c.requires.walkable.few, (let h = c.requires.rows_in_bounds in omega arith))
 
-pub loop-i-init : goal.loop-i-init
-loop-i-init c =
+pub loop-count-init : goal.loop-count-init
+loop-count-init c =
     turning_start _ _ _ _ _ c.requires.walkable c.requires.lengths_value _ _ c.requires.rows_in_bounds c.first_labels.ensures
 
 pub overflow_mul-end : goal.overflow_mul-end
-overflow_mul-end c = let h = (turn_fits _ _ _ _ _ c.requires.walkable c.requires.lengths_value _ _ _ _ c.loop-i.invariant c.loop-i-test.true) in record { fits = omega arith }
+overflow_mul-end c = let h = (turn_fits _ _ _ _ _ c.requires.walkable c.requires.lengths_value _ _ _ _ c.loop-count.invariant (omega arith)) in record { fits = omega arith }
 
 pub overflow_add-end : goal.overflow_add-end
-overflow_add-end c = let h = (turn_fits _ _ _ _ _ c.requires.walkable c.requires.lengths_value _ _ _ _ c.loop-i.invariant c.loop-i-test.true) in record { fits = omega arith }
+overflow_add-end c = let h = (turn_fits _ _ _ _ _ c.requires.walkable c.requires.lengths_value _ _ _ _ c.loop-count.invariant (omega arith)) in record { fits = omega arith }
 
 pub offset_bounds-cells-start : goal.offset_bounds-cells-start
-offset_bounds-cells-start c = let h = (turn_fits _ _ _ _ _ c.requires.walkable c.requires.lengths_value _ _ _ _ c.loop-i.invariant c.loop-i-test.true) in record { fits = omega arith }
+offset_bounds-cells-start c = let h = (turn_fits _ _ _ _ _ c.requires.walkable c.requires.lengths_value _ _ _ _ c.loop-count.invariant (omega arith)) in record { fits = omega arith }
 
 pub slice_bounds-walk_cycle-end : goal.slice_bounds-walk_cycle-end
-slice_bounds-walk_cycle-end c = (turn_fits _ _ _ _ _ c.requires.walkable c.requires.lengths_value _ _ _ _ c.loop-i.invariant c.loop-i-test.true)
+slice_bounds-walk_cycle-end c = (turn_fits _ _ _ _ _ c.requires.walkable c.requires.lengths_value _ _ _ _ c.loop-count.invariant (omega arith))
 
 pub walk_cycle-requires : goal.walk_cycle-requires
 walk_cycle-requires c =
-    let p = turn_asks _ _ _ _ _ c.requires.walkable c.requires.lengths_value _ _ _ _ c.loop-i.invariant c.loop-i-test.true c.column_starts-starts.result c.column_starts-starts.ensures ((first_room _ _ _ _ c.requires.rows_in_bounds c.first_labels.ensures)) in
+    let p = turn_asks _ _ _ _ _ c.requires.walkable c.requires.lengths_value _ _ _ _ c.loop-count.invariant (omega arith) c.column_starts-starts.result c.column_starts-starts.ensures ((first_room _ _ _ _ c.requires.rows_in_bounds c.first_labels.ensures)) in
     record { nonzero = p.0; all = p.1.0; cycle_in = p.1.1 }
 
-pub loop-i-preserved : goal.loop-i-preserved
-loop-i-preserved c =
-    turn_next _ _ _ _ _ c.requires.walkable c.requires.lengths_value _ _ _ _ c.loop-i.invariant c.loop-i-test.true c.column_starts-starts.result c.column_starts-starts.ensures ((first_room _ _ _ _ c.requires.rows_in_bounds c.first_labels.ensures)) _ c.walk_cycle.ensures
+pub loop-count-preserved : goal.loop-count-preserved
+loop-count-preserved c =
+    turn_next _ _ _ _ _ c.requires.walkable c.requires.lengths_value _ _ _ _ c.loop-count.invariant (omega arith) c.column_starts-starts.result c.column_starts-starts.ensures ((first_room _ _ _ _ c.requires.rows_in_bounds c.first_labels.ensures)) _ c.walk_cycle.ensures
 
 pub returns : goal.returns
 returns c =
-    turning_end _ _ _ _ _ c.requires.walkable c.requires.lengths_value _ _ c.requires.rows_in_bounds c.first_labels.ensures _ _ _ c.loop-i.invariant c.loop-i-test.false
+    turning_end _ _ _ _ _ c.requires.walkable c.requires.lengths_value _ _ c.requires.rows_in_bounds c.first_labels.ensures _ _ _ c.loop-count.invariant (omega arith)

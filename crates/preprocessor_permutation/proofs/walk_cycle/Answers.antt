@@ -16,11 +16,11 @@ loop-i-init c = walking_start _ _ _ _
 
 pub exchange-label-requires : goal.exchange-label-requires
 exchange-label-requires c =
-    walking_fits _ _ _ _ _ _ _ c.loop-i.invariant c.requires.all c.loop-i-test.true
+    walking_fits _ _ _ _ _ _ _ c.loop-i.invariant c.requires.all (omega arith)
 
 pub loop-i-preserved : goal.loop-i-preserved
 loop-i-preserved c =
-    walking_next _ _ _ _ _ _ _ _ _ c.loop-i.invariant c.loop-i-test.true c.exchange-label.ensures.value
+    walking_next _ _ _ _ _ _ _ _ _ c.loop-i.invariant (omega arith) c.exchange-label.ensures.value
     c.exchange-label.ensures.columns_after
 
 pub shape_of-columns : goal.shape_of-columns
@@ -29,4 +29,4 @@ shape_of-columns c = search rules
 
 pub returns : goal.returns
 returns c =
-    walking_end _ _ _ _ _ _ _ c.requires.nonzero c.requires.cycle_in c.requires.all c.cell_label-label.ensures c.loop-i.invariant c.loop-i-test.false
+    walking_end _ _ _ _ _ _ _ c.requires.nonzero c.requires.cycle_in c.requires.all c.cell_label-label.ensures c.loop-i.invariant (omega arith)

@@ -20,16 +20,16 @@ widths_of-widths-requires c = laid_of c.args.circuit.now c.requires.0
 pub pairs_of-pairs-requires : goal.pairs_of-pairs-requires
 pairs_of-pairs-requires c = laid_of c.args.circuit.now c.requires.0
 
-pub slice_bounds-composed_nodes-end : goal.slice_bounds-composed_nodes-end
-slice_bounds-composed_nodes-end c = let e = c.group_sizes_of-groups.ensures in let p = e.0 in let q = e.1 in omega arith
+pub slice_bounds-words-end : goal.slice_bounds-words-end
+slice_bounds-words-end c = let e = c.group_sizes_of-groups.ensures in let p = e.0 in let q = e.1 in omega arith
 
-pub composed_nodes-requires : goal.composed_nodes-requires
-composed_nodes-requires c =
-    let g = c.group_sizes_of-groups in (
-      words_from c.args.circuit.now c.requires.0 _ _ _ _ _ c.nodes_of-user.ensures c.constraints_of-roots.ensures
-          (ap (λ (n : ℕ). take n g.result.of) (sub-zero g.result.count) ∙ g.ensures.3) c.widths_of-widths.ensures c.pairs_of-pairs.ensures _ c.requires.1,
-      c.requires.2,
-    )
+pub invariant_of-words : goal.invariant_of-words
+invariant_of-words c =
+    let g = c.group_sizes_of-groups in
+    record {
+      fits = words_from c.args.circuit.now c.requires.0 _ _ _ _ _ c.nodes_of-user.ensures c.constraints_of-roots.ensures
+          (ap (λ (n : ℕ). take n g.result.of) (sub-zero g.result.count) ∙ g.ensures.3) c.widths_of-widths.ensures c.pairs_of-pairs.ensures _ c.requires.1;
+    }
 
 pub returns : goal.returns
 returns c =

@@ -12,8 +12,8 @@ one_more : (n : ℕ) → n ≤ 8 → Fits w64 (n + 1)
 one_more n h = omega arith
 
 pub overflow_add-params-2 : goal.overflow_add-params-2
-overflow_add-params-2 c = one_more _ (let l = c.requires.0.limits in omega (arith, l.few_groups, l.few_lookups))
+overflow_add-params-2 c = one_more _ (let l = c.args.words.now.fits.limits in omega (arith, l.few_groups, l.few_lookups))
 
 pub returns : goal.returns
 returns c k names p =
-    counts.composed_counted c.args.item c.add_sizes.result c.roots_nodes-own.result c.groups_nodes-groups.result c.permutation_nodes-permutation.result c.add_sizes-x.result c.add_sizes-y.result c.add_sizes-z.result c.add_sizes-u.result c.list_nodes.result c.list_nodes-2.result c.requires.0.limits p c.roots_nodes-own.ensures c.groups_nodes-groups.ensures c.permutation_nodes-permutation.ensures (c.list_nodes.ensures ∙ ap (λ (n : ℕ). min largest_size (list_nodes c.args.item n)) c.num_constraints-n.ensures) c.list_nodes-2.ensures c.add_sizes-x.ensures c.add_sizes-y.ensures c.add_sizes-z.ensures c.add_sizes-u.ensures c.add_sizes.ensures
+    counts.composed_counted c.args.item c.add_sizes.result c.roots_nodes-own.result c.groups_nodes-groups.result c.permutation_nodes-permutation.result c.add_sizes-x.result c.add_sizes-y.result c.add_sizes-z.result c.add_sizes-u.result c.list_nodes.result c.list_nodes-2.result c.args.words.now.fits.limits p c.roots_nodes-own.ensures c.groups_nodes-groups.ensures c.permutation_nodes-permutation.ensures (c.list_nodes.ensures ∙ ap (λ (n : ℕ). min largest_size (list_nodes c.args.item n)) c.num_constraints-n.ensures) c.list_nodes-2.ensures c.add_sizes-x.ensures c.add_sizes-y.ensures c.add_sizes-z.ensures c.add_sizes-u.ensures c.add_sizes.ensures

@@ -14,19 +14,13 @@ use Rattle.preprocessor_compose.proofs.count.group_nodes.Goals as goal
 few-times : (n x : ℕ) → n ≤ 8 → x ≤ largest_size → Fits w64 ((n + 1) * x)
 few-times n x h l = let q : (n + 1) * x ≤ 9 * largest_size = mul-le-mul {n₂ = 9} {m₂ = largest_size} (omega arith) l in omega arith
 
-pub inputs_nodes-inputs-requires : goal.inputs_nodes-inputs-requires
-inputs_nodes-inputs-requires c = (c.requires.0, c.requires.1.1)
-
-pub table_nodes-table-requires : goal.table_nodes-table-requires
-table_nodes-table-requires c = let g = c.requires.0 in (g.pairs_named, (g.all_pairs, (omega (arith, g.all_members, g.some), c.requires.1.1)))
-
 pub overflow_add-y : goal.overflow_add-y
-overflow_add-y c = omega (arith, c.requires.1.0)
+overflow_add-y c = omega (arith, c.requires.few)
 
 pub overflow_mul-y : goal.overflow_mul-y
-overflow_mul-y c = few-times c.args.members.count c.add_sizes-x.result c.requires.1.0 (omega (arith, c.add_sizes-x.ensures))
+overflow_mul-y c = few-times c.args.members.count c.add_sizes-x.result c.requires.few (omega (arith, c.add_sizes-x.ensures))
 
 pub returns : goal.returns
 returns c =
     let a = c.args in
-    counts.group_counted a.item a.members.count c.inputs_nodes-inputs.result c.table_nodes-table.result c.add_sizes-x.result ((a.members.count + 1) * c.add_sizes-x.result) c.add_sizes-z.result c.add_sizes-u.result c.add_sizes.result (nodes_in a.item (input_sides a.user.now a.widths.now a.pairs.now a.beta a.members.first a.members.count)) (weight a.item (table_side a.user.now a.widths.now a.pairs.now a.beta a.members.first)) c.inputs_nodes-inputs.ensures c.table_nodes-table.ensures c.add_sizes-x.ensures refl c.add_sizes-z.ensures c.add_sizes-u.ensures c.add_sizes.ensures
+    counts.group_counted a.item a.members.count c.inputs_nodes-inputs.result c.table_nodes-table.result c.add_sizes-x.result ((a.members.count + 1) * c.add_sizes-x.result) c.add_sizes-z.result c.add_sizes-u.result c.add_sizes.result (nodes_in a.item (input_sides c.args.lookups.now.user.now c.args.lookups.now.widths.now c.args.lookups.now.pairs.now c.args.lookups.now.params.num_challenges a.members.first a.members.count)) (weight a.item (table_side c.args.lookups.now.user.now c.args.lookups.now.widths.now c.args.lookups.now.pairs.now c.args.lookups.now.params.num_challenges a.members.first)) c.inputs_nodes-inputs.ensures c.table_nodes-table.ensures c.add_sizes-x.ensures refl c.add_sizes-z.ensures c.add_sizes-u.ensures c.add_sizes.ensures

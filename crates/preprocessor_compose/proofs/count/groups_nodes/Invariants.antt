@@ -1,4 +1,4 @@
-use Prim.Native.Nat.{◌-◌, ◌≤◌, min}
+use Prim.Native.Nat.{◌≤◌, min}
 use Rattle.expression.specs.Flat.{largest_size}
 use Rattle.preprocessor.specs.Count.{nodes_in}
 use Rattle.preprocessor.specs.Compose.{lookup_tree_of}
@@ -9,7 +9,4 @@ use mathlib.Core.Path.{◌≡◌}
 use Rattle.preprocessor_compose.proofs.count.groups_nodes.Given as goal
 
 abbrev pub invariant-loop-j : goal.invariant-loop-j
-invariant-loop-j l = (l.j ≤ l.params.num_groups) × ((l.first ≡ total (take l.j l.sizes)) × (l.sum ≡ min largest_size (nodes_in l.item (tabulate (lookup_tree_of l.params (groups_from_words l.user l.sizes l.widths l.pairs)) l.j))))
-
-abbrev pub decreases-loop-j : goal.decreases-loop-j
-decreases-loop-j l = l.params.num_groups - l.j
+invariant-loop-j l = (l.j ≤ l.words.params.num_groups) × ((l.first ≡ total (take l.j l.words.sizes.now)) × (l.sum ≡ min largest_size (nodes_in l.item (tabulate (lookup_tree_of l.words.params (groups_from_words l.words.user.now l.words.sizes.now l.words.widths.now l.words.pairs.now)) l.j))))

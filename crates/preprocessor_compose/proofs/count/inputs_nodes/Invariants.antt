@@ -1,4 +1,4 @@
-use Prim.Native.Nat.{◌+◌, ◌-◌, ◌≤◌, min}
+use Prim.Native.Nat.{◌+◌, ◌≤◌, min}
 use Rattle.expression.specs.Flat.{largest_size}
 use Rattle.preprocessor.specs.Count.{nodes_in}
 use Rattle.preprocessor.specs.ComposeWords.{input_side}
@@ -8,7 +8,4 @@ use mathlib.Core.Path.{◌≡◌}
 use Rattle.preprocessor_compose.proofs.count.inputs_nodes.Given as goal
 
 abbrev pub invariant-loop-i : goal.invariant-loop-i
-invariant-loop-i l = (l.i ≤ l.members.count) × ((l.s ≡ total (take (l.members.first + l.i) l.widths)) × (l.sum ≡ min largest_size (nodes_in l.item (tabulate (λ i. input_side l.user l.widths l.pairs l.beta (l.members.first + i)) l.i))))
-
-abbrev pub decreases-loop-i : goal.decreases-loop-i
-decreases-loop-i l = l.members.count - l.i
+invariant-loop-i l = (l.i ≤ l.members.count) × ((l.s ≡ total (take (l.members.first + l.i) l.lookups.widths.now)) × (l.sum ≡ min largest_size (nodes_in l.item (tabulate (λ i. input_side l.lookups.user.now l.lookups.widths.now l.lookups.pairs.now l.lookups.params.num_challenges (l.members.first + i)) l.i))))

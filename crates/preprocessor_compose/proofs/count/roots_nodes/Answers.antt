@@ -16,24 +16,24 @@ loop-i-init c =
 
 pub overflow_mul-i : goal.overflow_mul-i
 overflow_mul-i c =
-    let b = counts.root_below c.args.s c.args.step c.args.w (length c.args.roots.now) c.loop-i.i c.requires.1 (omega arith) in omega arith
+    let b = counts.root_below c.args.s c.args.step c.args.w (length c.args.roots.now) c.loop-i.i c.requires.bound (omega arith) in omega arith
 
 pub overflow_add-s : goal.overflow_add-s
 overflow_add-s c =
-    let b = counts.root_below c.args.s c.args.step c.args.w (length c.args.roots.now) c.loop-i.i c.requires.1 (omega arith) in omega arith
+    let b = counts.root_below c.args.s c.args.step c.args.w (length c.args.roots.now) c.loop-i.i c.requires.bound (omega arith) in omega arith
 
 pub offset_bounds-roots-s : goal.offset_bounds-roots-s
 offset_bounds-roots-s c =
-    let b = counts.root_below c.args.s c.args.step c.args.w (length c.args.roots.now) c.loop-i.i c.requires.1 (omega arith) in omega arith
+    let b = counts.root_below c.args.s c.args.step c.args.w (length c.args.roots.now) c.loop-i.i c.requires.bound (omega arith) in omega arith
 
 pub bounds-roots-s : goal.bounds-roots-s
 bounds-roots-s c =
-    counts.root_below c.args.s c.args.step c.args.w (length c.args.roots.now) c.loop-i.i c.requires.1 (omega arith)
+    counts.root_below c.args.s c.args.step c.args.w (length c.args.roots.now) c.loop-i.i c.requires.bound (omega arith)
 
 pub size_of-requires : goal.size_of-requires
 size_of-requires c =
-    let b = counts.root_below c.args.s c.args.step c.args.w (length c.args.roots.now) c.loop-i.i c.requires.1 (omega arith) in
-    trees.root_node c.args.user.now c.args.roots.now (c.args.s + c.loop-i.i * c.args.step) c.index-n.result c.requires.0 b c.index-n.ensures
+    let b = counts.root_below c.args.s c.args.step c.args.w (length c.args.roots.now) c.loop-i.i c.requires.bound (omega arith) in
+    trees.root_node c.args.user.now c.args.roots.now (c.args.s + c.loop-i.i * c.args.step) c.index-n.result c.requires.named b c.index-n.ensures
 
 pub loop-i-preserved : goal.loop-i-preserved
 loop-i-preserved c =

@@ -1,4 +1,4 @@
-use Prim.Native.Nat.{◌+◌, ◌*◌, ◌-◌, ◌≤◌, min}
+use Prim.Native.Nat.{◌+◌, ◌*◌, ◌≤◌, min}
 use Rattle.expression.specs.Flat.{largest_size}
 use Rattle.expression.specs.Nodes.{expr_of}
 use Rattle.preprocessor.specs.Count.{nodes_in}
@@ -9,6 +9,3 @@ use Rattle.preprocessor_compose.proofs.count.roots_nodes.Given as goal
 
 abbrev pub invariant-loop-i : goal.invariant-loop-i
 invariant-loop-i l = (l.i ≤ l.w) × (l.sum ≡ min largest_size (nodes_in l.item (tabulate (λ j. expr_of l.user (get_or l.roots (l.s + j * l.step) 0)) l.i)))
-
-abbrev pub decreases-loop-i : goal.decreases-loop-i
-decreases-loop-i l = l.w - l.i

@@ -8,32 +8,32 @@ cell_label-label-requires c =
     let l : length c.args.cells.now - 1 < length c.args.cells.now = let p = c.requires.0 in omega arith in
     cycle.cell c.args.starts.now c.args.cells.now (length c.args.columns.now) (length c.args.cells.now - 1) c.requires.1 l
 
-pub loop-i-init : goal.loop-i-init
-loop-i-init c = cycle.start c.args.starts.now c.args.cells.now c.args.columns.now c.cell_label-label.result
+pub loop-cell-init : goal.loop-cell-init
+loop-cell-init c = cycle.start c.args.starts.now c.args.cells.now c.args.columns.now c.cell_label-label.result
 
 pub exchange-label-requires : goal.exchange-label-requires
 exchange-label-requires c =
-    cycle.fits c.args.starts.now c.args.cells.now c.args.columns.now c.cell_label-label.result c.loop-i.columns c.loop-i.label c.loop-i.i
-    c.loop-i.invariant
+    cycle.fits c.args.starts.now c.args.cells.now c.args.columns.now c.cell_label-label.result c.loop-cell.columns c.loop-cell.label c.loop-cell.cell-index
+    c.loop-cell.invariant
     c.requires.1
-    c.loop-i-test.true
+    (omega arith)
 
-pub loop-i-preserved : goal.loop-i-preserved
-loop-i-preserved c =
-    cycle.next c.args.starts.now c.args.cells.now c.args.columns.now c.cell_label-label.result c.loop-i.columns c.loop-i.label c.loop-i.i
+pub loop-cell-preserved : goal.loop-cell-preserved
+loop-cell-preserved c =
+    cycle.next c.args.starts.now c.args.cells.now c.args.columns.now c.cell_label-label.result c.loop-cell.columns c.loop-cell.label c.loop-cell.cell-index
     c.exchange-label.result
     c.exchange-label.new.columns
-    c.loop-i.invariant
-    c.loop-i-test.true
+    c.loop-cell.invariant
+    (omega arith)
     c.exchange-label.ensures.value
     c.exchange-label.ensures.columns_after
 
 pub returns : goal.returns
 returns c =
-    cycle.end c.args.starts.now c.args.cells.now c.args.columns.now c.cell_label-label.result c.loop-i.columns c.loop-i.label c.loop-i.i
+    cycle.end c.args.starts.now c.args.cells.now c.args.columns.now c.cell_label-label.result c.loop-cell.columns c.loop-cell.label c.loop-cell.cell-index
     c.requires.0
     c.requires.2
     c.requires.1
     c.cell_label-label.ensures
-    c.loop-i.invariant
-    c.loop-i-test.false
+    c.loop-cell.invariant
+    (omega arith)
