@@ -5,12 +5,11 @@ use mathlib.Core.List.{List, [], ◌∷◌, map}
 use Prim.Native.Nat.{ℕ, suc, ◌+◌, ◌-◌, ◌≤◌, ◌<◌}
 use native.Mathlib.Numerals.{add-one}
 use native.Mathlib.Omega.{arith}
-use lib.ListN.{length, get_or, take, drop, drop_of_length-le}
+use lib.ListN.{length, get_or, take, drop}
 use lib.Seq.{take-suc, drop-cons, take_at, drop_at, drop-drop}
-use Rattle.lists.specs.Lists.{tabulate, any_of, filter, count_of, concat, index_of, total, split}
+use Rattle.lists.specs.Lists.{tabulate, any_of, filter, count_of, concat, total, split}
 use Rattle.lists.proofs.Tests.{any_append, any_at, count_append, count_one}
 use Rattle.lists.proofs.Lists.{concat_end}
-use Rattle.lists.proofs.Places.{index_here, index_cons}
 use Rattle.lists.proofs.Columns.{tabulate_length, tabulate_suc, tabulate_append, get_tabulate}
 
 module _ {A : Type 0} (p : A → Bool) where
@@ -63,26 +62,6 @@ count_map p f (x ∷ xs) = go (p (f x)) (count_map p f xs)
         → length (cond t (f x ∷ filter p (map f xs)) (filter p (map f xs))) ≡ length (cond t (x ∷ filter (λ y. p (f y)) xs) (filter (λ y. p (f y)) xs))
     go true e = ap suc e
     go false e = e
-
--- a search for a number: it goes on, stops, or ends
-module _ (q : ℕ) (xs : List ℕ) (i : ℕ) (h : index_of q xs ≡ i + index_of q (drop i xs)) where
-  pub index_on : i < length xs → (get_or xs i 0 ≡ q → ⊥) → index_of q xs ≡ i + 1 + index_of q (drop (i + 1) xs)
-  index_on l ne =
-      let e : index_of q (drop i xs) ≡ suc (index_of q (drop (i + 1) xs)) =
-      ap (index_of q) (drop-cons xs i 0 l) ∙ index_cons q (get_or xs i 0) (drop (suc i) xs) (λ s. ne (sym s))
-      ∙ ap (λ (n : ℕ). suc (index_of q (drop n xs))) (sym (add-one i)) in
-      omega arith
-
-  pub index_stop : i < length xs → get_or xs i 0 ≡ q → i ≡ index_of q xs
-  index_stop l e =
-      let f : index_of q (drop i xs) ≡ 0 = ap (index_of q) (drop-cons xs i 0 l) ∙ index_here q (get_or xs i 0) (drop (suc i) xs) (sym e) in
-      omega arith
-
-  pub index_end : length xs ≤ i → i ≡ index_of q xs
-  unfolding index_of
-  index_end l =
-      let f : index_of q (drop i xs) ≡ 0 = ap (index_of q) (drop_of_length-le xs {i = i} l) in
-      omega arith
 
 -- a part of a column
 pub tabulate_part : {A : Type 0} (f : ℕ → A) (n s m : ℕ) → s + m ≤ n → take m (drop s (tabulate f n)) ≡ tabulate (λ i. f (s + i)) m

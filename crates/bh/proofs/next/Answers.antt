@@ -1,18 +1,9 @@
 use mathlib.Core.Path.{ap, ◌∙◌, subst⁻¹}
 use Prim.Native.Nat.{ℕ, ◌*◌, ◌/◌, ◌%◌, ◌^◌, ◌<◌}
 use lib.Bits.{bit_xor}
-use mir.Syntax.{w64}
-use mir.Val.{Fits}
-use Rattle.bh.proofs.Words.{next_fits, next_code}
+use Rattle.bh.proofs.Words.{next_code}
 use Rattle.bh.proofs.Order.{next_lt}
 use Rattle.bh.proofs.next.Goals as goal
-
-pub overflow_mul-result : goal.overflow_mul-result
-overflow_mul-result c =
-    let k = c.args.k in
-    let b = c.args.b in
-    subst⁻¹ (λ (x : ℕ). Fits w64 (b * 2 % 18446744073709551616 / 2 ^ k * x)) c.primitive.ensures
-    (record { fits = next_fits k c.requires.0 b c.requires.1 })
 
 pub returns : goal.returns
 returns c =

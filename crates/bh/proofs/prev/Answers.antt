@@ -1,18 +1,9 @@
 use mathlib.Core.Path.{ap, ◌∙◌, subst⁻¹}
 use Prim.Native.Nat.{ℕ, ◌*◌, ◌/◌, ◌^◌, ◌<◌}
 use lib.Bits.{bit_xor, bit_and}
-use mir.Syntax.{w64}
-use mir.Val.{Fits}
-use Rattle.bh.proofs.Words.{prev_fits, prev_code}
+use Rattle.bh.proofs.Words.{prev_code}
 use Rattle.bh.proofs.Order.{prev_lt}
 use Rattle.bh.proofs.prev.Goals as goal
-
-pub overflow_mul-result : goal.overflow_mul-result
-overflow_mul-result c =
-    let k = c.args.k in
-    let b = c.args.b in
-    subst⁻¹ (λ (x : ℕ). Fits w64 (bit_and b 1 * x)) c.x_inv.ensures
-    (record { fits = prev_fits k c.requires.0 b c.requires.1 })
 
 pub returns : goal.returns
 returns c =
