@@ -1,4 +1,5 @@
 // Are two expressions one tree, by shape and words? Node n is kept as the place n + 1; place 0 is no node, and reads as Constant 0.
+// Kept: the walk ends by the sum of the two places, of which no node is the least, so an Option would be made this number again.
 #![tactic(auto)]
 
 ghost use Rattle.std.specs.Prelude.{◌≡◌, cond, ◌&&◌, suc, ◌+◌, ◌*◌, ◌-◌, ◌≤◌, ◌<◌, ltb, length};

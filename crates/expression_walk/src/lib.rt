@@ -2,11 +2,13 @@
 // only, and the walk goes down by their numbers.
 #![tactic(auto)]
 
-ghost use Rattle.std.specs.Prelude.{◌≡◌, ℕ, ◌+◌, ◌*◌, ◌≤◌, length};
+ghost use Rattle.std.specs.Prelude.{◌≡◌, ◌≢◌, ℕ, ◌+◌, ◌*◌, ◌≤◌, length};
 ghost use Rattle.expression.specs.Expr.{Ops, evaluate, powers_first, powers_rest};
 ghost use Rattle.expression.specs.Nodes.{expr_of, items_of, under, no_expr, decode_signed};
+ghost use Rattle.expression.specs.Read.{node_at};
 
 use expression::kind;
+use expression::node::Node;
 use expression_nodes::{index, read_node};
 
 // What is computed at each node (the functions that Rust's `evaluate` takes), over values of one type. `ops` are the operations
@@ -52,20 +54,46 @@ pub trait Operations {
 }
 
 // What the expression at node n computes.
-#[cycle(walk)]
 pub fn node<O: Operations>(ops: &O, nodes: &[u64], n: usize) -> O::Value
     requires { n * 4 + 4 ≤ length nodes.now }
     ensures { O.meaning result ≡ evaluate (O.ops ops.now) (expr_of nodes.now n) }
 {
-    let d = read_node(nodes, n);
+    lower(ops, nodes, nodes.len() / 4, n as u64)
+}
+
+// What node a computes where it is below n, and else what the constant 0 does. A query and a challenge are read at once.
+#[cycle(walk)]
+pub fn lower<O: Operations>(ops: &O, nodes: &[u64], n: usize, a: u64) -> O::Value
+    requires { n * 4 ≤ length nodes.now }
+    ensures { O.meaning result ≡ evaluate (O.ops ops.now) (under n no_expr (expr_of nodes.now) a) }
+{
+    let b = index(a);
+    if b < n {
+        let d = read_node(nodes, b);
+        let kind = d.kind;
+        if kind == kind::POLYNOMIAL {
+            return ops.poly(d.first, d.value);
+        }
+        if kind == kind::CHALLENGE {
+            return ops.challenge(d.first);
+        }
+        return inner(ops, nodes, b, d);
+    }
+    ops.constant(0)
+}
+
+// What node n computes, of the words d. `lower` reads a query and a challenge itself, and calls this for the other kinds.
+#[cycle(walk)]
+fn inner<O: Operations>(ops: &O, nodes: &[u64], n: usize, d: Node) -> O::Value
+    requires { (n * 4 + 4 ≤ length nodes.now) × (d ≡ node_at nodes.now n) × (d.kind ≢ 5) × (d.kind ≢ 6) }
+    ensures { O.meaning result ≡ evaluate (O.ops ops.now) (expr_of nodes.now n) }
+{
     let kind = d.kind;
     match kind {
         kind::CONSTANT => ops.constant(d.value),
         kind::IDENTITY => ops.identity(),
         kind::LAGRANGE => ops.lagrange(d.value),
         kind::EQ_XY => ops.eq_xy(d.value),
-        kind::POLYNOMIAL => ops.poly(d.first, d.value),
-        kind::CHALLENGE => ops.challenge(d.first),
         kind::NEGATED => {
             let x = lower(ops, nodes, n, d.first);
             ops.negated(x)
@@ -94,27 +122,6 @@ pub fn node<O: Operations>(ops: &O, nodes: &[u64], n: usize) -> O::Value
         }
         _ => ops.constant(0),
     }
-}
-
-// What node a computes where it is below n, and else what the constant 0 does. A query and a challenge are read at once.
-#[cycle(walk)]
-pub fn lower<O: Operations>(ops: &O, nodes: &[u64], n: usize, a: u64) -> O::Value
-    requires { n * 4 ≤ length nodes.now }
-    ensures { O.meaning result ≡ evaluate (O.ops ops.now) (under n no_expr (expr_of nodes.now) a) }
-{
-    let b = index(a);
-    if b < n {
-        let d = read_node(nodes, b);
-        let kind = d.kind;
-        if kind == kind::POLYNOMIAL {
-            return ops.poly(d.first, d.value);
-        }
-        if kind == kind::CHALLENGE {
-            return ops.challenge(d.first);
-        }
-        return node(ops, nodes, b);
-    }
-    ops.constant(0)
 }
 
 // The chain that begins at Item n, by powers of base.

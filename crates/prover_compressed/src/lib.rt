@@ -97,12 +97,7 @@ fn compressed_at(
 }
 
 // One compressed column, through the row order once.
-fn lookup_compressed_poly(
-    lent: &Lent,
-    columns: &mut [u64],
-    polys: CompressedPolys,
-    roots: Roots,
-)
+fn lookup_compressed_poly(lent: &Lent, columns: &mut [u64], polys: CompressedPolys, roots: Roots)
     requires { Behind polys.k polys.layout lent.now.nodes.now columns.old polys.to (2 ^ polys.k) × ((roots.start + roots.width) * 2 ≤ length lent.now.pairs.now) × (roots.side < 2) }
     ensures { columns.new ≡ write_at columns.old polys.to (tabulate (λ b. val (compressed_in 𝔾 (environment_from_words lent.now.circuit.now lent.now.witness.now columns.old lent.now.challenges.now polys.layout polys.k) (elem polys.beta) (roots_of lent.now.nodes.now lent.now.pairs.now roots) b)) (2 ^ polys.k)) }
 {

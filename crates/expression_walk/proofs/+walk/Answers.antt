@@ -94,7 +94,7 @@ lower-returns-then-b-n g t c =
     let o = g.O.Operations.ops a.ops.now in
     let ws = a.nodes.now in
     let x = c.index-b in
-    ways.met_lower o ws a.n a.a x.result (m c.node.result) x.ensures c.if-b-n.true c.node.ensures
+    ways.met_lower o ws a.n a.a x.result (m c.inner.result) x.ensures c.if-b-n.true c.inner.ensures
 
 pub lower-returns : goal.lower-returns
 lower-returns g t c =
@@ -104,129 +104,111 @@ lower-returns g t c =
     let ws = a.nodes.now in
     c.constant.ensures ∙ ways.met_not_lower o ws a.n a.a c.index-b.result c.index-b.ensures c.if-b-n.false
 
-pub node-returns-then-item-n : goal.node-returns-then-item-n
-node-returns-then-item-n g t c =
+pub inner-returns-then-item-n : goal.inner-returns-then-item-n
+inner-returns-then-item-n g t c =
     let a = c.args in
     let m = g.O.Operations.meaning in
     let o = g.O.Operations.ops a.ops.now in
     let ws = a.nodes.now in
-    let d = c.read_node-d in
-    ways.met_powers o ws a.n d.result d.ensures c.index-item.result c.index-item.ensures (m c.lower-base.result) c.lower-base.ensures (m c.chain.result) c.in-11.is c.if-item-n.true c.chain.ensures
+    let d = a.d in
+    ways.met_powers o ws a.n d c.requires.1 c.index-item.result c.index-item.ensures (m c.lower-base.result) c.lower-base.ensures (m c.chain.result) c.in-11.is c.if-item-n.true c.chain.ensures
 
-pub node-returns-in-1 : goal.node-returns-in-1
-node-returns-in-1 g t c =
+pub inner-returns-in-1 : goal.inner-returns-in-1
+inner-returns-in-1 g t c =
     let a = c.args in
     let m = g.O.Operations.meaning in
     let o = g.O.Operations.ops a.ops.now in
     let ws = a.nodes.now in
-    let d = c.read_node-d in
-    c.constant.ensures ∙ ways.met_constant o ws a.n d.result d.ensures c.in-1.is
+    let d = a.d in
+    c.constant.ensures ∙ ways.met_constant o ws a.n d c.requires.1 c.in-1.is
 
-pub node-returns-in-2 : goal.node-returns-in-2
-node-returns-in-2 g t c =
+pub inner-returns-in-2 : goal.inner-returns-in-2
+inner-returns-in-2 g t c =
     let a = c.args in
     let m = g.O.Operations.meaning in
     let o = g.O.Operations.ops a.ops.now in
     let ws = a.nodes.now in
-    let d = c.read_node-d in
-    c.identity.ensures ∙ ways.met_identity o ws a.n d.result d.ensures c.in-2.is
+    let d = a.d in
+    c.identity.ensures ∙ ways.met_identity o ws a.n d c.requires.1 c.in-2.is
 
-pub node-returns-in-3 : goal.node-returns-in-3
-node-returns-in-3 g t c =
+pub inner-returns-in-3 : goal.inner-returns-in-3
+inner-returns-in-3 g t c =
     let a = c.args in
     let m = g.O.Operations.meaning in
     let o = g.O.Operations.ops a.ops.now in
     let ws = a.nodes.now in
-    let d = c.read_node-d in
-    c.lagrange.ensures ∙ ways.met_lagrange o ws a.n d.result d.ensures c.in-3.is
+    let d = a.d in
+    c.lagrange.ensures ∙ ways.met_lagrange o ws a.n d c.requires.1 c.in-3.is
 
-pub node-returns-in-4 : goal.node-returns-in-4
-node-returns-in-4 g t c =
+pub inner-returns-in-4 : goal.inner-returns-in-4
+inner-returns-in-4 g t c =
     let a = c.args in
     let m = g.O.Operations.meaning in
     let o = g.O.Operations.ops a.ops.now in
     let ws = a.nodes.now in
-    let d = c.read_node-d in
-    c.eq_xy.ensures ∙ ways.met_eq_xy o ws a.n d.result d.ensures c.in-4.is
+    let d = a.d in
+    c.eq_xy.ensures ∙ ways.met_eq_xy o ws a.n d c.requires.1 c.in-4.is
 
-pub node-returns-in-5 : goal.node-returns-in-5
-node-returns-in-5 g t c =
+pub inner-returns-in-7 : goal.inner-returns-in-7
+inner-returns-in-7 g t c =
     let a = c.args in
     let m = g.O.Operations.meaning in
     let o = g.O.Operations.ops a.ops.now in
     let ws = a.nodes.now in
-    let d = c.read_node-d in
-    c.poly.ensures ∙ ways.met_poly o ws a.n d.result d.ensures c.in-5.is
+    let d = a.d in
+    c.negated.ensures ∙ ways.met_negated o ws a.n d c.requires.1 (m c.lower-x.result) c.lower-x.ensures c.in-7.is
 
-pub node-returns-in-6 : goal.node-returns-in-6
-node-returns-in-6 g t c =
+pub inner-returns-in-8 : goal.inner-returns-in-8
+inner-returns-in-8 g t c =
     let a = c.args in
     let m = g.O.Operations.meaning in
     let o = g.O.Operations.ops a.ops.now in
     let ws = a.nodes.now in
-    let d = c.read_node-d in
-    c.challenge.ensures ∙ ways.met_challenge o ws a.n d.result d.ensures c.in-6.is
+    let d = a.d in
+    c.sum.ensures ∙ ways.met_sum o ws a.n d c.requires.1 (m c.lower-x-in-8.result) c.lower-x-in-8.ensures (m c.lower-y.result) c.lower-y.ensures c.in-8.is
 
-pub node-returns-in-7 : goal.node-returns-in-7
-node-returns-in-7 g t c =
+pub inner-returns-in-9 : goal.inner-returns-in-9
+inner-returns-in-9 g t c =
     let a = c.args in
     let m = g.O.Operations.meaning in
     let o = g.O.Operations.ops a.ops.now in
     let ws = a.nodes.now in
-    let d = c.read_node-d in
-    c.negated.ensures ∙ ways.met_negated o ws a.n d.result d.ensures (m c.lower-x.result) c.lower-x.ensures c.in-7.is
+    let d = a.d in
+    c.product.ensures ∙ ways.met_product o ws a.n d c.requires.1 (m c.lower-x-in-9.result) c.lower-x-in-9.ensures (m c.lower-y-in-9.result) c.lower-y-in-9.ensures c.in-9.is
 
-pub node-returns-in-8 : goal.node-returns-in-8
-node-returns-in-8 g t c =
+pub inner-returns-in-10 : goal.inner-returns-in-10
+inner-returns-in-10 g t c =
     let a = c.args in
     let m = g.O.Operations.meaning in
     let o = g.O.Operations.ops a.ops.now in
     let ws = a.nodes.now in
-    let d = c.read_node-d in
-    c.sum.ensures ∙ ways.met_sum o ws a.n d.result d.ensures (m c.lower-x-in-8.result) c.lower-x-in-8.ensures (m c.lower-y.result) c.lower-y.ensures c.in-8.is
+    let d = a.d in
+    c.scaled.ensures ∙ ways.met_scaled o ws a.n d c.requires.1 (m c.lower-x-in-10.result) c.lower-x-in-10.ensures c.in-10.is
 
-pub node-returns-in-9 : goal.node-returns-in-9
-node-returns-in-9 g t c =
+pub inner-returns-else-item-n : goal.inner-returns-else-item-n
+inner-returns-else-item-n g t c =
     let a = c.args in
     let m = g.O.Operations.meaning in
     let o = g.O.Operations.ops a.ops.now in
     let ws = a.nodes.now in
-    let d = c.read_node-d in
-    c.product.ensures ∙ ways.met_product o ws a.n d.result d.ensures (m c.lower-x-in-9.result) c.lower-x-in-9.ensures (m c.lower-y-in-9.result) c.lower-y-in-9.ensures c.in-9.is
+    let d = a.d in
+    c.constant-in-11.ensures ∙ ways.met_no_powers o ws a.n d c.requires.1 c.index-item.result c.index-item.ensures c.in-11.is c.if-item-n.false
 
-pub node-returns-in-10 : goal.node-returns-in-10
-node-returns-in-10 g t c =
+pub inner-returns-in_default : goal.inner-returns-in_default
+inner-returns-in_default g t c =
     let a = c.args in
     let m = g.O.Operations.meaning in
     let o = g.O.Operations.ops a.ops.now in
     let ws = a.nodes.now in
-    let d = c.read_node-d in
-    c.scaled.ensures ∙ ways.met_scaled o ws a.n d.result d.ensures (m c.lower-x-in-10.result) c.lower-x-in-10.ensures c.in-10.is
-
-pub node-returns-else-item-n : goal.node-returns-else-item-n
-node-returns-else-item-n g t c =
-    let a = c.args in
-    let m = g.O.Operations.meaning in
-    let o = g.O.Operations.ops a.ops.now in
-    let ws = a.nodes.now in
-    let d = c.read_node-d in
-    c.constant-in-11.ensures ∙ ways.met_no_powers o ws a.n d.result d.ensures c.index-item.result c.index-item.ensures c.in-11.is c.if-item-n.false
-
-pub node-returns-in_default : goal.node-returns-in_default
-node-returns-in_default g t c =
-    let a = c.args in
-    let m = g.O.Operations.meaning in
-    let o = g.O.Operations.ops a.ops.now in
-    let ws = a.nodes.now in
-    let d = c.read_node-d in
+    let d = a.d in
     let r = c.in_default.in_default-own.rest in
-    ways.met_other o ws a.n d.result d.ensures (m c.constant-in_default.result)
-    r.0.0.0.0.0.0.0.0.0.0.1
-    r.0.0.0.0.0.0.0.0.0.1
+    ways.met_other o ws a.n d c.requires.1 (m c.constant-in_default.result)
     r.0.0.0.0.0.0.0.0.1
     r.0.0.0.0.0.0.0.1
     r.0.0.0.0.0.0.1
     r.0.0.0.0.0.1
+    c.requires.2
+    c.requires.3
     r.0.0.0.0.1
     r.0.0.0.1
     r.0.0.1

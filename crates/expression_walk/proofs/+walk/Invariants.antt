@@ -10,5 +10,5 @@ decreases-items g l = l.n + l.n + 1
 abbrev pub decreases-lower : goal.decreases-lower
 decreases-lower g l = l.n + l.n
 
-abbrev pub decreases-node : goal.decreases-node
-decreases-node g l = l.n + l.n + 1
+abbrev pub decreases-inner : goal.decreases-inner
+decreases-inner g l = l.n + l.n + 1

@@ -1,12 +1,12 @@
 -- `value_of_root` meets its contract: past the last node the words read as 0.
-use mathlib.Core.Path.{◌≡◌, ap, sym, ◌∙◌}
-use Prim.Native.Nat.{◌/◌, ◌<◌}
+use mathlib.Core.Path.{ap, sym, ◌∙◌}
+use Prim.Native.Nat.{◌/◌}
 use native.Mathlib.Decide.{dec_lt}
 use native.Mathlib.Omega.{arith}
 use lib.ListN.{length}
 use Rattle.field.specs.Field.{𝔾}
 use Rattle.expression.specs.Expr.{evaluate}
-use Rattle.expression.specs.Nodes.{expr_of, under, no_expr}
+use Rattle.expression.specs.Nodes.{expr_of, no_expr}
 use Rattle.expression.specs.Value.{value_ops, value_at}
 use Rattle.expression.proofs.Step.{under_yes, under_no}
 use Rattle.expression_evaluate.specs.Environment.{environment}
