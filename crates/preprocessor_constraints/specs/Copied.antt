@@ -1,5 +1,5 @@
 -- What the copied columns' numbers stand for, and the two sides of a part's constraint.
-use Rattle.std.specs.Prelude.{◌≡◌, List, ℕ, ◌+◌, ◌*◌, ◌≤◌, ◌<◌, pos, get_or}
+use Rattle.std.specs.Prelude.{ℕ, ◌+◌, ◌*◌}
 use Rattle.lists.specs.Lists.{tabulate}
 use Rattle.expression.specs.Expr.{Expr, product_of, at}
 use Rattle.preprocessor.specs.Compose.{identity_tree, permutation_tree, number_of_z, next_tree, part_tree}

@@ -1,5 +1,5 @@
 -- The facts that a struct of lent words keeps have one proof at most, as a ghost field asks.
-use Rattle.std.specs.Prelude.{◌≡◌, List, [], ◌∷◌, ℕ, ◌≤◌, ◌<◌, length}
+use Rattle.std.specs.Prelude.{◌≡◌, List, [], ◌∷◌, ℕ, ◌≤◌, ◌<◌}
 use Rattle.std.specs.Coded.{×_prop, Unit-prop, le_prop, Coded-set, coded_ℕ}
 use Rattle.std.proofs.Common.{ap}
 use Rattle.lists.specs.Lists.{ceil_div, All}
