@@ -19,6 +19,10 @@ use Rattle.prover.specs.Lookup.{multiplicity, covered, h_at}
 use Rattle.prover.specs.Denominators.{some_zero, lookup_denominators}
 use Rattle.prover.specs.Answers.{Outcome, outcome_of, outcome_number, outcome_words}
 use Rattle.prover.specs.Words.{elements, Small, count_words}
+use Rattle.std.specs.Prelude.{Result, Ok, Err, IsErrAnd}
+use Rattle.prover.specs.declared.ZeroDenominator.{ZeroDenominator}
+use Rattle.hyperplonk_stages.specs.Refusal.{refusal_number, answer_number}
+use Rattle.hyperplonk_stages.specs.declared.Refusal.{Refusal}
 use Rattle.hyperplonk_spec.specs.Stages.{Answer, check_stage, fits}
 
 -- ---- the questions in order, and the answer by their number
@@ -203,3 +207,10 @@ module _ (γ : 𝔾.F) (input table m out : List ℕ) where
           (ap (λ (x : ℕ). write_at out 0 (replicate x 0)) (tabulate_length (λ b. val (h_at 𝔾 γ (elements input) (elements table) (elements m) b)) rows)
           ∙ sym (write_at_write_prefix (replicate rows 0) out))
       by false = ap (λ (o : List ℕ). record { number = 0; out = o }) (sym (write_at_write_prefix (h_words rows) out))
+
+-- the number where `?` passes the zero denominator on
+pub zero_passed : (answer : Result (Unit {0}) Refusal) (r : Outcome) (zero : ZeroDenominator) → IsErrAnd answer (λ e. e ≡ Refusal.ZeroDenominator)
+    → r ≡ Err zero
+    → answer_number answer ≡ outcome_number r
+zero_passed (Ok done) r zero h e = absurd h
+zero_passed (Err refusal) r zero h e = ap refusal_number h ∙ sym (ap outcome_number e)

@@ -3,8 +3,8 @@
 
 ghost use Rattle.std.specs.Prelude.{◌≡◌};
 ghost use Rattle.backend.specs.Questions.{good_k};
-ghost use Rattle.prover.specs.Answers.{outcome_number};
 ghost use Rattle.hyperplonk_spec.specs.Stages.{m_of, h_of, eq_of};
+ghost use Rattle.hyperplonk_stages.specs.Refusal.{answer_number};
 
 use backend_sections::words::{all_elements, is_element};
 use bh::rows_of;
@@ -13,6 +13,43 @@ use prover::ZeroDenominator;
 use prover_lookup::h::h_column;
 use prover_lookup::m::m_column;
 
+// Why a stage called alone refuses: the first question whose answer is no (specs/Refusal.antt has the numbers).
+#[derive(Clone, Copy, Debug, PartialEq, Eq)]
+enum Refusal {
+    K,
+    Lengths,
+    Values,
+    Room,
+    Uncovered,
+    ZeroDenominator,
+}
+
+impl From<ZeroDenominator> for Refusal {
+    ghost use Rattle.std.specs.Prelude.{◌≡◌};
+    ghost use Rattle.hyperplonk_stages.specs.declared.Refusal.{Refusal};
+
+    ghost from_gives = { λ _ refusal. refusal ≡ Refusal.ZeroDenominator };
+
+    fn from(_zero: ZeroDenominator) -> Refusal {
+        Refusal::ZeroDenominator
+    }
+}
+
+// The number of an answer.
+fn number_of(answer: Result<(), Refusal>) -> u64
+    ensures { result ≡ answer_number answer }
+{
+    match answer {
+        Ok(()) => 0,
+        Err(Refusal::K) => 2,
+        Err(Refusal::Lengths) => 12,
+        Err(Refusal::Values) => 13,
+        Err(Refusal::Room) => 14,
+        Err(Refusal::Uncovered) => 15,
+        Err(Refusal::ZeroDenominator) => 17,
+    }
+}
+
 // "Is k from 1 to 10?"
 fn good_k(k: u64) -> bool
     ensures { result ≡ good_k k }
@@ -20,39 +57,67 @@ fn good_k(k: u64) -> bool
     (1 <= k) & (k <= 10)
 }
 
-// The counts of two columns. 15 leaves a column of zeros, any other refusal the buffer as it was.
-pub fn lookup_m_poly(k: u64, input: &[u64], table: &[u64], m: &mut [u64]) -> u64
-    ensures { record { number = result; out = m.new } ≡ m_of k input.now table.now m.old }
+// The counts of two columns, or why not.
+fn counts(k: u64, input: &[u64], table: &[u64], m: &mut [u64]) -> Result<(), Refusal>
+    ensures { record { number = answer_number result; out = m.new } ≡ m_of k input.now table.now m.old }
 {
     if !good_k(k) {
-        return 2;
+        return Err(Refusal::K);
     }
     let rows = rows_of(k as usize);
     let exact = (input.len() == rows) & (table.len() == rows);
     if !exact {
-        return 12;
+        return Err(Refusal::Lengths);
     }
     let small = all_elements(input) & all_elements(table);
     if !small {
-        return 13;
+        return Err(Refusal::Values);
     }
     if m.len() < rows {
-        return 14;
+        return Err(Refusal::Room);
     }
     if !m_column(rows, input, table, m) {
-        return 15;
+        return Err(Refusal::Uncovered);
     }
-    0
+    Ok(())
 }
 
-// The number of an answer: 17 where a denominator is zero.
-fn number_of(outcome: Result<(), ZeroDenominator>) -> u64
-    ensures { result ≡ outcome_number outcome }
+// The counts of two columns. 15 leaves a column of zeros, any other refusal the buffer as it was.
+pub fn lookup_m_poly(k: u64, input: &[u64], table: &[u64], m: &mut [u64]) -> u64
+    ensures { record { number = result; out = m.new } ≡ m_of k input.now table.now m.old }
 {
-    match outcome {
-        Ok(()) => 0,
-        Err(ZeroDenominator) => 17,
+    number_of(counts(k, input, table, m))
+}
+
+// h of two columns and their counts, or why not.
+fn quotients(
+    k: u64,
+    input: &[u64],
+    table: &[u64],
+    m: &[u64],
+    gamma: u64,
+    h: &mut [u64],
+) -> Result<(), Refusal>
+    ensures { record { number = answer_number result; out = h.new } ≡ h_of k input.now table.now m.now gamma h.old }
+{
+    if !good_k(k) {
+        return Err(Refusal::K);
     }
+    let rows = rows_of(k as usize);
+    let exact = (input.len() == rows) & (table.len() == rows) & (m.len() == rows);
+    if !exact {
+        return Err(Refusal::Lengths);
+    }
+    let columns = all_elements(input) & all_elements(table) & all_elements(m);
+    let small = columns & is_element(gamma);
+    if !small {
+        return Err(Refusal::Values);
+    }
+    if h.len() < rows {
+        return Err(Refusal::Room);
+    }
+    h_column(rows, input, table, m, Goldilocks::from_u64(gamma), h)?;
+    Ok(())
 }
 
 // h of two columns and their counts. 17 leaves a column of zeros, any other refusal the buffer as it was.
@@ -66,42 +131,33 @@ pub fn lookup_h_poly(
 ) -> u64
     ensures { record { number = result; out = h.new } ≡ h_of k input.now table.now m.now gamma h.old }
 {
+    number_of(quotients(k, input, table, m, gamma, h))
+}
+
+// The `eq_xy` table of k values, or why not.
+fn eq_table(k: u64, y: &[u64], out: &mut [u64]) -> Result<(), Refusal>
+    ensures { record { number = answer_number result; out = out.new } ≡ eq_of k y.now out.old }
+{
     if !good_k(k) {
-        return 2;
+        return Err(Refusal::K);
     }
-    let rows = rows_of(k as usize);
-    let exact = (input.len() == rows) & (table.len() == rows) & (m.len() == rows);
-    if !exact {
-        return 12;
+    let size = k as usize;
+    if y.len() != size {
+        return Err(Refusal::Lengths);
     }
-    let columns = all_elements(input) & all_elements(table) & all_elements(m);
-    let small = columns & is_element(gamma);
-    if !small {
-        return 13;
+    if !all_elements(y) {
+        return Err(Refusal::Values);
     }
-    if h.len() < rows {
-        return 14;
+    if out.len() < rows_of(size) {
+        return Err(Refusal::Room);
     }
-    number_of(h_column(rows, input, table, m, Goldilocks::from_u64(gamma), h))
+    multilinear::eq_xy(size, y, out);
+    Ok(())
 }
 
 // The `eq_xy` table of k values. A refusal leaves the buffer as it was.
 pub fn eq_xy(k: u64, y: &[u64], out: &mut [u64]) -> u64
     ensures { record { number = result; out = out.new } ≡ eq_of k y.now out.old }
 {
-    if !good_k(k) {
-        return 2;
-    }
-    let size = k as usize;
-    if y.len() != size {
-        return 12;
-    }
-    if !all_elements(y) {
-        return 13;
-    }
-    if out.len() < rows_of(size) {
-        return 14;
-    }
-    multilinear::eq_xy(size, y, out);
-    0
+    number_of(eq_table(k, y, out))
 }

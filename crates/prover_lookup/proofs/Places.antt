@@ -2,7 +2,7 @@
 use mathlib.Core.Path.{◌≡◌, sym, ap, ap₂, ◌∙◌}
 use mathlib.Core.List.{List, ◌++◌}
 use Prim.Native.Nat.{ℕ, suc, ◌+◌, ◌*◌, ◌≤◌, ◌<◌}
-use native.Mathlib.Nat.{zero-mul, suc-mul, add-mul, mul_right_comm, mul-le-mul_right}
+use native.Mathlib.Nat.{zero-mul, suc-mul, add-mul, mul_assoc, mul_right_comm, mul-le-mul_right}
 use native.Mathlib.Numerals.{add-one}
 use native.Mathlib.Omega.{arith}
 use lib.ListN.{length, get_or, take}
@@ -25,6 +25,10 @@ pub next_input : (at j rows : ℕ) → at + (j + 1) * 2 * rows ≡ at + j * 2 * 
 next_input at j rows =
     let e : (j + 1) * 2 ≡ j * 2 + 1 + 1 = omega arith in
     omega (arith, ap (λ (x : ℕ). x * rows) e, next_place (j * 2 + 1) rows, next_place (j * 2) rows)
+
+-- row b of input i
+pub input_place : (i rows b : ℕ) → i * (2 * rows) + b ≡ 0 + i * 2 * rows + b
+input_place i rows b = omega (arith, mul_assoc i 2 rows)
 
 pub place_there : (n j rows : ℕ) → j < n → j * rows + rows ≤ n * rows
 place_there n j rows l =

@@ -1,25 +1,27 @@
 -- Counts, coverage, denominators and h depend on the first rows alone.
-use mathlib.Core.Path.{◌≡◌, sym, ap, ap₂, ◌∙◌}
+use mathlib.Core.Path.{◌≡◌, refl, sym, ap, ap₂, ◌∙◌}
 use mathlib.Core.Bool.{Bool}
 use mathlib.Core.List.{List, [], ◌∷◌, ◌++◌, map}
 use mathlib.Core.Option.{Option}
 use Prim.Native.Nat.{ℕ, ◌+◌, ◌*◌, ◌≤◌, ◌<◌}
 use native.Mathlib.Nat.{zero-mul, suc-mul}
 use native.Mathlib.Omega.{arith}
-use lib.ListN.{length, get_or}
-use Rattle.field.specs.Algebra.{product, sum}
-use Rattle.field.specs.Field.{𝔾, el}
-use Rattle.lists.specs.Lists.{tabulate, range, concat, total, count_of, all_of, any_of, is_some, is_at}
+use lib.ListN.{length, get_or, take, drop}
+use Rattle.field.specs.Algebra.{sum}
+use Rattle.field.specs.Field.{𝔾, el, val}
+use Rattle.lists.specs.Lists.{tabulate, range, concat, total, count_of, all_of, any_of, is_some, is_at, write_at}
 use Rattle.lists.proofs.Columns.{tabulate_cong, map_tabulate, map_below, below_length}
 use Rattle.lists.proofs.Searches.{count_le, count_map}
 use Rattle.lists.proofs.Walks.{all_map, any_map}
-use Rattle.prover.specs.Lookup.{same, last_equal, multiplicity, covered, group_multiplicity, group_covered, group_h_at}
-use Rattle.prover.specs.Denominators.{group_denominators}
-use Rattle.prover.specs.Words.{elements_from}
+use Rattle.prover.specs.Lookup.{same, last_equal, multiplicity, covered, group_multiplicity, group_covered, h_at, group_h_at}
+use Rattle.prover.specs.Denominators.{some_zero, lookup_denominators, group_denominators}
+use Rattle.prover.specs.Answers.{Outcome, outcome_words}
+use Rattle.prover.specs.Words.{elements, elements_from}
+use Rattle.prover.proofs.Groups.{one_zero, one_h}
 use Rattle.prover.proofs.Search.{last_same}
-use Rattle.prover_lookup.specs.Product.{group_product}
 use Rattle.prover_lookup.specs.Lookups.{inputs_from}
 use Rattle.prover_lookup.proofs.Places.{pair_there, first_there}
+use Rattle.prover_lookup.proofs.Split.{part, part_word, rest_written}
 
 -- ---- tests that agree on the first numbers
 
@@ -118,13 +120,6 @@ module _ (input input' : ℕ → ℕ → 𝔾.F) (s : ℕ) where
   -- at one row
   module _ (b : ℕ) (table table' : ℕ → 𝔾.F) (inputs : (i : ℕ) → i < s → input i b ≡ input' i b) (tables : table b ≡ table' b)
       (γ : 𝔾.F) where
-    pub group_product_agree : group_product 𝔾 γ (tabulate input s) table b ≡ group_product 𝔾 γ (tabulate input' s) table' b
-    unfolding group_product
-    group_product_agree =
-        ap₂ 𝔾.mul
-        (ap (product 𝔾) (inputs_agree (λ x. 𝔾.add γ (x b)) (λ x. 𝔾.add γ (x b)) (λ i l. ap (𝔾.add γ) (inputs i l))))
-        (ap (𝔾.add γ) tables)
-
     pub group_h_agree : (m m' : ℕ → 𝔾.F) → m b ≡ m' b
         → group_h_at 𝔾 γ (tabulate input s) table m b ≡ group_h_at 𝔾 γ (tabulate input' s) table' m' b
     unfolding group_h_at
@@ -133,6 +128,28 @@ module _ (input input' : ℕ → ℕ → 𝔾.F) (s : ℕ) where
         (ap (sum 𝔾)
         (inputs_agree (λ x. 𝔾.inv (𝔾.add γ (x b))) (λ x. 𝔾.inv (𝔾.add γ (x b))) (λ i l. ap (λ (x : 𝔾.F). 𝔾.inv (𝔾.add γ x)) (inputs i l))))
         (ap₂ (λ (u v : 𝔾.F). 𝔾.mul u (𝔾.inv (𝔾.add γ v))) e tables)
+
+-- ---- a group of one lookup, whose input is the column of its own
+module _ (input : List ℕ) (rows : ℕ) (table : ℕ → 𝔾.F) (γ : 𝔾.F) where
+  one_input : (i : ℕ) → i < 1 → (b : ℕ) → b < rows → elements_from input (0 + i * 2 * rows) b ≡ elements input b
+  one_input i l b h =
+      let e : i ≡ 0 = omega arith in
+      ap (λ (k : ℕ). el (get_or input k 0)) (let w = ap (λ (n : ℕ). n * 2 * rows) e in omega (arith, zero-mul rows))
+
+  pub one_zero_in : some_zero 𝔾 (group_denominators 𝔾 rows γ (inputs_from input 0 rows 1) table)
+      ≡ some_zero 𝔾 (lookup_denominators 𝔾 rows γ (elements input) table)
+  unfolding tabulate
+  one_zero_in =
+      ap (some_zero 𝔾)
+      (group_denominators_same (λ i. elements_from input (0 + i * 2 * rows)) (λ _. elements input) 1 rows table table one_input (λ _ _. refl) γ)
+      ∙ one_zero 𝔾 (elements input) table rows γ
+
+  pub one_h_in : (m : ℕ → 𝔾.F) (b : ℕ) → b < rows
+      → group_h_at 𝔾 γ (inputs_from input 0 rows 1) table m b ≡ h_at 𝔾 γ (elements input) table m b
+  unfolding tabulate
+  one_h_in m b l =
+      group_h_agree (λ i. elements_from input (0 + i * 2 * rows)) (λ _. elements input) 1 b table table (λ i h. one_input i h b l) refl γ m m refl
+      ∙ one_h 𝔾 (elements input) table γ m b
 
 -- ---- buffers that agree before word h, behind a group
 
@@ -165,12 +182,6 @@ module _ (d e : List ℕ) (at rows s h : ℕ) (some : 0 < s) (before : at + s * 
         (elements_from e (at + rows)) (elements_from d (at + rows)) kept_input kept_table γ
 
     module _ (b : ℕ) (l : b < rows) where
-      pub kept_product : group_product 𝔾 γ (inputs_from e at rows s) (elements_from e (at + rows)) b
-          ≡ group_product 𝔾 γ (inputs_from d at rows s) (elements_from d (at + rows)) b
-      kept_product =
-          group_product_agree (λ i. elements_from e (at + i * 2 * rows)) (λ i. elements_from d (at + i * 2 * rows)) s b
-          (elements_from e (at + rows)) (elements_from d (at + rows)) (λ i h. kept_input i h b l) (kept_table b l) γ
-
       pub kept_h : (m : ℕ) → m + rows ≤ h
           → group_h_at 𝔾 γ (inputs_from e at rows s) (elements_from e (at + rows)) (elements_from e m) b
           ≡ group_h_at 𝔾 γ (inputs_from d at rows s) (elements_from d (at + rows)) (elements_from d m) b
@@ -178,3 +189,46 @@ module _ (d e : List ℕ) (at rows s h : ℕ) (some : 0 < s) (before : at + s * 
           group_h_agree (λ i. elements_from e (at + i * 2 * rows)) (λ i. elements_from d (at + i * 2 * rows)) s b
           (elements_from e (at + rows)) (elements_from d (at + rows)) (λ i h. kept_input i h b l) (kept_table b l) γ
           (elements_from e m) (elements_from d m) (ap el (kept (m + b) (omega arith)))
+
+-- ---- a group in the first part of a buffer that is split before word h
+module _ (d given : List ℕ) (h at rows s : ℕ) (room : h + rows ≤ length d) (front : given ≡ take h d) (some : 0 < s)
+    (before : at + s * 2 * rows ≤ h) (γ : 𝔾.F) where
+  abbrev there : h ≤ length d
+  there = omega arith
+
+  abbrev columns : ℕ → List ℕ
+  columns k = part d given h there front k
+
+  split_input : (i : ℕ) → i < s → (b : ℕ) → b < rows → elements_from (columns at) (0 + i * 2 * rows) b ≡ elements_from d (at + i * 2 * rows) b
+  split_input i l b m =
+      ap el
+      (part_word d given h there front at (0 + i * 2 * rows + b) (omega (arith, pair_there s i rows l))
+      ∙ ap (λ (k : ℕ). get_or d k 0) (let e : at + (0 + i * 2 * rows + b) ≡ at + i * 2 * rows + b = omega arith in e))
+
+  split_table : (b : ℕ) → b < rows → elements (columns (at + rows)) b ≡ elements_from d (at + rows) b
+  split_table b l = ap el (part_word d given h there front (at + rows) b (omega (arith, first_there s rows some)))
+
+  pub split_zero : some_zero 𝔾 (group_denominators 𝔾 rows γ (inputs_from (columns at) 0 rows s) (elements (columns (at + rows))))
+      ≡ some_zero 𝔾 (group_denominators 𝔾 rows γ (inputs_from d at rows s) (elements_from d (at + rows)))
+  split_zero =
+      ap (some_zero 𝔾)
+      (group_denominators_same (λ i. elements_from (columns at) (0 + i * 2 * rows)) (λ i. elements_from d (at + i * 2 * rows)) s rows
+      (elements (columns (at + rows))) (elements_from d (at + rows)) split_input split_table γ)
+
+  split_h : (m : ℕ) → m + rows ≤ h → (b : ℕ) → b < rows
+      → group_h_at 𝔾 γ (inputs_from (columns at) 0 rows s) (elements (columns (at + rows))) (elements (columns m)) b
+      ≡ group_h_at 𝔾 γ (inputs_from d at rows s) (elements_from d (at + rows)) (elements_from d m) b
+  split_h m r b l =
+      group_h_agree (λ i. elements_from (columns at) (0 + i * 2 * rows)) (λ i. elements_from d (at + i * 2 * rows)) s b
+      (elements (columns (at + rows))) (elements_from d (at + rows)) (λ i k. split_input i k b l) (split_table b l) γ
+      (elements (columns m)) (elements_from d m) (ap el (part_word d given h there front m b (omega arith)))
+
+  -- the column written behind the first part
+  pub split_written : (m : ℕ) → m + rows ≤ h → (rest e : List ℕ) → rest ≡ drop h d → (answer : Outcome)
+      → e ≡ write_at rest 0 (outcome_words answer (tabulate (λ b. val (group_h_at 𝔾 γ (inputs_from (columns at) 0 rows s) (elements (columns (at + rows))) (elements (columns m)) b)) rows))
+      → given ++ e ≡ write_at d h (outcome_words answer (tabulate (λ b. val (group_h_at 𝔾 γ (inputs_from d at rows s) (elements_from d (at + rows)) (elements_from d m) b)) rows))
+  split_written m r rest e back answer put =
+      let f : ℕ → ℕ = λ b. val (group_h_at 𝔾 γ (inputs_from (columns at) 0 rows s) (elements (columns (at + rows))) (elements (columns m)) b) in
+      let g : ℕ → ℕ = λ b. val (group_h_at 𝔾 γ (inputs_from d at rows s) (elements_from d (at + rows)) (elements_from d m) b) in
+      rest_written d given h there front e (outcome_words answer (tabulate f rows)) (put ∙ ap (λ (x : List ℕ). write_at x 0 (outcome_words answer (tabulate f rows))) back)
+      ∙ ap (λ (ws : List ℕ). write_at d h (outcome_words answer ws)) (tabulate_cong f g rows (λ b l. ap val (split_h m r b l)))

@@ -30,16 +30,13 @@ pub fn lookup_m_polys(
 {
     let mut input = compressed;
     let mut to = m;
-    let mut j: usize = 0;
-    while j < sizes.len() {
-        let members = sizes[j] as usize;
-        let covered = lookup_m_poly(columns, input, members, to, rows);
-        if !covered {
+    for size in sizes {
+        let members = *size as usize;
+        if !lookup_m_poly(columns, input, members, to, rows) {
             return false;
         }
         input += members * rows * 2;
         to += rows;
-        j += 1;
     }
     true
 }
@@ -60,14 +57,12 @@ pub fn lookup_h_polys(
     let mut input = compressed;
     let mut counts = m;
     let mut to = h;
-    let mut j: usize = 0;
-    while j < sizes.len() {
-        let members = sizes[j] as usize;
+    for size in sizes {
+        let members = *size as usize;
         lookup_h_poly(columns, input, members, counts, to, gamma, rows)?;
         input += members * rows * 2;
         counts += rows;
         to += rows;
-        j += 1;
     }
     Ok(())
 }

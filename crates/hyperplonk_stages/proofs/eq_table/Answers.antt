@@ -3,7 +3,7 @@ use native.Mathlib.Omega.{arith}
 use borrow.Author.Tests.{eq-eqb, ne_eqb}
 use Rattle.hyperplonk_spec.specs.Stages.{eq_of}
 use Rattle.hyperplonk_stages.proofs.Answers.{no_2, no_12, no_13, no_14, all_yes, k_le, column_done}
-use Rattle.hyperplonk_stages.proofs.eq_xy.Goals as goal
+use Rattle.hyperplonk_stages.proofs.eq_table.Goals as goal
 
 pub returns-then-not-good_k : goal.returns-then-not-good_k
 unfolding eq_of

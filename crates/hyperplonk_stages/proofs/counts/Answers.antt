@@ -4,7 +4,7 @@ use native.Mathlib.Omega.{arith}
 use Rattle.backend.proofs.Answers.{says_no, says_yes}
 use Rattle.hyperplonk_spec.specs.Stages.{m_of}
 use Rattle.hyperplonk_stages.proofs.Answers.{no_2, no_12, no_13, no_14, all_yes, k_le, two_exact, two_small, two_columns, counted, uncovered}
-use Rattle.hyperplonk_stages.proofs.lookup_m_poly.Goals as goal
+use Rattle.hyperplonk_stages.proofs.counts.Goals as goal
 
 pub returns-then-not-good_k : goal.returns-then-not-good_k
 unfolding m_of
