@@ -8,7 +8,6 @@ ghost use Rattle.expression.specs.Nodes.{expr_of, items_of, under, no_expr, deco
 ghost use Rattle.expression.specs.Read.{node_at};
 
 use expression::kind;
-use expression::node::Node;
 use expression_nodes::{index, read_node};
 
 // What is computed at each node (the functions that Rust's `evaluate` takes), over values of one type. `ops` are the operations
@@ -77,17 +76,19 @@ pub fn lower<O: Operations>(ops: &O, nodes: &[u64], n: usize, a: u64) -> O::Valu
         if kind == kind::CHALLENGE {
             return ops.challenge(d.first);
         }
-        return inner(ops, nodes, b, d);
+        return inner(ops, nodes, b);
     }
     ops.constant(0)
 }
 
-// What node n computes, of the words d. `lower` reads a query and a challenge itself, and calls this for the other kinds.
+// What node n computes. `lower` reads a query and a challenge itself, and calls this for the other kinds; the node is read once
+// more here, which keeps the tests of those two kinds before the jump by kind.
 #[cycle(walk)]
-fn inner<O: Operations>(ops: &O, nodes: &[u64], n: usize, d: Node) -> O::Value
-    requires { (n * 4 + 4 ≤ length nodes.now) × (d ≡ node_at nodes.now n) × (d.kind ≢ 5) × (d.kind ≢ 6) }
+fn inner<O: Operations>(ops: &O, nodes: &[u64], n: usize) -> O::Value
+    requires { (n * 4 + 4 ≤ length nodes.now) × ((node_at nodes.now n).kind ≢ 5) × ((node_at nodes.now n).kind ≢ 6) }
     ensures { O.meaning result ≡ evaluate (O.ops ops.now) (expr_of nodes.now n) }
 {
+    let d = read_node(nodes, n);
     let kind = d.kind;
     match kind {
         kind::CONSTANT => ops.constant(d.value),

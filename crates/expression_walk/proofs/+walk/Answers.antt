@@ -1,5 +1,6 @@
 -- The walk: each way through the code is the fold by the operations.
-use mathlib.Core.Path.{◌∙◌, ap}
+use mathlib.Core.Path.{◌∙◌, ap, sym}
+use Rattle.expression.specs.declared.node.Node.{Node}
 use Rattle.expression.proofs.Ways as ways
 use Rattle.expression_walk.proofs.+walk.Goals as goal
 
@@ -110,8 +111,8 @@ inner-returns-then-item-n g t c =
     let m = g.O.Operations.meaning in
     let o = g.O.Operations.ops a.ops.now in
     let ws = a.nodes.now in
-    let d = a.d in
-    ways.met_powers o ws a.n d c.requires.1 c.index-item.result c.index-item.ensures (m c.lower-base.result) c.lower-base.ensures (m c.chain.result) c.in-11.is c.if-item-n.true c.chain.ensures
+    let d = c.read_node-d in
+    ways.met_powers o ws a.n d.result d.ensures c.index-item.result c.index-item.ensures (m c.lower-base.result) c.lower-base.ensures (m c.chain.result) c.in-11.is c.if-item-n.true c.chain.ensures
 
 pub inner-returns-in-1 : goal.inner-returns-in-1
 inner-returns-in-1 g t c =
@@ -119,8 +120,8 @@ inner-returns-in-1 g t c =
     let m = g.O.Operations.meaning in
     let o = g.O.Operations.ops a.ops.now in
     let ws = a.nodes.now in
-    let d = a.d in
-    c.constant.ensures ∙ ways.met_constant o ws a.n d c.requires.1 c.in-1.is
+    let d = c.read_node-d in
+    c.constant.ensures ∙ ways.met_constant o ws a.n d.result d.ensures c.in-1.is
 
 pub inner-returns-in-2 : goal.inner-returns-in-2
 inner-returns-in-2 g t c =
@@ -128,8 +129,8 @@ inner-returns-in-2 g t c =
     let m = g.O.Operations.meaning in
     let o = g.O.Operations.ops a.ops.now in
     let ws = a.nodes.now in
-    let d = a.d in
-    c.identity.ensures ∙ ways.met_identity o ws a.n d c.requires.1 c.in-2.is
+    let d = c.read_node-d in
+    c.identity.ensures ∙ ways.met_identity o ws a.n d.result d.ensures c.in-2.is
 
 pub inner-returns-in-3 : goal.inner-returns-in-3
 inner-returns-in-3 g t c =
@@ -137,8 +138,8 @@ inner-returns-in-3 g t c =
     let m = g.O.Operations.meaning in
     let o = g.O.Operations.ops a.ops.now in
     let ws = a.nodes.now in
-    let d = a.d in
-    c.lagrange.ensures ∙ ways.met_lagrange o ws a.n d c.requires.1 c.in-3.is
+    let d = c.read_node-d in
+    c.lagrange.ensures ∙ ways.met_lagrange o ws a.n d.result d.ensures c.in-3.is
 
 pub inner-returns-in-4 : goal.inner-returns-in-4
 inner-returns-in-4 g t c =
@@ -146,8 +147,8 @@ inner-returns-in-4 g t c =
     let m = g.O.Operations.meaning in
     let o = g.O.Operations.ops a.ops.now in
     let ws = a.nodes.now in
-    let d = a.d in
-    c.eq_xy.ensures ∙ ways.met_eq_xy o ws a.n d c.requires.1 c.in-4.is
+    let d = c.read_node-d in
+    c.eq_xy.ensures ∙ ways.met_eq_xy o ws a.n d.result d.ensures c.in-4.is
 
 pub inner-returns-in-7 : goal.inner-returns-in-7
 inner-returns-in-7 g t c =
@@ -155,8 +156,8 @@ inner-returns-in-7 g t c =
     let m = g.O.Operations.meaning in
     let o = g.O.Operations.ops a.ops.now in
     let ws = a.nodes.now in
-    let d = a.d in
-    c.negated.ensures ∙ ways.met_negated o ws a.n d c.requires.1 (m c.lower-x.result) c.lower-x.ensures c.in-7.is
+    let d = c.read_node-d in
+    c.negated.ensures ∙ ways.met_negated o ws a.n d.result d.ensures (m c.lower-x.result) c.lower-x.ensures c.in-7.is
 
 pub inner-returns-in-8 : goal.inner-returns-in-8
 inner-returns-in-8 g t c =
@@ -164,8 +165,8 @@ inner-returns-in-8 g t c =
     let m = g.O.Operations.meaning in
     let o = g.O.Operations.ops a.ops.now in
     let ws = a.nodes.now in
-    let d = a.d in
-    c.sum.ensures ∙ ways.met_sum o ws a.n d c.requires.1 (m c.lower-x-in-8.result) c.lower-x-in-8.ensures (m c.lower-y.result) c.lower-y.ensures c.in-8.is
+    let d = c.read_node-d in
+    c.sum.ensures ∙ ways.met_sum o ws a.n d.result d.ensures (m c.lower-x-in-8.result) c.lower-x-in-8.ensures (m c.lower-y.result) c.lower-y.ensures c.in-8.is
 
 pub inner-returns-in-9 : goal.inner-returns-in-9
 inner-returns-in-9 g t c =
@@ -173,8 +174,8 @@ inner-returns-in-9 g t c =
     let m = g.O.Operations.meaning in
     let o = g.O.Operations.ops a.ops.now in
     let ws = a.nodes.now in
-    let d = a.d in
-    c.product.ensures ∙ ways.met_product o ws a.n d c.requires.1 (m c.lower-x-in-9.result) c.lower-x-in-9.ensures (m c.lower-y-in-9.result) c.lower-y-in-9.ensures c.in-9.is
+    let d = c.read_node-d in
+    c.product.ensures ∙ ways.met_product o ws a.n d.result d.ensures (m c.lower-x-in-9.result) c.lower-x-in-9.ensures (m c.lower-y-in-9.result) c.lower-y-in-9.ensures c.in-9.is
 
 pub inner-returns-in-10 : goal.inner-returns-in-10
 inner-returns-in-10 g t c =
@@ -182,8 +183,8 @@ inner-returns-in-10 g t c =
     let m = g.O.Operations.meaning in
     let o = g.O.Operations.ops a.ops.now in
     let ws = a.nodes.now in
-    let d = a.d in
-    c.scaled.ensures ∙ ways.met_scaled o ws a.n d c.requires.1 (m c.lower-x-in-10.result) c.lower-x-in-10.ensures c.in-10.is
+    let d = c.read_node-d in
+    c.scaled.ensures ∙ ways.met_scaled o ws a.n d.result d.ensures (m c.lower-x-in-10.result) c.lower-x-in-10.ensures c.in-10.is
 
 pub inner-returns-else-item-n : goal.inner-returns-else-item-n
 inner-returns-else-item-n g t c =
@@ -191,8 +192,8 @@ inner-returns-else-item-n g t c =
     let m = g.O.Operations.meaning in
     let o = g.O.Operations.ops a.ops.now in
     let ws = a.nodes.now in
-    let d = a.d in
-    c.constant-in-11.ensures ∙ ways.met_no_powers o ws a.n d c.requires.1 c.index-item.result c.index-item.ensures c.in-11.is c.if-item-n.false
+    let d = c.read_node-d in
+    c.constant-in-11.ensures ∙ ways.met_no_powers o ws a.n d.result d.ensures c.index-item.result c.index-item.ensures c.in-11.is c.if-item-n.false
 
 pub inner-returns-in_default : goal.inner-returns-in_default
 inner-returns-in_default g t c =
@@ -200,15 +201,15 @@ inner-returns-in_default g t c =
     let m = g.O.Operations.meaning in
     let o = g.O.Operations.ops a.ops.now in
     let ws = a.nodes.now in
-    let d = a.d in
+    let d = c.read_node-d in
     let r = c.in_default.in_default-own.rest in
-    ways.met_other o ws a.n d c.requires.1 (m c.constant-in_default.result)
+    ways.met_other o ws a.n d.result d.ensures (m c.constant-in_default.result)
     r.0.0.0.0.0.0.0.0.1
     r.0.0.0.0.0.0.0.1
     r.0.0.0.0.0.0.1
     r.0.0.0.0.0.1
-    c.requires.2
-    c.requires.3
+    (λ z. c.requires.1 (sym (ap (λ (x : Node). x.kind) d.ensures) ∙ z))
+    (λ z. c.requires.2 (sym (ap (λ (x : Node). x.kind) d.ensures) ∙ z))
     r.0.0.0.0.1
     r.0.0.0.1
     r.0.0.1
