@@ -1,4 +1,5 @@
 // The stages called alone: "they meet 2, 12, 13, 14 and, for counts, 15"; h meets 17, last.
+// Kept: the public functions answer numbers, which the C interface hands on; inside stands an enum.
 #![tactic(auto)]
 
 ghost use Rattle.std.specs.Prelude.{◌≡◌};
