@@ -93,9 +93,5 @@ pub(crate) fn section(circuit: &[u64], s: usize) -> Part
         };
     }
     let end = circuit[NEXT_START + s * 2] as usize;
-    Part {
-        start,
-        end,
-        count,
-    }
+    Part { start, end, count }
 }
