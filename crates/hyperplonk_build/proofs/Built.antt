@@ -4,14 +4,14 @@ use mathlib.Core.Bool.{Bool, true, false, cond}
 use mathlib.Core.List.{List}
 use Prim.Native.Nat.{ℕ, suc, ◌-◌, ◌*◌, ◌≤◌}
 use native.Mathlib.Omega.{arith}
-use lib.ListN.{length, take, length-take}
+use lib.ListN.{length}
 use lib.Dec.{leb}
 use borrow.Author.Tests.{leb-true}
 use Rattle.field.specs.Field.{𝔾}
 use Rattle.lists.specs.Lists.{write_prefix}
 use Rattle.lists.proofs.Tests.{and_left, and_right}
 use Rattle.lists.proofs.Over.{write_at_write_prefix}
-use Rattle.backend.specs.Circuit.{circuit_of, rows_of, copied, num_copied}
+use Rattle.backend.specs.Circuit.{circuit_of, rows_of}
 use Rattle.preprocessor.specs.Compose.{num_z, composed_words, composed_nodes}
 use Rattle.preprocessor.specs.ComposeWords.{Composed}
 use Rattle.preprocessor.proofs.Composed.{composed_over}
@@ -145,7 +145,3 @@ module _ (ws instances witness challenges columns nodes : List ℕ) where
             })
             counts
             ∙ build_by true false p q
-
--- the copied columns are as many as their list is long
-pub count_is : (ws names : List ℕ) (n : ℕ) → n ≤ length names → take n names ≡ copied (circuit_of ws) → n ≡ num_copied (circuit_of ws)
-count_is ws names n h e = sym (length-take n names ∙ omega arith) ∙ ap length e

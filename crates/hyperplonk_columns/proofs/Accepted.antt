@@ -281,29 +281,26 @@ module _ (ws : List ℕ) (a : Accepted ws) (v : CircuitParams) (e : v ≡ params
 
 -- ---- what the stages ask for
 
-module _ (ws instances witness challenges : List ℕ) (a : Accepted ws)
-    (q : q12 (circuit_of ws) instances witness challenges ≡ true) (n : ℕ) (room : column_words (circuit_of ws) ≤ n) where
+module _ (ws instances witness challenges : List ℕ) (q : q12 (circuit_of ws) instances witness challenges ≡ true) (n : ℕ) (room : column_words (circuit_of ws) ≤ n) where
   abbrev circuit : Circuit
   circuit = circuit_of ws
 
-  pub instance_asked : Accepted ws
-      × (total (body_of ws Section.instances) ≡ length instances)
+  pub instance_asked : (total (body_of ws Section.instances) ≡ length instances)
       × (num_instance circuit * rows_of circuit ≤ n)
   unfolding circuit_of
   instance_asked =
-      let p = placed circuit in (a, sym (exact_instances circuit instances witness challenges q), omega arith)
+      let p = placed circuit in (sym (exact_instances circuit instances witness challenges q), omega arith)
 
   pub permutation_asked : (names : List ℕ) → names ≡ copied circuit → (m : ℕ) → m ≡ n
-      → Accepted ws × (names ≡ copied circuit) × (compressed_offset circuit ≤ m)
-  permutation_asked names e m l = let p = placed circuit in (a, e, omega arith)
+      → (names ≡ copied circuit) × (compressed_offset circuit ≤ m)
+  permutation_asked names e m l = let p = placed circuit in (e, omega arith)
 
   pub compressed_asked : (names : List ℕ) → names ≡ copied circuit → (m : ℕ) → m ≡ n
-      → Accepted ws
-      × (length challenges ≡ num_challenges circuit + 2)
+      → (length challenges ≡ num_challenges circuit + 2)
       × (length names ≡ num_copied circuit)
       × (compressed_offset circuit + num_lookups circuit * 2 * rows_of circuit ≤ m)
   compressed_asked names e m l =
-      let p = placed circuit in (a, exact_challenges circuit instances witness challenges q, ap length e, omega arith)
+      let p = placed circuit in (exact_challenges circuit instances witness challenges q, ap length e, omega arith)
 
 module _ (ws : List ℕ) (a : Accepted ws) (v : CircuitParams) (e : v ≡ params_of (circuit_of ws)) (sizes : List ℕ)
     (s-is : sizes ≡ group_sizes (circuit_of ws).groups) (x y : ℕ) (x-is : x ≡ compressed_offset (circuit_of ws))
@@ -442,11 +439,5 @@ module _ (ws : List ℕ) (a : Accepted ws) (v : CircuitParams) (e : v ≡ params
         ap (λ (n : ℕ). drop n d') (sym q) ∙ w.back ∙ ap (λ (n : ℕ). drop n d) q
 
 -- z behind h
-pub z_asked : (ws : List ℕ) → Accepted ws → (v : CircuitParams) → v ≡ params_of (circuit_of ws) → (names : List ℕ) → names ≡ copied (circuit_of ws)
-    → (n : ℕ) → column_words (circuit_of ws) ≤ n
-    → Accepted ws
-    × (names ≡ copied (circuit_of ws))
-    × (v.num_groups ≡ num_groups (circuit_of ws))
-    × (v.num_chunks ≡ num_z (circuit_of ws))
-    × (z_offset (circuit_of ws) + num_z (circuit_of ws) * rows_of (circuit_of ws) ≤ n)
-z_asked ws a v e names h n room = let p = placed (circuit_of ws) in (a, h, groups_are ws a v e, parts_are ws a v e, omega arith)
+pub z_room : (ws : List ℕ) → (n : ℕ) → column_words (circuit_of ws) ≤ n → z_offset (circuit_of ws) + num_z (circuit_of ws) * rows_of (circuit_of ws) ≤ n
+z_room ws n room = let p = placed (circuit_of ws) in omega arith
