@@ -132,11 +132,9 @@ pub fn degrees_of(circuit: &[u64]) -> Degrees
     let widths = widths_of(circuit);
     let pairs = pairs_of(circuit);
     let numbers = groups_of(circuit);
-    let grouped = group_sizes(numbers);
-    let count = grouped.count;
-    let sizes = grouped.of;
+    let sizes = group_sizes(numbers);
     let user = user_degree(nodes, users);
-    let lookups = groups_degree(nodes, &sizes[0..count], widths, pairs);
+    let lookups = groups_degree(nodes, sizes.as_slice(), widths, pairs);
     Degrees {
         stated,
         user,

@@ -109,8 +109,6 @@ pub fn question_18(circuit: &[u64]) -> bool
     let nodes = nodes_of(circuit);
     let widths = widths_of(circuit);
     let pairs = pairs_of(circuit);
-    let grouped = group_sizes(numbers);
-    let count = grouped.count;
-    let sizes = grouped.of;
-    groups_alike(nodes, &sizes[0..count], widths, pairs)
+    let sizes = group_sizes(numbers);
+    groups_alike(nodes, sizes.as_slice(), widths, pairs)
 }

@@ -1,38 +1,28 @@
-// The groups of the lookups: how many there are, and how many lookups each has.
-ghost use Rattle.std.specs.Prelude.{◌≡◌, true, ◌≤◌, max, length, take};
+// The groups of the lookups: how many lookups each has.
+ghost use Rattle.std.specs.Prelude.{◌≡◌, true, ◌≤◌, length};
 ghost use Rattle.backend.specs.Circuit.{num_groups_in, group_sizes};
 ghost use Rattle.backend.specs.Questions.{group_numbers_good};
+ghost use Rattle.arrayvec.specs.ArrayVec.{array_vec_len};
 
-// The first `count` of `of`; zeros follow them. Eight lookups at most.
-#[derive(Clone, Copy)]
-pub struct GroupSizes {
-    pub count: usize,
-    pub of: [u64; 8],
-}
+use arrayvec::ArrayVec;
 
-// The larger of two.
-fn larger(a: usize, b: usize) -> usize
-    ensures { result ≡ max a b }
-{
-    if a < b { b } else { a }
-}
-
-// How many lookups have the number 0, how many 1, …, of numbers that follow the rule.
-pub fn group_sizes(groups: &[u64]) -> GroupSizes
+// How many lookups have the number 0, how many 1, …, of numbers that follow the rule. Eight lookups at most.
+pub fn group_sizes(groups: &[u64]) -> ArrayVec<u64, 8>
     requires { (group_numbers_good groups.now ≡ true) × (length groups.now ≤ 8) }
-    ensures { (result.count ≤ 8) × (length result.of ≡ 8) × (result.count ≡ num_groups_in groups.now) × (take result.count result.of ≡ group_sizes groups.now) }
+    ensures sizes { result.items ≡ group_sizes groups.now }
+    ensures count { array_vec_len result ≡ num_groups_in groups.now }
+    ensures few { array_vec_len result ≤ 8 }
 {
-    let mut of = [0; 8];
+    let mut counts = [0; 8];
     let mut count: usize = 0;
-    let mut i = 0;
-    while i < groups.len() {
-        let g = groups[i] as usize;
-        of[g] += 1;
-        count = larger(count, g + 1);
-        i += 1;
+    for number in groups {
+        let g = *number as usize;
+        counts[g] += 1;
+        count = count.max(g + 1);
     }
-    GroupSizes {
-        count: count,
-        of: of,
+    let mut sizes = ArrayVec::new();
+    for size in &counts[..count] {
+        sizes.push(*size);
     }
+    sizes
 }

@@ -1,14 +1,14 @@
 -- The copied columns, gathered: which polynomials the first cells name, and those among the first polynomials.
-use mathlib.Core.Path.{◌≡◌, refl, sym, ap, ap₂, ◌∙◌}
+use mathlib.Core.Path.{◌≡◌, refl, sym, ap, ◌∙◌}
 use mathlib.Core.Bool.{Bool, true, false, cond, ◌||◌, or-false}
 use mathlib.Core.List.{List, [], ◌∷◌, ◌++◌, append-nil}
-use Prim.Native.Nat.{ℕ, zero, suc, ◌+◌, ◌-◌, ◌≤◌, ◌<◌, ◌/◌, ◌*◌}
+use Prim.Native.Nat.{ℕ, zero, suc, ◌+◌, ◌≤◌, ◌<◌, ◌/◌, ◌*◌}
 use native.Mathlib.Omega.{arith}
 use native.Mathlib.Numerals.{add-one}
 use native.Mathlib.Decide.{ℕ_discrete}
 use lib.Dec.{eqb}
-use lib.ListN.{length, get_or, take, drop, set, replicate, length-set, length-replicate, take-append-drop}
-use lib.Seq.{length-take-le, get_or-set_same, get_or-set_other, drop-set-lt, take-suc-set, drop-drop}
+use lib.ListN.{length, get_or, set, replicate, length-set, length-replicate, length-append}
+use lib.Seq.{get_or-set_same, get_or-set_other}
 use borrow.Author.Tests.{eq-eqb, ne_eqb}
 use Rattle.lists.specs.Lists.{tabulate, range, any_of, filter}
 use Rattle.lists.proofs.Tests.{filter_append}
@@ -23,12 +23,10 @@ pub record Named (cells : List ℕ) (named : List Bool) (i : ℕ) : Type 0 where
   pub each : (q : ℕ) → q < 72 → get_or named q false ≡ cells_name (tabulate (cell_at cells) i) q
 
 -- the copied columns among the first q polynomials
-pub record Gathered (cells : List ℕ) (polys : ℕ) (of : List ℕ) (count q : ℕ) : Type 0 where
+pub record Gathered (cells : List ℕ) (polys : ℕ) (columns : List ℕ) (q : ℕ) : Type 0 where
   pub upto : q ≤ polys
-  pub few : count ≤ q
-  pub many : length of ≡ 72
-  pub found : take count of ≡ filter (cells_name (cells_of cells)) (range q)
-  pub rest : drop count of ≡ replicate (72 - count) 0
+  pub few : length columns ≤ q
+  pub found : columns ≡ filter (cells_name (cells_of cells)) (range q)
 
 or_true : (t : Bool) → (t || true) ≡ true
 or_true true = refl
@@ -107,58 +105,33 @@ module _ (cells : List ℕ) where
       one : filter is_named (q ∷ []) ≡ cond (is_named q) (q ∷ []) []
       one = those_one is_named q
 
-  pub gathered_none : (polys : ℕ) (of : List ℕ) → of ≡ replicate 72 0 → Gathered cells polys of 0 0
+  pub gathered_none : (polys : ℕ) → Gathered cells polys [] 0
   unfolding tabulate filter
-  gathered_none polys of e =
-      record { upto = omega arith; few = omega arith; many = ap length e ∙ length-replicate {A = ℕ} 72 0; found = refl; rest = e }
+  gathered_none polys = record { upto = omega arith; few = omega arith; found = refl }
 
-  pub gathered_more : (polys : ℕ) (of : List ℕ) (count q : ℕ) → Gathered cells polys of count q → q < polys → polys ≤ 72 → is_named q ≡ true
-      → Gathered cells polys (set of count q) (count + 1) (q + 1)
-  gathered_more polys of count q v l m e =
+  pub gathered_more : (polys : ℕ) (columns : List ℕ) (q : ℕ) → Gathered cells polys columns q → q < polys → is_named q ≡ true
+      → Gathered cells polys (columns ++ (q ∷ [])) (q + 1)
+  gathered_more polys columns q v l e =
       record {
         upto = omega arith;
-        few = (let u = v.few in omega arith);
-        many = length-set of count q ∙ v.many;
+        few = (let u = v.few in omega (arith, length-append columns (q ∷ [])));
         found =
-            ap (λ (n : ℕ). take n (set of count q)) (add-one count)
-            ∙ take-suc-set of count q (let u = v.few in let w = v.many in omega arith)
-            ∙ ap (λ (xs : List ℕ). xs ++ (q ∷ [])) v.found
+            ap (λ (xs : List ℕ). xs ++ (q ∷ [])) v.found
             ∙ sym (those_next q ∙ ap (λ (t : Bool). filter is_named (range q) ++ cond t (q ∷ []) []) e);
-        rest =
-            drop-set-lt (count + 1) of count q (omega arith) ∙ sym (drop-drop 1 count of)
-            ∙ ap (drop 1)
-            (v.rest
-            ∙ ap (λ (n : ℕ). replicate n 0) (let u = v.few in let w : 72 - count ≡ suc (72 - (count + 1)) = omega arith in w));
       }
 
-  pub gathered_same : (polys : ℕ) (of : List ℕ) (count q : ℕ) → Gathered cells polys of count q → q < polys → is_named q ≡ false
-      → Gathered cells polys of count (q + 1)
-  gathered_same polys of count q v l e =
+  pub gathered_same : (polys : ℕ) (columns : List ℕ) (q : ℕ) → Gathered cells polys columns q → q < polys → is_named q ≡ false
+      → Gathered cells polys columns (q + 1)
+  gathered_same polys columns q v l e =
       record {
         upto = omega arith;
         few = (let u = v.few in omega arith);
-        many = v.many;
         found =
             v.found
             ∙ sym (those_next q ∙ ap (λ (t : Bool). filter is_named (range q) ++ cond t (q ∷ []) []) e ∙ append-nil (filter is_named (range q)));
-        rest = v.rest;
       }
 
-  pub gathered_all : (polys : ℕ) (of : List ℕ) (count q : ℕ) → Gathered cells polys of count q → polys ≤ q → polys ≤ 72
-      → (count ≤ 72)
-      × (take count of ≡ copied_in polys (cells_of cells))
-      × (count ≡ length (copied_in polys (cells_of cells)))
-      × (of ≡ copied_in polys (cells_of cells) ++ replicate (72 - count) 0)
+  pub gathered_all : (polys : ℕ) (columns : List ℕ) (q : ℕ) → Gathered cells polys columns q → polys ≤ q
+      → columns ≡ copied_in polys (cells_of cells)
   unfolding copied_in
-  gathered_all polys of count q v m l =
-      let u = v.upto in
-      let w = v.few in
-      let d = v.many in
-      let f : take count of ≡ filter is_named (range polys) =
-      v.found ∙ ap (λ (n : ℕ). filter is_named (range n)) (let e : q ≡ polys = omega arith in e)
-      in (
-        omega arith,
-        f,
-        sym (length-take-le count of (omega arith)) ∙ ap length f,
-        sym (take-append-drop count of) ∙ ap₂ ◌++◌ f v.rest,
-      )
+  gathered_all polys columns q v m = v.found ∙ ap (λ (n : ℕ). filter is_named (range n)) (let u = v.upto in let e : q ≡ polys = omega arith in e)

@@ -1,10 +1,11 @@
-use mathlib.Core.Path.{refl, sym, ◌∙◌}
+use mathlib.Core.Path.{◌≡◌, refl, sym, subst, ◌∙◌}
 use mathlib.Core.Bool.{Bool, false}
+use mathlib.Core.List.{List}
 use Prim.Native.Nat.{ℕ, ◌+◌}
 use native.Mathlib.Omega.{arith}
-use mathlib.Core.Path.{subst, subst₂}
-use mathlib.Core.List.{List}
-use lib.ListN.{replicate}
+use lib.ListN.{replicate, get_or}
+use Rattle.arrayvec.specs.ArrayVec.{ArrayVec}
+use Rattle.backend.specs.Circuit.{cells_of, cells_name}
 use Rattle.backend_sections.proofs.copied.Cells.{Named, Gathered, named_none, named_set, named_past, named_all, gathered_none, gathered_more, gathered_same, gathered_all}
 use Rattle.backend_sections.proofs.copied.copied_columns.Goals as goal
 use Rattle.backend_sections.proofs.copied.copied_columns.Goals.{then-q, else-q, then-named-q, else-named-q}
@@ -21,21 +22,21 @@ loop-i-preserved c =
     ]
 
 pub loop-q-init : goal.loop-q-init
-loop-q-init c = let a = c.args in gathered_none a.cells.now a.polys (replicate 72 0) refl
+loop-q-init c = rw c.new-columns.ensures (gathered_none c.args.cells.now c.args.polys)
 
 pub loop-q-preserved : goal.loop-q-preserved
 loop-q-preserved c =
     let a = c.args in
+    let flag : get_or c.loop-i.named c.loop-q.q false ≡ cells_name (cells_of a.cells.now) c.loop-q.q =
+    named_all a.cells.now c.loop-i.named c.loop-i.i c.loop-i.invariant c.loop-i-test.false c.loop-q.q (let t = c.loop-q-test.true in let m = c.requires in omega arith) in
     elim c.if-named-q.branch [
       | then-named-q w ↦
-          subst₂ (λ (l : List ℕ) (n : ℕ). Gathered a.cells.now a.polys l n (c.loop-q.q + 1)) (sym w.of-is) (sym w.count-is)
-          (gathered_more a.cells.now a.polys c.loop-q.of c.loop-q.count c.loop-q.q c.loop-q.invariant c.loop-q-test.true c.requires (sym (named_all a.cells.now c.loop-i.named c.loop-i.i c.loop-i.invariant c.loop-i-test.false c.loop-q.q (let t = c.loop-q-test.true in let m = c.requires in omega arith)) ∙ w.if-named-q.true))
+          subst (λ (v : ArrayVec ℕ). Gathered a.cells.now a.polys v.items (c.loop-q.q + 1)) (sym w.columns-is)
+          (rw w.push.ensures.items (gathered_more a.cells.now a.polys c.loop-q.columns.items c.loop-q.q c.loop-q.invariant c.loop-q-test.true (sym flag ∙ w.if-named-q.true)))
       | else-named-q w ↦
-          subst₂ (λ (l : List ℕ) (n : ℕ). Gathered a.cells.now a.polys l n (c.loop-q.q + 1)) (sym w.of-is) (sym w.count-is)
-          (gathered_same a.cells.now a.polys c.loop-q.of c.loop-q.count c.loop-q.q c.loop-q.invariant c.loop-q-test.true (sym (named_all a.cells.now c.loop-i.named c.loop-i.i c.loop-i.invariant c.loop-i-test.false c.loop-q.q (let t = c.loop-q-test.true in let m = c.requires in omega arith)) ∙ w.if-named-q.false))
+          subst (λ (v : ArrayVec ℕ). Gathered a.cells.now a.polys v.items (c.loop-q.q + 1)) (sym w.columns-is)
+          (gathered_same a.cells.now a.polys c.loop-q.columns.items c.loop-q.q c.loop-q.invariant c.loop-q-test.true (sym flag ∙ w.if-named-q.false))
     ]
 
-pub returns : goal.returns
-returns c =
-    let a = c.args in
-    gathered_all a.cells.now a.polys c.loop-q.of c.loop-q.count c.loop-q.q c.loop-q.invariant c.loop-q-test.false c.requires
+pub returns-clause-columns : goal.returns-clause-columns
+returns-clause-columns c = gathered_all c.args.cells.now c.args.polys c.loop-q.columns.items c.loop-q.q c.loop-q.invariant c.loop-q-test.false
