@@ -17,8 +17,7 @@ use Rattle.lists.proofs.Tests.{and_left, and_right, all_append, all_each}
 use Rattle.backend.specs.Questions.{good_k, small}
 use Rattle.prover.specs.Lookup.{multiplicity, covered, h_at}
 use Rattle.prover.specs.Denominators.{some_zero, lookup_denominators}
-use Rattle.prover.specs.Answers.{outcome_of, outcome_number, outcome_words}
-use Rattle.prover.specs.declared.Outcome.{Outcome}
+use Rattle.prover.specs.Answers.{Outcome, outcome_of, outcome_number, outcome_words}
 use Rattle.prover.specs.Words.{elements, Small, count_words}
 use Rattle.hyperplonk_spec.specs.Stages.{Answer, check_stage, fits}
 

@@ -9,7 +9,7 @@ ghost use Rattle.hyperplonk_spec.specs.Stages.{m_of, h_of, eq_of};
 use backend_sections::words::{all_elements, is_element};
 use bh::rows_of;
 use field::goldilocks::Goldilocks;
-use prover::Outcome;
+use prover::ZeroDenominator;
 use prover_lookup::h::h_column;
 use prover_lookup::m::m_column;
 
@@ -46,12 +46,12 @@ pub fn lookup_m_poly(k: u64, input: &[u64], table: &[u64], m: &mut [u64]) -> u64
 }
 
 // The number of an answer: 17 where a denominator is zero.
-fn number_of(outcome: Outcome) -> u64
+fn number_of(outcome: Result<(), ZeroDenominator>) -> u64
     ensures { result ≡ outcome_number outcome }
 {
     match outcome {
-        Outcome::Written => 0,
-        Outcome::ZeroDenominator => 17,
+        Ok(()) => 0,
+        Err(ZeroDenominator) => 17,
     }
 }
 

@@ -2,14 +2,15 @@
 use mathlib.Core.Path.{◌≡◌, refl, sym, ap, ap₂, ◌∙◌}
 use mathlib.Core.Logic.{◌≢◌}
 use mathlib.Core.Bool.{Bool, true, false, cond, decide}
-use mathlib.Core.Option.{Option, some}
+use mathlib.Core.Option.{some}
+use mathlib.Core.Option as maybe
 use Prim.Native.Nat.{ℕ, zero, suc, ◌-◌, ◌<◌}
 use native.Mathlib.Omega.{arith}
+use Rattle.std.specs.Prelude.{Option, Some, None}
 use Rattle.field.specs.Prime.{P}
 use Rattle.field.specs.Field.{𝔾, el}
 use Rattle.field.proofs.Elements.{el_injective}
 use Rattle.lists.specs.Lists.{last_where}
-use Rattle.prover.specs.declared.Found.{Found}
 use Rattle.prover.specs.Lookup.{same, last_equal}
 use Rattle.prover.specs.Answers.{found_of, found}
 
@@ -42,11 +43,11 @@ last_below p (suc n) a h = go (λ e. last_below p n a e) (p n) h
 
 module _ (table : ℕ → ℕ) (v : ℕ) where
   -- the last equal row of the first j
-  abbrev pub last_row : ℕ → Option ℕ
+  abbrev pub last_row : ℕ → maybe.Option ℕ
   last_row j = last_equal 𝔾 j (λ r. el (table r)) (el v)
 
   -- the search's answer for the first j rows
-  abbrev pub found_row : ℕ → Found
+  abbrev pub found_row : ℕ → Option ℕ
   found_row j = found 𝔾 j (λ r. el (table r)) (el v)
 
   pub row_below : (n a : ℕ) → last_row n ≡ some a → a < n
@@ -54,18 +55,18 @@ module _ (table : ℕ → ℕ) (v : ℕ) where
   row_below n a h = last_below (λ r. same 𝔾 (el (table r)) (el v)) n a h
 
   -- none of no rows
-  pub search_none : (j : ℕ) → j ≡ 0 → found_row j ≡ Found.Nothing
+  pub search_none : (j : ℕ) → j ≡ 0 → found_row j ≡ None
   unfolding found last_equal last_where
   search_none j e = ap found_row e
 
   -- one row further down
-  pub search_hit : (j : ℕ) → j ≢ 0 → table (j - 1) ≡ v → found_row j ≡ Found.At (j - 1)
+  pub search_hit : (j : ℕ) → j ≢ 0 → table (j - 1) ≡ v → found_row j ≡ Some (j - 1)
   unfolding found last_equal last_where
   search_hit zero z h = absurd (z refl)
   search_hit (suc j) z h =
       let p : suc j - 1 ≡ j = omega arith in
       ap (λ (t : Bool). found_of (cond t (some j) (last_row j))) (same_true (table j) v (ap table (sym p) ∙ h))
-      ∙ ap (λ (i : ℕ). Found.At i) (sym p)
+      ∙ ap (λ (i : ℕ). Some i) (sym p)
 
   pub search_miss : (j : ℕ) → j ≢ 0 → table (j - 1) < P → v < P → table (j - 1) ≢ v → found_row j ≡ found_row (j - 1)
   unfolding found last_equal last_where
@@ -81,7 +82,7 @@ pub last_same : (p q : ℕ → Bool) (n : ℕ) → ((r : ℕ) → r < n → p r 
 unfolding last_where
 last_same p q zero h = refl
 last_same p q (suc n) h =
-    ap₂ (λ (t : Bool) (o : Option ℕ). cond t (some n) o) (h n (omega arith)) (last_same p q n (λ r l. h r (omega arith)))
+    ap₂ (λ (t : Bool) (o : maybe.Option ℕ). cond t (some n) o) (h n (omega arith)) (last_same p q n (λ r l. h r (omega arith)))
 
 pub row_same : (t u : ℕ → ℕ) (v w n : ℕ) → v ≡ w → ((r : ℕ) → r < n → t r ≡ u r) → last_row t v n ≡ last_row u w n
 unfolding last_equal

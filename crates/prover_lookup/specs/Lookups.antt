@@ -1,14 +1,12 @@
 -- The count and h columns of groups of lookups, from the compressed columns of a buffer: input 0, table 0, input 1, table 1, … Item 3 of
 -- document 02: "A group has one m, counting all its inputs at the last equal row".
-use Rattle.std.specs.Prelude.{◌≡◌, Bool, true, cond, List, map, ℕ, ◌+◌, ◌*◌, ◌<◌, length, get_or, take, drop, replicate}
+use Rattle.std.specs.Prelude.{◌≡◌, Bool, true, cond, List, map, ℕ, ◌+◌, ◌*◌, ◌<◌, length, get_or, take, drop, replicate, Option, Ok}
 use Rattle.field.specs.Field.{𝔾, val}
 use Rattle.lists.specs.Lists.{tabulate, range, concat, total, all_of, any_of, write_at}
 use Rattle.prover.specs.Lookup.{multiplicity, covered, group_multiplicity, group_covered, group_h_at}
 use Rattle.prover.specs.Denominators.{some_zero, group_denominators}
-use Rattle.prover.specs.Answers.{searches, outcome_of}
+use Rattle.prover.specs.Answers.{searches, Outcome, outcome_of}
 use Rattle.prover.specs.Words.{elements_from}
-use Rattle.prover.specs.declared.Found.{Found}
-use Rattle.prover.specs.declared.Outcome.{Outcome}
 
 -- ---- one group
 
@@ -31,7 +29,7 @@ group_words rows inputs table =
     cond (group_covered 𝔾 rows inputs table) (tabulate (group_multiplicity 𝔾 rows inputs table) rows) (replicate rows 0)
 
 -- the answers of the search for all inputs of a group, one lookup after another
-unfoldable pub group_searches : ℕ → List (ℕ → 𝔾.F) → (ℕ → 𝔾.F) → List Found
+unfoldable pub group_searches : ℕ → List (ℕ → 𝔾.F) → (ℕ → 𝔾.F) → List (Option ℕ)
 group_searches rows inputs table = concat (map (λ input. searches 𝔾 rows input table) inputs)
 
 -- ---- all groups, by their sizes
@@ -79,6 +77,6 @@ pub record CountsWritten (d sizes : List ℕ) (at m rows : ℕ) (answer : Bool) 
 -- words change in any case
 pub record HsWritten (d sizes : List ℕ) (at m h rows : ℕ) (γ : 𝔾.F) (answer : Outcome) (e : List ℕ) : Type 0 where
   pub is : answer ≡ outcome_of (zero_from d at rows sizes γ)
-  pub hs : answer ≡ Outcome.Written → e ≡ write_at d h (hs_from d at rows sizes γ m)
+  pub hs : answer ≡ Ok tt → e ≡ write_at d h (hs_from d at rows sizes γ m)
   pub front : take h e ≡ take h d
   pub back : drop (h + length sizes * rows) e ≡ drop (h + length sizes * rows) d

@@ -15,7 +15,7 @@ ghost use Rattle.prover_lookup.specs.Lookups.{CountsWritten, HsWritten};
 use crate::h::lookup_h_poly;
 use crate::m::lookup_m_poly;
 use field::goldilocks::Goldilocks;
-use prover::Outcome;
+use prover::ZeroDenominator;
 
 // The counts of all groups, none of them empty. Stops, and answers false, at the first group with an input that no table row equals.
 pub fn lookup_m_polys(
@@ -53,7 +53,7 @@ pub fn lookup_h_polys(
     h: usize,
     gamma: Goldilocks,
     rows: usize,
-) -> Outcome
+) -> Result<(), ZeroDenominator>
     requires { All (λ s. 0 < s) sizes.now × (compressed + total sizes.now * 2 * rows ≤ h) × (m + length sizes.now * rows ≤ h) × (h + length sizes.now * rows ≤ length columns.old) }
     ensures { HsWritten columns.old sizes.now compressed m h rows (elem gamma) result columns.new }
 {
@@ -63,17 +63,11 @@ pub fn lookup_h_polys(
     let mut j: usize = 0;
     while j < sizes.len() {
         let members = sizes[j] as usize;
-        let outcome = lookup_h_poly(columns, input, members, counts, to, gamma, rows);
-        match outcome {
-            Outcome::Written => {}
-            Outcome::ZeroDenominator => {
-                return Outcome::ZeroDenominator;
-            }
-        }
+        lookup_h_poly(columns, input, members, counts, to, gamma, rows)?;
         input += members * rows * 2;
         counts += rows;
         to += rows;
         j += 1;
     }
-    Outcome::Written
+    Ok(())
 }

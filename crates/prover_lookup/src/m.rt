@@ -7,11 +7,10 @@ ghost use Rattle.prover.specs.Answers.{searches, first_number, m_words};
 ghost use Rattle.prover.specs.Words.{elements, elements_from, Small, count_words};
 ghost use Rattle.prover_lookup.specs.Lookups.{inputs_from, Room, added_words, group_words, group_searches};
 
-use prover::Found;
 use prover_instance::blank_column::clear;
 
 // Counts each input at the last equal table row, in a column of its own. False, and a column of zeros, where an input has none.
-// Both are also said by the answers of the search: its number, 15 where one is `Nothing`, and its column m.
+// Both are also said by the answers of the search: its number, 15 where one is `None`, and its column m.
 pub fn m_column(rows: usize, input: &[u64], table: &[u64], m: &mut [u64]) -> bool
     requires { (rows ≤ length input.now) × (rows ≤ length table.now) × (rows ≤ length m.old) × Small rows (λ b. get_or input.now b 0) × Small rows (λ b. get_or table.now b 0) }
     ensures counts { (result ≡ covered 𝔾 rows (elements input.now) (elements table.now)) × (m.new ≡ write_at m.old 0 (count_words rows (elements input.now) (elements table.now))) }
@@ -24,19 +23,19 @@ pub fn m_column(rows: usize, input: &[u64], table: &[u64], m: &mut [u64]) -> boo
         let mut seen = 0;
         let found = 'search: loop {
             if seen == rows {
-                break 'search Found::Nothing;
+                break 'search None;
             }
             seen += 1;
             let j = rows - seen;
             if table[j] == v {
-                break 'search Found::At(j);
+                break 'search Some(j);
             }
         };
         match found {
-            Found::At(row) => {
+            Some(row) => {
                 m[row] += 1;
             }
-            Found::Nothing => {
+            None => {
                 clear(m, 0, rows);
                 return false;
             }
@@ -59,18 +58,18 @@ fn count_inputs(columns: &mut [u64], input: usize, table: usize, m: usize, rows:
         let mut at = end;
         let found = 'search: loop {
             if at == table {
-                break 'search Found::Nothing;
+                break 'search None;
             }
             at -= 1;
             if columns[at] == v {
-                break 'search Found::At(at - table);
+                break 'search Some(at - table);
             }
         };
         match found {
-            Found::At(row) => {
+            Some(row) => {
                 columns[m + row] += 1;
             }
-            Found::Nothing => {
+            None => {
                 clear(columns, m, rows);
                 return false;
             }

@@ -11,8 +11,8 @@ loop-j-init c =
     let a = c.args in
     hs_start a.columns.now a.sizes.now a.compressed a.m a.h (elem a.gamma) a.rows
 
-pub lookup_h_poly-outcome-requires : goal.lookup_h_poly-outcome-requires
-lookup_h_poly-outcome-requires c =
+pub lookup_h_poly-requires : goal.lookup_h_poly-requires
+lookup_h_poly-requires c =
     let l = c.loop-j in
     let t0 = group_behind _ _ _ _ _ _ _ c.requires.0 c.requires.1 c.requires.2 c.requires.3 _ _ _ _ _ c.loop-j.invariant c.loop-j-test.true in
     let t1 = counts_there _ _ _ _ _ _ _ c.requires.0 c.requires.1 c.requires.2 c.requires.3 _ _ _ _ _ c.loop-j.invariant c.loop-j-test.true in
@@ -24,13 +24,13 @@ lookup_h_poly-outcome-requires c =
       omega (arith, t2, l.invariant.size),
     )
 
-pub shape_of-columns-in-ZeroDenominator : goal.shape_of-columns-in-ZeroDenominator
-shape_of-columns-in-ZeroDenominator c =
-    hs_size _ _ _ _ _ _ _ c.requires.0 c.requires.1 c.requires.2 c.requires.3 _ _ _ _ _ c.loop-j.invariant c.loop-j-test.true _ _ c.lookup_h_poly-outcome.ensures
+pub shape_of-columns-in_err-lookup_h_poly : goal.shape_of-columns-in_err-lookup_h_poly
+shape_of-columns-in_err-lookup_h_poly c =
+    hs_size _ _ _ _ _ _ _ c.requires.0 c.requires.1 c.requires.2 c.requires.3 _ _ _ _ _ c.loop-j.invariant c.loop-j-test.true _ _ c.lookup_h_poly.ensures
 
-pub returns-in-ZeroDenominator : goal.returns-in-ZeroDenominator
-returns-in-ZeroDenominator c =
-    hs_stop _ _ _ _ _ _ _ c.requires.0 c.requires.1 c.requires.2 c.requires.3 _ _ _ _ _ c.loop-j.invariant c.loop-j-test.true _ _ c.lookup_h_poly-outcome.ensures c.in-ZeroDenominator.is
+pub returns-in_err-lookup_h_poly : goal.returns-in_err-lookup_h_poly
+returns-in_err-lookup_h_poly c =
+    hs_stop _ _ _ _ _ _ _ c.requires.0 c.requires.1 c.requires.2 c.requires.3 _ _ _ _ _ c.loop-j.invariant c.loop-j-test.true _ _ c.lookup_h_poly.ensures c.in_err-lookup_h_poly.was _ c.from_residual.ensures.0
 
 pub overflow_mul-input : goal.overflow_mul-input
 overflow_mul-input c = omega (arith, group_behind _ _ _ _ _ _ _ c.requires.0 c.requires.1 c.requires.2 c.requires.3 _ _ _ _ _ c.loop-j.invariant c.loop-j-test.true, pair_turn (get_or c.args.sizes.now c.loop-j.j 0) c.args.rows, c.ranges.h)
@@ -49,7 +49,7 @@ overflow_add-to c = omega (arith, h_there _ _ _ _ _ _ _ c.requires.0 c.requires.
 
 pub loop-j-preserved : goal.loop-j-preserved
 loop-j-preserved c =
-    hs_more _ _ _ _ _ _ _ c.requires.0 c.requires.1 c.requires.2 c.requires.3 _ _ _ _ _ c.loop-j.invariant c.loop-j-test.true _ _ c.lookup_h_poly-outcome.ensures c.in-Written.is
+    hs_more _ _ _ _ _ _ _ c.requires.0 c.requires.1 c.requires.2 c.requires.3 _ _ _ _ _ c.loop-j.invariant c.loop-j-test.true _ _ c.lookup_h_poly.ensures c.in_ok-lookup_h_poly.was
 
 pub shape_of-columns : goal.shape_of-columns
 shape_of-columns c = c.loop-j.invariant.size

@@ -6,7 +6,7 @@ use mathlib.Core.List.{List}
 use native.Mathlib.Omega.{arith}
 use lib.ListN.{get_or}
 use Rattle.field.specs.Prime.{P}
-use Rattle.prover.specs.declared.Found.{Found}
+use Rattle.std.specs.Prelude.{Some, None}
 use Rattle.prover.proofs.Search.{found_row, search_none, search_hit, search_miss}
 
 -- no row is seen
@@ -19,13 +19,13 @@ module _ (table : ℕ → ℕ) (v rows seen : ℕ) where
   next_row_is = omega arith
 
   -- all rows are seen
-  pub all_seen : seen ≡ rows → found_row table v (rows - seen) ≡ Found.Nothing
+  pub all_seen : seen ≡ rows → found_row table v (rows - seen) ≡ None
   all_seen e = search_none table v (rows - seen) (omega (arith, e))
 
   -- the next row is equal, or is not
-  pub next_hit : seen ≤ rows → seen ≢ rows → table (rows - (seen + 1)) ≡ v → found_row table v (rows - seen) ≡ Found.At (rows - (seen + 1))
+  pub next_hit : seen ≤ rows → seen ≢ rows → table (rows - (seen + 1)) ≡ v → found_row table v (rows - seen) ≡ Some (rows - (seen + 1))
   next_hit l n h =
-      search_hit table v (rows - seen) (λ e. n (omega (arith, e, l))) (ap table (sym next_row_is) ∙ h) ∙ ap (λ (i : ℕ). Found.At i) (sym next_row_is)
+      search_hit table v (rows - seen) (λ e. n (omega (arith, e, l))) (ap table (sym next_row_is) ∙ h) ∙ ap (λ (i : ℕ). Some i) (sym next_row_is)
 
   pub next_miss : seen ≤ rows → seen ≢ rows → table (rows - (seen + 1)) < P → v < P → table (rows - (seen + 1)) ≢ v
       → found_row table v (rows - seen) ≡ found_row table v (rows - (seen + 1))
@@ -41,7 +41,7 @@ place_all d table v rows = ap (found_row (λ r. get_or d (table + r) 0) v) {x = 
 
 -- the same by the places of a buffer, whose table starts at `table`; `at` is one past the next place
 module _ (d : List ℕ) (table v at : ℕ) (l : table ≤ at) where
-  pub place_none : at ≡ table → found_row (λ r. get_or d (table + r) 0) v (at - table) ≡ Found.Nothing
+  pub place_none : at ≡ table → found_row (λ r. get_or d (table + r) 0) v (at - table) ≡ None
   place_none e = search_none (λ r. get_or d (table + r) 0) v (at - table) (omega arith)
 
   module _ (n : at ≡ table → ⊥) where
@@ -51,9 +51,9 @@ module _ (d : List ℕ) (table v at : ℕ) (l : table ≤ at) where
     lower : at - table - 1 ≡ at - 1 - table
     lower = omega arith
 
-    pub place_hit : get_or d (at - 1) 0 ≡ v → found_row (λ r. get_or d (table + r) 0) v (at - table) ≡ Found.At (at - 1 - table)
+    pub place_hit : get_or d (at - 1) 0 ≡ v → found_row (λ r. get_or d (table + r) 0) v (at - table) ≡ Some (at - 1 - table)
     place_hit h =
-        search_hit (λ r. get_or d (table + r) 0) v (at - table) (λ e. n (omega arith)) (next_place ∙ h) ∙ ap (λ (i : ℕ). Found.At i) lower
+        search_hit (λ r. get_or d (table + r) 0) v (at - table) (λ e. n (omega arith)) (next_place ∙ h) ∙ ap (λ (i : ℕ). Some i) lower
 
     pub place_miss : get_or d (at - 1) 0 < P → v < P → (get_or d (at - 1) 0 ≡ v → ⊥)
         → found_row (λ r. get_or d (table + r) 0) v (at - table) ≡ found_row (λ r. get_or d (table + r) 0) v (at - 1 - table)

@@ -11,24 +11,24 @@ use Rattle.lists.specs.Lists.{tabulate, concat, total, all_of, All, write_at}
 use Rattle.lists.proofs.Columns.{get_tabulate, tabulate_cong}
 use Rattle.lists.proofs.Tests.{all_true}
 use Rattle.lists.proofs.Totals.{total_append}
-use Rattle.prover.specs.declared.Found.{Found}
+use Rattle.std.specs.Prelude.{Option, Some, None}
 use Rattle.prover.specs.Lookup.{multiplicity, covered, group_multiplicity, group_covered}
 use Rattle.prover.specs.Answers.{counted_at, searches, first_number, m_words}
 use Rattle.prover.proofs.Answers as answers
 use Rattle.prover_lookup.specs.Lookups.{group_words, group_searches}
 
 -- the number of two runs of answers
-first_on : (xs ys : List Found) → first_number xs ≡ 0 → first_number (xs ++ ys) ≡ first_number ys
+first_on : (xs ys : List (Option ℕ)) → first_number xs ≡ 0 → first_number (xs ++ ys) ≡ first_number ys
 unfolding first_number
 first_on [] ys e = refl
-first_on (Found.At row ∷ xs) ys e = first_on xs ys e
-first_on (Found.Nothing ∷ xs) ys e = absurd (omega (arith, e))
+first_on (Some row ∷ xs) ys e = first_on xs ys e
+first_on (None ∷ xs) ys e = absurd (omega (arith, e))
 
-first_stop : (xs ys : List Found) → first_number xs ≡ 15 → first_number (xs ++ ys) ≡ 15
+first_stop : (xs ys : List (Option ℕ)) → first_number xs ≡ 15 → first_number (xs ++ ys) ≡ 15
 unfolding first_number
 first_stop [] ys e = absurd (omega (arith, e))
-first_stop (Found.At row ∷ xs) ys e = first_stop xs ys e
-first_stop (Found.Nothing ∷ xs) ys e = refl
+first_stop (Some row ∷ xs) ys e = first_stop xs ys e
+first_stop (None ∷ xs) ys e = refl
 
 module _ (rows : ℕ) (table : ℕ → 𝔾.F) where
   number_is : (inputs : List (ℕ → 𝔾.F)) → first_number (group_searches rows inputs table) ≡ cond (group_covered 𝔾 rows inputs table) 0 15

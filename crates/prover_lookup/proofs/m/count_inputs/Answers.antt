@@ -68,7 +68,7 @@ overflow_add-columns c = omega (
       let a = c.args in
       let d = c.loop-i.columns in
       let v = get_or d (a.input + c.loop-i.i) 0 in
-      elim c.if-at-table.branch [ then-at-table w ↦ w.found-is ∙ sym (l.invariant.2 ∙ place_none d a.table v l.at l.invariant.0 w.if-at-table.true) | else-at-table+then-columns-at w ↦ w.found-is ∙ sym (l.invariant.2 ∙ place_hit d a.table v l.at l.invariant.0 w.if-at-table.false w.if-columns-at.true) ])) ∙ c.in-At.is)))),
+      elim c.if-at-table.branch [ then-at-table w ↦ w.found-is ∙ sym (l.invariant.2 ∙ place_none d a.table v l.at l.invariant.0 w.if-at-table.true) | else-at-table+then-columns-at w ↦ w.found-is ∙ sym (l.invariant.2 ∙ place_hit d a.table v l.at l.invariant.0 w.if-at-table.false w.if-columns-at.true) ])) ∙ c.in-Some.is)))),
   c.requires.2,
 )
 
@@ -79,7 +79,7 @@ offset_bounds-columns-m c = omega (
       let a = c.args in
       let d = c.loop-i.columns in
       let v = get_or d (a.input + c.loop-i.i) 0 in
-      elim c.if-at-table.branch [ then-at-table w ↦ w.found-is ∙ sym (l.invariant.2 ∙ place_none d a.table v l.at l.invariant.0 w.if-at-table.true) | else-at-table+then-columns-at w ↦ w.found-is ∙ sym (l.invariant.2 ∙ place_hit d a.table v l.at l.invariant.0 w.if-at-table.false w.if-columns-at.true) ])) ∙ c.in-At.is)))),
+      elim c.if-at-table.branch [ then-at-table w ↦ w.found-is ∙ sym (l.invariant.2 ∙ place_none d a.table v l.at l.invariant.0 w.if-at-table.true) | else-at-table+then-columns-at w ↦ w.found-is ∙ sym (l.invariant.2 ∙ place_hit d a.table v l.at l.invariant.0 w.if-at-table.false w.if-columns-at.true) ])) ∙ c.in-Some.is)))),
   c.requires.2,
 )
 
@@ -90,36 +90,36 @@ bounds-columns-m c = omega (
       let a = c.args in
       let d = c.loop-i.columns in
       let v = get_or d (a.input + c.loop-i.i) 0 in
-      elim c.if-at-table.branch [ then-at-table w ↦ w.found-is ∙ sym (l.invariant.2 ∙ place_none d a.table v l.at l.invariant.0 w.if-at-table.true) | else-at-table+then-columns-at w ↦ w.found-is ∙ sym (l.invariant.2 ∙ place_hit d a.table v l.at l.invariant.0 w.if-at-table.false w.if-columns-at.true) ])) ∙ c.in-At.is)))),
+      elim c.if-at-table.branch [ then-at-table w ↦ w.found-is ∙ sym (l.invariant.2 ∙ place_none d a.table v l.at l.invariant.0 w.if-at-table.true) | else-at-table+then-columns-at w ↦ w.found-is ∙ sym (l.invariant.2 ∙ place_hit d a.table v l.at l.invariant.0 w.if-at-table.false w.if-columns-at.true) ])) ∙ c.in-Some.is)))),
   c.requires.2,
   c.loop-i.invariant.size,
 )
 
-pub overflow_add-columns-in-At : goal.overflow_add-columns-in-At
-overflow_add-columns-in-At c =
+pub overflow_add-columns-in-Some : goal.overflow_add-columns-in-Some
+overflow_add-columns-in-Some c =
     omega (
       arith,
       added_le _ _ _ _ c.requires.2 _ _ c.loop-i.invariant _ _ refl ((row_below _ _ _ _ ((found_at 𝔾 _ _ _ _ (sym ((let l = c.search in
           let a = c.args in
           let d = c.loop-i.columns in
           let v = get_or d (a.input + c.loop-i.i) 0 in
-          elim c.if-at-table.branch [ then-at-table w ↦ w.found-is ∙ sym (l.invariant.2 ∙ place_none d a.table v l.at l.invariant.0 w.if-at-table.true) | else-at-table+then-columns-at w ↦ w.found-is ∙ sym (l.invariant.2 ∙ place_hit d a.table v l.at l.invariant.0 w.if-at-table.false w.if-columns-at.true) ])) ∙ c.in-At.is))))),
+          elim c.if-at-table.branch [ then-at-table w ↦ w.found-is ∙ sym (l.invariant.2 ∙ place_none d a.table v l.at l.invariant.0 w.if-at-table.true) | else-at-table+then-columns-at w ↦ w.found-is ∙ sym (l.invariant.2 ∙ place_hit d a.table v l.at l.invariant.0 w.if-at-table.false w.if-columns-at.true) ])) ∙ c.in-Some.is))))),
       c.loop-i-test.true,
       c.requires.5 _ ((row_below _ _ _ _ ((found_at 𝔾 _ _ _ _ (sym ((let l = c.search in
           let a = c.args in
           let d = c.loop-i.columns in
           let v = get_or d (a.input + c.loop-i.i) 0 in
-          elim c.if-at-table.branch [ then-at-table w ↦ w.found-is ∙ sym (l.invariant.2 ∙ place_none d a.table v l.at l.invariant.0 w.if-at-table.true) | else-at-table+then-columns-at w ↦ w.found-is ∙ sym (l.invariant.2 ∙ place_hit d a.table v l.at l.invariant.0 w.if-at-table.false w.if-columns-at.true) ])) ∙ c.in-At.is))))),
+          elim c.if-at-table.branch [ then-at-table w ↦ w.found-is ∙ sym (l.invariant.2 ∙ place_none d a.table v l.at l.invariant.0 w.if-at-table.true) | else-at-table+then-columns-at w ↦ w.found-is ∙ sym (l.invariant.2 ∙ place_hit d a.table v l.at l.invariant.0 w.if-at-table.false w.if-columns-at.true) ])) ∙ c.in-Some.is))))),
     )
 
-pub bounds-columns-m-in-At : goal.bounds-columns-m-in-At
-bounds-columns-m-in-At c = omega (
+pub bounds-columns-m-in-Some : goal.bounds-columns-m-in-Some
+bounds-columns-m-in-Some c = omega (
   arith,
   (row_below _ _ _ _ ((found_at 𝔾 _ _ _ _ (sym ((let l = c.search in
       let a = c.args in
       let d = c.loop-i.columns in
       let v = get_or d (a.input + c.loop-i.i) 0 in
-      elim c.if-at-table.branch [ then-at-table w ↦ w.found-is ∙ sym (l.invariant.2 ∙ place_none d a.table v l.at l.invariant.0 w.if-at-table.true) | else-at-table+then-columns-at w ↦ w.found-is ∙ sym (l.invariant.2 ∙ place_hit d a.table v l.at l.invariant.0 w.if-at-table.false w.if-columns-at.true) ])) ∙ c.in-At.is)))),
+      elim c.if-at-table.branch [ then-at-table w ↦ w.found-is ∙ sym (l.invariant.2 ∙ place_none d a.table v l.at l.invariant.0 w.if-at-table.true) | else-at-table+then-columns-at w ↦ w.found-is ∙ sym (l.invariant.2 ∙ place_hit d a.table v l.at l.invariant.0 w.if-at-table.false w.if-columns-at.true) ])) ∙ c.in-Some.is)))),
   c.requires.2,
   c.loop-i.invariant.size,
 )
@@ -127,18 +127,18 @@ bounds-columns-m-in-At c = omega (
 pub clear-requires : goal.clear-requires
 clear-requires c = omega (arith, c.requires.2, c.loop-i.invariant.size)
 
-pub shape_of-columns-in-Nothing : goal.shape_of-columns-in-Nothing
-shape_of-columns-in-Nothing c = c.clear.auto.columns ∙ c.loop-i.invariant.size
+pub shape_of-columns-in-None : goal.shape_of-columns-in-None
+shape_of-columns-in-None c = c.clear.auto.columns ∙ c.loop-i.invariant.size
 
-pub returns-in-Nothing : goal.returns-in-Nothing
-returns-in-Nothing c =
+pub returns-in-None : goal.returns-in-None
+returns-in-None c =
     let l = c.loop-i in
     added_false _ _ _ c.args.columns.now c.args.m _ l.i c.loop-i-test.true
     ((added_rows _ _ _ _ c.requires.2 _ _ c.loop-i.invariant c.args.input c.args.table c.requires.0 c.requires.1 _ c.loop-i-test.true) ∙ found_nothing 𝔾 _ _ _ (sym ((let l = c.search in
     let a = c.args in
     let d = c.loop-i.columns in
     let v = get_or d (a.input + c.loop-i.i) 0 in
-    elim c.if-at-table.branch [ then-at-table w ↦ w.found-is ∙ sym (l.invariant.2 ∙ place_none d a.table v l.at l.invariant.0 w.if-at-table.true) | else-at-table+then-columns-at w ↦ w.found-is ∙ sym (l.invariant.2 ∙ place_hit d a.table v l.at l.invariant.0 w.if-at-table.false w.if-columns-at.true) ])) ∙ c.in-Nothing.is))
+    elim c.if-at-table.branch [ then-at-table w ↦ w.found-is ∙ sym (l.invariant.2 ∙ place_none d a.table v l.at l.invariant.0 w.if-at-table.true) | else-at-table+then-columns-at w ↦ w.found-is ∙ sym (l.invariant.2 ∙ place_hit d a.table v l.at l.invariant.0 w.if-at-table.false w.if-columns-at.true) ])) ∙ c.in-None.is))
     (added_cleared _ _ _ _ c.requires.2 _ _ l.invariant _ c.clear.ensures)
 
 pub loop-i-preserved : goal.loop-i-preserved
@@ -148,12 +148,12 @@ loop-i-preserved c =
     let a = c.args in
     let d = c.loop-i.columns in
     let v = get_or d (a.input + c.loop-i.i) 0 in
-    elim c.if-at-table.branch [ then-at-table w ↦ w.found-is ∙ sym (l.invariant.2 ∙ place_none d a.table v l.at l.invariant.0 w.if-at-table.true) | else-at-table+then-columns-at w ↦ w.found-is ∙ sym (l.invariant.2 ∙ place_hit d a.table v l.at l.invariant.0 w.if-at-table.false w.if-columns-at.true) ])) ∙ c.in-At.is))))) c.loop-i-test.true
+    elim c.if-at-table.branch [ then-at-table w ↦ w.found-is ∙ sym (l.invariant.2 ∙ place_none d a.table v l.at l.invariant.0 w.if-at-table.true) | else-at-table+then-columns-at w ↦ w.found-is ∙ sym (l.invariant.2 ∙ place_hit d a.table v l.at l.invariant.0 w.if-at-table.false w.if-columns-at.true) ])) ∙ c.in-Some.is))))) c.loop-i-test.true
     ((added_rows _ _ _ _ c.requires.2 _ _ c.loop-i.invariant c.args.input c.args.table c.requires.0 c.requires.1 _ c.loop-i-test.true) ∙ (found_at 𝔾 _ _ _ _ (sym ((let l = c.search in
     let a = c.args in
     let d = c.loop-i.columns in
     let v = get_or d (a.input + c.loop-i.i) 0 in
-    elim c.if-at-table.branch [ then-at-table w ↦ w.found-is ∙ sym (l.invariant.2 ∙ place_none d a.table v l.at l.invariant.0 w.if-at-table.true) | else-at-table+then-columns-at w ↦ w.found-is ∙ sym (l.invariant.2 ∙ place_hit d a.table v l.at l.invariant.0 w.if-at-table.false w.if-columns-at.true) ])) ∙ c.in-At.is)))
+    elim c.if-at-table.branch [ then-at-table w ↦ w.found-is ∙ sym (l.invariant.2 ∙ place_none d a.table v l.at l.invariant.0 w.if-at-table.true) | else-at-table+then-columns-at w ↦ w.found-is ∙ sym (l.invariant.2 ∙ place_hit d a.table v l.at l.invariant.0 w.if-at-table.false w.if-columns-at.true) ])) ∙ c.in-Some.is)))
 
 pub shape_of-columns : goal.shape_of-columns
 shape_of-columns c = c.loop-i.invariant.size

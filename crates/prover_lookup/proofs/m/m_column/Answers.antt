@@ -32,7 +32,7 @@ pub offset_bounds-m-row : goal.offset_bounds-m-row
 offset_bounds-m-row c = omega (
   arith,
   (row_below _ _ _ _ ((found_at 𝔾 _ _ _ _ (sym ((let l = c.search in
-      elim c.if-seen-rows.branch [ then-seen-rows w ↦ w.found-is ∙ sym (l.invariant.1 ∙ all_seen _ _ _ l.seen w.if-seen-rows.true) | else-seen-rows+then-table-j w ↦ w.found-is ∙ sym (l.invariant.1 ∙ next_hit _ _ _ l.seen l.invariant.0 w.if-seen-rows.false w.if-table-j.true) ])) ∙ c.in-At.is)))),
+      elim c.if-seen-rows.branch [ then-seen-rows w ↦ w.found-is ∙ sym (l.invariant.1 ∙ all_seen _ _ _ l.seen w.if-seen-rows.true) | else-seen-rows+then-table-j w ↦ w.found-is ∙ sym (l.invariant.1 ∙ next_hit _ _ _ l.seen l.invariant.0 w.if-seen-rows.false w.if-table-j.true) ])) ∙ c.in-Some.is)))),
   c.requires.2,
 )
 
@@ -40,7 +40,7 @@ pub bounds-m-row : goal.bounds-m-row
 bounds-m-row c = omega (
   arith,
   (row_below _ _ _ _ ((found_at 𝔾 _ _ _ _ (sym ((let l = c.search in
-      elim c.if-seen-rows.branch [ then-seen-rows w ↦ w.found-is ∙ sym (l.invariant.1 ∙ all_seen _ _ _ l.seen w.if-seen-rows.true) | else-seen-rows+then-table-j w ↦ w.found-is ∙ sym (l.invariant.1 ∙ next_hit _ _ _ l.seen l.invariant.0 w.if-seen-rows.false w.if-table-j.true) ])) ∙ c.in-At.is)))),
+      elim c.if-seen-rows.branch [ then-seen-rows w ↦ w.found-is ∙ sym (l.invariant.1 ∙ all_seen _ _ _ l.seen w.if-seen-rows.true) | else-seen-rows+then-table-j w ↦ w.found-is ∙ sym (l.invariant.1 ∙ next_hit _ _ _ l.seen l.invariant.0 w.if-seen-rows.false w.if-table-j.true) ])) ∙ c.in-Some.is)))),
   c.requires.2,
   c.loop-i.invariant.0,
   c.clear.auto.columns,
@@ -51,28 +51,28 @@ overflow_add-m c =
     omega (
       arith,
       counted_le _ _ _ _ (omega (arith, c.requires.2)) _ _ ((c.loop-i.invariant.2 c.args.m.now (omega (arith, c.requires.2)) c.clear.ensures)) _ _ (sym (zero-add _)) ((row_below _ _ _ _ ((found_at 𝔾 _ _ _ _ (sym ((let l = c.search in
-          elim c.if-seen-rows.branch [ then-seen-rows w ↦ w.found-is ∙ sym (l.invariant.1 ∙ all_seen _ _ _ l.seen w.if-seen-rows.true) | else-seen-rows+then-table-j w ↦ w.found-is ∙ sym (l.invariant.1 ∙ next_hit _ _ _ l.seen l.invariant.0 w.if-seen-rows.false w.if-table-j.true) ])) ∙ c.in-At.is))))),
+          elim c.if-seen-rows.branch [ then-seen-rows w ↦ w.found-is ∙ sym (l.invariant.1 ∙ all_seen _ _ _ l.seen w.if-seen-rows.true) | else-seen-rows+then-table-j w ↦ w.found-is ∙ sym (l.invariant.1 ∙ next_hit _ _ _ l.seen l.invariant.0 w.if-seen-rows.false w.if-table-j.true) ])) ∙ c.in-Some.is))))),
       c.loop-i-test.true,
       c.ranges.rows,
     )
 
-pub bounds-m-row-in-At : goal.bounds-m-row-in-At
-bounds-m-row-in-At c = omega (
+pub bounds-m-row-in-Some : goal.bounds-m-row-in-Some
+bounds-m-row-in-Some c = omega (
   arith,
   (row_below _ _ _ _ ((found_at 𝔾 _ _ _ _ (sym ((let l = c.search in
-      elim c.if-seen-rows.branch [ then-seen-rows w ↦ w.found-is ∙ sym (l.invariant.1 ∙ all_seen _ _ _ l.seen w.if-seen-rows.true) | else-seen-rows+then-table-j w ↦ w.found-is ∙ sym (l.invariant.1 ∙ next_hit _ _ _ l.seen l.invariant.0 w.if-seen-rows.false w.if-table-j.true) ])) ∙ c.in-At.is)))),
+      elim c.if-seen-rows.branch [ then-seen-rows w ↦ w.found-is ∙ sym (l.invariant.1 ∙ all_seen _ _ _ l.seen w.if-seen-rows.true) | else-seen-rows+then-table-j w ↦ w.found-is ∙ sym (l.invariant.1 ∙ next_hit _ _ _ l.seen l.invariant.0 w.if-seen-rows.false w.if-table-j.true) ])) ∙ c.in-Some.is)))),
   c.requires.2,
   c.loop-i.invariant.0,
   c.clear.auto.columns,
 )
 
-pub returns-in-Nothing : goal.returns-in-Nothing
-returns-in-Nothing c =
+pub returns-in-None : goal.returns-in-None
+returns-in-None c =
     let p = by_search c.args.rows (elements c.args.input.now) (elements c.args.table.now) _ _ _ _
     (answer_false _ _ _ c.args.m.now 0 _ c.loop-i.i c.loop-i-test.true
     (found_nothing 𝔾 _ _ _ (sym ((let l = c.search in
-    elim c.if-seen-rows.branch [ then-seen-rows w ↦ w.found-is ∙ sym (l.invariant.1 ∙ all_seen _ _ _ l.seen w.if-seen-rows.true) | else-seen-rows+then-table-j w ↦ w.found-is ∙ sym (l.invariant.1 ∙ next_hit _ _ _ l.seen l.invariant.0 w.if-seen-rows.false w.if-table-j.true) ])) ∙ c.in-Nothing.is))
-    (counted_cleared _ _ _ _ (omega (arith, c.requires.2)) _ _ ((c.loop-i.invariant.2 c.args.m.now (omega (arith, c.requires.2)) c.clear.ensures)) _ c.clear-in-Nothing.ensures)) in
+    elim c.if-seen-rows.branch [ then-seen-rows w ↦ w.found-is ∙ sym (l.invariant.1 ∙ all_seen _ _ _ l.seen w.if-seen-rows.true) | else-seen-rows+then-table-j w ↦ w.found-is ∙ sym (l.invariant.1 ∙ next_hit _ _ _ l.seen l.invariant.0 w.if-seen-rows.false w.if-table-j.true) ])) ∙ c.in-None.is))
+    (counted_cleared _ _ _ _ (omega (arith, c.requires.2)) _ _ ((c.loop-i.invariant.2 c.args.m.now (omega (arith, c.requires.2)) c.clear.ensures)) _ c.clear-in-None.ensures)) in
     record { counts = p.0; found = p.1 }
 
 pub loop-i-preserved : goal.loop-i-preserved
@@ -81,9 +81,9 @@ loop-i-preserved c = (
   omega arith,
   λ d h e.
       counted_more _ _ d 0 h _ _ (c.loop-i.invariant.2 d h e) _ _ (sym (zero-add _)) ((row_below _ _ _ _ ((found_at 𝔾 _ _ _ _ (sym ((let l = c.search in
-      elim c.if-seen-rows.branch [ then-seen-rows w ↦ w.found-is ∙ sym (l.invariant.1 ∙ all_seen _ _ _ l.seen w.if-seen-rows.true) | else-seen-rows+then-table-j w ↦ w.found-is ∙ sym (l.invariant.1 ∙ next_hit _ _ _ l.seen l.invariant.0 w.if-seen-rows.false w.if-table-j.true) ])) ∙ c.in-At.is)))))
+      elim c.if-seen-rows.branch [ then-seen-rows w ↦ w.found-is ∙ sym (l.invariant.1 ∙ all_seen _ _ _ l.seen w.if-seen-rows.true) | else-seen-rows+then-table-j w ↦ w.found-is ∙ sym (l.invariant.1 ∙ next_hit _ _ _ l.seen l.invariant.0 w.if-seen-rows.false w.if-table-j.true) ])) ∙ c.in-Some.is)))))
       c.loop-i-test.true ((found_at 𝔾 _ _ _ _ (sym ((let l = c.search in
-      elim c.if-seen-rows.branch [ then-seen-rows w ↦ w.found-is ∙ sym (l.invariant.1 ∙ all_seen _ _ _ l.seen w.if-seen-rows.true) | else-seen-rows+then-table-j w ↦ w.found-is ∙ sym (l.invariant.1 ∙ next_hit _ _ _ l.seen l.invariant.0 w.if-seen-rows.false w.if-table-j.true) ])) ∙ c.in-At.is))),
+      elim c.if-seen-rows.branch [ then-seen-rows w ↦ w.found-is ∙ sym (l.invariant.1 ∙ all_seen _ _ _ l.seen w.if-seen-rows.true) | else-seen-rows+then-table-j w ↦ w.found-is ∙ sym (l.invariant.1 ∙ next_hit _ _ _ l.seen l.invariant.0 w.if-seen-rows.false w.if-table-j.true) ])) ∙ c.in-Some.is))),
 )
 
 pub returns : goal.returns
