@@ -5,7 +5,7 @@ ghost use Rattle.field.specs.Parse.{Among, parsed, number_among, parsed_number};
 ghost use Rattle.lists.specs.Lists.{all_of, total, maximum};
 ghost use Rattle.backend.specs.Circuit.{word_each};
 
-use field::goldilocks::{Goldilocks, Parsed};
+use field::goldilocks::Goldilocks;
 
 // Is every word below the limit?
 pub fn all_below(words: &[u64], limit: u64) -> bool
@@ -26,11 +26,7 @@ pub fn is_element(word: u64) -> bool
     ensures below { result ≡ ltb word P }
     ensures number { (a : Among) → cond result 0 (number_among a) ≡ parsed_number a (parsed word) }
 {
-    let answer = Goldilocks::new(word);
-    match answer {
-        Parsed::Element(_) => true,
-        Parsed::TooLarge => false,
-    }
+    Goldilocks::new(word).is_some()
 }
 
 // Is every word? No is the number of the question that asks.

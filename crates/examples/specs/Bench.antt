@@ -1,9 +1,8 @@
 -- The bench examples of document 01 (●), one table of theorems over the definitions.
-use Rattle.std.specs.Prelude.{◌≡◌, refl, true, false, List, [], ◌∷◌, ℕ, zero, suc, ◌-◌, ◌*◌, ◌^◌, pos, negsuc, length, get_or, take, replicate}
+use Rattle.std.specs.Prelude.{◌≡◌, refl, true, false, Some, None, List, [], ◌∷◌, ℕ, zero, suc, ◌-◌, ◌*◌, ◌^◌, pos, negsuc, length, get_or, take, replicate}
 use Rattle.std.proofs.Math.Option.{Option, none, some}
 use Rattle.field.specs.Field.{𝔾, el, val}
 use Rattle.field.specs.Inverse.{inverse_of}
-use Rattle.field.specs.declared.Inverse.{Inverse}
 use Rattle.bh.specs.Rows.{prev_row, order, lagrange_row}
 use Rattle.lists.specs.Lists.{tabulate, first_no}
 use Rattle.backend.specs.Questions.{group_numbers_good, q10, circuit_questions, good_k}
@@ -108,13 +107,13 @@ unfolding everything
 inverse_0 = refl
 
 -- Item 2 of document 02: "The inverse must answer either a value or "zero"": of 0, of p, which is zero too, and of 2
-pub answers_0 : inverse_of 0 ≡ Inverse.Zero
+pub answers_0 : inverse_of 0 ≡ None
 answers_0 = refl
 
-pub answers_p : inverse_of 18446744069414584321 ≡ Inverse.Zero
+pub answers_p : inverse_of 18446744069414584321 ≡ None
 answers_p = refl
 
-pub answers_2 : inverse_of 2 ≡ Inverse.Value 9223372034707292161
+pub answers_2 : inverse_of 2 ≡ Some 9223372034707292161
 unfolding everything
 answers_2 = refl
 
@@ -173,7 +172,7 @@ pub value_p : check_build (lent_build (single 1) [] (3 ∷ P ∷ []) (5 ∷ 7 �
 unfolding everything
 value_p = refl
 
--- the number of `TooLarge` where the word p stands: among the words of a call, of the circuit, of a row sum
+-- the number of a word that is too large, p, where it stands: among the words of a call, of the circuit, of a row sum
 pub value_p_told : check_build (lent_build (single 1) [] (3 ∷ P ∷ []) (5 ∷ 7 ∷ []) (four 9 9 9 9) (replicate 200 9)) ≡ parsed_number Among.call_words (parsed P)
 unfolding everything
 value_p_told = refl

@@ -6,23 +6,10 @@ ghost use Rattle.field.specs.Parse.{parsed};
 ghost use Rattle.field.specs.Element.{elem, is_zero};
 ghost use Rattle.field.specs.Inverse.{inverse_in, inverted};
 
-use crate::{Inverse, MODULUS, invert_u64, neg_u64, product_word, reduce_u64, sub_u64, sum_word};
+use crate::{MODULUS, invert_u64, neg_u64, product_word, reduce_u64, sub_u64, sum_word};
 
 #[derive(Clone, Copy)]
 pub struct Goldilocks(u64);
-
-#[derive(Clone, Copy)]
-pub enum Parsed {
-    Element(Goldilocks),
-    TooLarge,
-}
-
-// What `invert` answers: the inverse, or that there is none (specs/Inverse.antt).
-#[derive(Clone, Copy)]
-pub enum Inverted {
-    Element(Goldilocks),
-    Zero,
-}
 
 impl Goldilocks {
     pub const ZERO: Goldilocks = Goldilocks(0);
@@ -43,14 +30,14 @@ impl Goldilocks {
         Goldilocks::ONE
     }
 
-    // The element of a number below p.
-    pub fn new(x: u64) -> Parsed
+    // The element of a number below p, or `None`: it is too large.
+    pub fn new(x: u64) -> Option<Goldilocks>
         ensures { result ≡ parsed x }
     {
         if x < MODULUS {
-            Parsed::Element(Goldilocks(x))
+            Some(Goldilocks(x))
         } else {
-            Parsed::TooLarge
+            None
         }
     }
 
@@ -117,14 +104,10 @@ impl Goldilocks {
         Goldilocks(product_word(self.0, b.0))
     }
 
-    // The inverse, or `Zero` for 0.
-    pub fn invert(self) -> Inverted
+    // The inverse, or `None` for 0.
+    pub fn invert(self) -> Option<Goldilocks>
         ensures { inverted result ≡ inverse_in 𝔾 (elem self) }
     {
-        let inverse = invert_u64(self.0);
-        match inverse {
-            Inverse::Value(x) => Inverted::Element(Goldilocks(x)),
-            Inverse::Zero => Inverted::Zero,
-        }
+        Some(Goldilocks(invert_u64(self.0)?))
     }
 }

@@ -7,9 +7,5 @@ pub fn clear(columns: &mut [u64], at: usize, rows: usize)
     requires { at + rows ≤ length columns.old }
     ensures { columns.new ≡ write_at columns.old at (replicate rows 0) }
 {
-    let mut i: usize = 0;
-    while i < rows {
-        columns[at + i] = 0;
-        i += 1;
-    }
+    columns[at..at + rows].fill(0);
 }

@@ -13,25 +13,16 @@ use crate::blank_column::clear;
 use bh::rows_of;
 use field::goldilocks::Goldilocks;
 
-// One instance column, from word `at` on: value t of the `count` values from `from` on stands at place t + 1 of the row order.
-fn instance_column(
-    k: usize,
-    instance: &[u64],
-    from: usize,
-    count: usize,
-    columns: &mut [u64],
-    at: usize,
-)
-    requires { (1 ≤ k) × (k ≤ 20) × (count < 2 ^ k) × (from + count ≤ length instance.now) × (at + 2 ^ k ≤ length columns.old) }
-    ensures { columns.new ≡ write_at columns.old at (tabulate (λ b. val (instance_at 𝔾 k (map el (take count (drop from instance.now))) b)) (2 ^ k)) }
+// One instance column, from word `at` on: value t stands at place t + 1 of the row order.
+fn instance_column(k: usize, values: &[u64], columns: &mut [u64], at: usize)
+    requires { (1 ≤ k) × (k ≤ 20) × (length values.now < 2 ^ k) × (at + 2 ^ k ≤ length columns.old) }
+    ensures { columns.new ≡ write_at columns.old at (tabulate (λ b. val (instance_at 𝔾 k (map el values.now) b)) (2 ^ k)) }
 {
     clear(columns, at, rows_of(k));
     let mut row: usize = 1;
-    let mut t: usize = 0;
-    while t < count {
-        columns[at + row] = Goldilocks::at(instance, from + t).to_u64();
+    for value in values {
+        columns[at + row] = Goldilocks::from_u64(*value).to_u64();
         row = bh::next(row, k);
-        t += 1;
     }
 }
 
@@ -43,12 +34,10 @@ pub fn instance_polys(k: usize, lengths: &[u64], instance: &[u64], columns: &mut
     let rows = rows_of(k);
     let mut from: usize = 0;
     let mut at: usize = 0;
-    let mut i: usize = 0;
-    while i < lengths.len() {
-        let count = lengths[i] as usize;
-        instance_column(k, instance, from, count, columns, at);
-        from += count;
+    for count in lengths {
+        let end = from + *count as usize;
+        instance_column(k, &instance[from..end], columns, at);
+        from = end;
         at += rows;
-        i += 1;
     }
 }

@@ -7,26 +7,24 @@ use native.Mathlib.Omega.{arith}
 use lib.Dec.{ltb}
 use Rattle.field.specs.Prime.{P}
 use Rattle.lists.specs.Lists.{all_of, maximum}
-use Rattle.field.specs.declared.goldilocks.Goldilocks.{Goldilocks}
-use Rattle.field.specs.declared.goldilocks.Parsed.{Parsed}
+use Rattle.std.specs.Prelude.{is_some}
 use Rattle.field.specs.Parse.{Among, choose, parsed, number_among, parsed_number}
 
 -- ---- one word
 module _ (w : ℕ) where
-  element_below : (t : Bool) (x : Goldilocks) → choose t w ≡ Parsed.Element x → true ≡ t
-  element_below true x e = refl
-  element_below false x e = let z : ◌≡◌ {A = ℕ} 0 1 = cc in absurd (omega arith)
+  chosen_below : (t : Bool) → is_some (choose t w) ≡ t
+  chosen_below true = refl
+  chosen_below false = refl
 
-  large_above : (t : Bool) → choose t w ≡ Parsed.TooLarge → false ≡ t
-  large_above true e = let z : ◌≡◌ {A = ℕ} 0 1 = cc in absurd (omega arith)
-  large_above false e = refl
+  chosen_number : (a : Among) (t : Bool) → cond t 0 (number_among a) ≡ parsed_number a (choose t w)
+  chosen_number a true = refl
+  chosen_number a false = refl
 
-  pub answer_element : (x : Goldilocks) → parsed w ≡ Parsed.Element x
-      → (true ≡ ltb w P) × ((a : Among) → 0 ≡ parsed_number a (parsed w))
-  answer_element x e = (element_below (ltb w P) x e, λ a. ap (parsed_number a) (sym e))
+  pub element_below : is_some (parsed w) ≡ ltb w P
+  element_below = chosen_below (ltb w P)
 
-  pub answer_large : parsed w ≡ Parsed.TooLarge → (false ≡ ltb w P) × ((a : Among) → number_among a ≡ parsed_number a (parsed w))
-  answer_large e = (large_above (ltb w P) e, λ a. ap (parsed_number a) (sym e))
+  pub element_number : (a : Among) → cond (is_some (parsed w)) 0 (number_among a) ≡ parsed_number a (parsed w)
+  element_number a = ap (λ (t : Bool). cond t 0 (number_among a)) element_below ∙ chosen_number a (ltb w P)
 
 -- ---- all words
 max_zero : (n : ℕ) → max 0 n ≡ n

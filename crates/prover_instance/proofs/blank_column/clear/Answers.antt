@@ -1,17 +1,6 @@
--- `clear` meets its contract: the words are written one after another.
-use mathlib.Core.Path.{refl}
-use Rattle.lists.proofs.Fill.{fill_start, fill_more, fill_end, fill_zero}
+-- `clear` meets its contract: the words of the part are 0, and the others as they were.
+use Rattle.prover_instance.proofs.Filled.{part_filled}
 use Rattle.prover_instance.proofs.blank_column.clear.Goals as goal
 
-pub loop-i-init : goal.loop-i-init
-loop-i-init c = fill_start _ _ _ _
-
-pub loop-i-preserved : goal.loop-i-preserved
-loop-i-preserved c =
-    fill_more _ _ _ _ _ _ c.loop-i.invariant c.requires c.loop-i-test.true 0 refl
-
-pub shape_of-columns : goal.shape_of-columns
-shape_of-columns c = c.loop-i.invariant.size
-
 pub returns : goal.returns
-returns c = fill_zero _ _ _ _ (fill_end _ _ _ _ _ _ c.loop-i.invariant c.loop-i-test.false)
+returns c = part_filled _ _ _ 0 _ c.requires (c.fill.ensures.after (λ y e. e))

@@ -1,10 +1,13 @@
 -- The inverse, or that there is none.
-use Rattle.std.proofs.Common.{sym, ◌∙◌}
-use Rattle.field.proofs.goldilocks.Invert.{element_for, zero_for}
+use Rattle.std.proofs.Common.{sym, ap, ◌∙◌}
+use Rattle.std.specs.Option.{option_map}
+use Rattle.field.specs.Field.{el}
+use Rattle.field.specs.Inverse.{inverted}
+use Rattle.field.proofs.goldilocks.Invert.{word_inverse}
 use Rattle.field.proofs.goldilocks.Goldilocks.invert.Goals as goal
 
-pub returns-in-Value : goal.returns-in-Value
-returns-in-Value c = element_for _ _ (sym c.invert_u64-inverse.ensures ∙ c.in-Value.is)
+pub returns-in_err-invert_u64 : goal.returns-in_err-invert_u64
+returns-in_err-invert_u64 c = ap inverted c.from_residual.ensures ∙ ap (option_map el) (sym c.in_err-invert_u64.was ∙ c.invert_u64.ensures) ∙ word_inverse _
 
-pub returns-in-Zero : goal.returns-in-Zero
-returns-in-Zero c = zero_for _ (sym c.invert_u64-inverse.ensures ∙ c.in-Zero.is)
+pub returns : goal.returns
+returns c = ap (option_map el) (sym c.in_ok-invert_u64.was ∙ c.invert_u64.ensures) ∙ word_inverse _
