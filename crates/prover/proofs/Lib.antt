@@ -1,6 +1,5 @@
 pub mod Search
 pub mod Answers
-pub mod Counts
 pub mod Words
 pub mod Lengths
 pub mod Rows

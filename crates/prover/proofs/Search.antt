@@ -4,7 +4,7 @@ use mathlib.Core.Logic.{◌≢◌}
 use mathlib.Core.Bool.{Bool, true, false, cond, decide}
 use mathlib.Core.Option.{some}
 use mathlib.Core.Option as maybe
-use Prim.Native.Nat.{ℕ, zero, suc, ◌-◌, ◌<◌}
+use Prim.Native.Nat.{ℕ, zero, suc, ◌-◌, ◌≤◌, ◌<◌}
 use native.Mathlib.Omega.{arith}
 use Rattle.std.specs.Prelude.{Option, Some, None}
 use Rattle.field.specs.Prime.{P}
@@ -54,28 +54,41 @@ module _ (table : ℕ → ℕ) (v : ℕ) where
   unfolding last_equal
   row_below n a h = last_below (λ r. same 𝔾 (el (table r)) (el v)) n a h
 
-  -- none of no rows
-  pub search_none : (j : ℕ) → j ≡ 0 → found_row j ≡ None
-  unfolding found last_equal last_where
-  search_none j e = ap found_row e
+  -- the search from the last row down, when none of the rows from j on is equal
+  module _ (rows j : ℕ) (left : found_row rows ≡ found_row j) where
+    -- nor is the next
+    pub search_miss : 0 < j → table (j - 1) < P → v < P → table (j - 1) ≢ v → found_row rows ≡ found_row (j - 1)
+    unfolding found last_equal last_where
+    search_miss l small-t small-v n = left ∙ go j l small-t n
+      where
+        go : (j : ℕ) → 0 < j → table (j - 1) < P → table (j - 1) ≢ v → found_row j ≡ found_row (j - 1)
+        go zero l t n = absurd (omega arith)
+        go (suc j) l t n =
+            let p : suc j - 1 ≡ j = omega arith in
+            let q : table (suc j - 1) ≡ table j = ap table p in
+            ap (λ (t : Bool). found_of (cond t (some j) (last_row j))) (same_false (table j) v (rw q at t) small-v (λ e. n (q ∙ e)))
+            ∙ ap found_row (sym p)
 
-  -- one row further down
-  pub search_hit : (j : ℕ) → j ≢ 0 → table (j - 1) ≡ v → found_row j ≡ Some (j - 1)
-  unfolding found last_equal last_where
-  search_hit zero z h = absurd (z refl)
-  search_hit (suc j) z h =
-      let p : suc j - 1 ≡ j = omega arith in
-      ap (λ (t : Bool). found_of (cond t (some j) (last_row j))) (same_true (table j) v (ap table (sym p) ∙ h))
-      ∙ ap (λ (i : ℕ). Some i) (sym p)
+    -- the next is: the answer is this row
+    pub search_hit : 0 < j → table (j - 1) ≡ v → (answer : Option ℕ) → answer ≡ Some (j - 1) → answer ≡ found_row rows
+    unfolding found last_equal last_where
+    search_hit l h answer e = e ∙ sym (left ∙ go j l h)
+      where
+        go : (j : ℕ) → 0 < j → table (j - 1) ≡ v → found_row j ≡ Some (j - 1)
+        go zero l h = absurd (omega arith)
+        go (suc j) l h =
+            let p : suc j - 1 ≡ j = omega arith in
+            ap (λ (t : Bool). found_of (cond t (some j) (last_row j))) (same_true (table j) v (ap table (sym p) ∙ h))
+            ∙ ap (λ (i : ℕ). Some i) (sym p)
 
-  pub search_miss : (j : ℕ) → j ≢ 0 → table (j - 1) < P → v < P → table (j - 1) ≢ v → found_row j ≡ found_row (j - 1)
-  unfolding found last_equal last_where
-  search_miss zero z l m h = absurd (z refl)
-  search_miss (suc j) z l m h =
-      let p : suc j - 1 ≡ j = omega arith in
-      let q : table (suc j - 1) ≡ table j = ap table p in
-      ap (λ (t : Bool). found_of (cond t (some j) (last_row j))) (same_false (table j) v (rw q at l) m (λ e. h (q ∙ e)))
-      ∙ ap found_row (sym p)
+    -- no row is left: the answer is none
+    pub search_none : j ≤ 0 → (answer : Option ℕ) → answer ≡ None → answer ≡ found_row rows
+    unfolding found last_equal last_where
+    search_none n answer e = e ∙ sym (left ∙ go j n)
+      where
+        go : (j : ℕ) → j ≤ 0 → found_row j ≡ None
+        go zero n = refl
+        go (suc j) n = absurd (omega arith)
 
 -- only the first rows are looked at
 pub last_same : (p q : ℕ → Bool) (n : ℕ) → ((r : ℕ) → r < n → p r ≡ q r) → last_where p n ≡ last_where q n

@@ -1,4 +1,5 @@
 pub mod Places
+pub mod Split
 pub mod Same
 pub mod Counted
 pub mod Hs

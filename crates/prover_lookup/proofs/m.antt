@@ -1,4 +1,3 @@
-pub mod Down
 pub mod Added
 pub mod Group
 pub mod Searches

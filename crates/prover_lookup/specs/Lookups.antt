@@ -18,10 +18,10 @@ inputs_from d at rows s = tabulate (λ i. elements_from d (at + i * 2 * rows)) s
 abbrev pub Room : ℕ → (ℕ → ℕ) → Type 0
 Room n f = (b : ℕ) → b < n → f b + n < 18446744073709551616
 
--- the words from word m on with the counts of one input added; where an input has no equal table row, zeros
-unfoldable pub added_words : List ℕ → ℕ → ℕ → (ℕ → 𝔾.F) → (ℕ → 𝔾.F) → List ℕ
-added_words d m rows input table =
-    cond (covered 𝔾 rows input table) (tabulate (λ j. get_or d (m + j) 0 + multiplicity 𝔾 rows input table j) rows) (replicate rows 0)
+-- the first words with the counts of one input added; where an input has no equal table row, zeros
+unfoldable pub added_words : List ℕ → ℕ → (ℕ → 𝔾.F) → (ℕ → 𝔾.F) → List ℕ
+added_words d rows input table =
+    cond (covered 𝔾 rows input table) (tabulate (λ j. get_or d j 0 + multiplicity 𝔾 rows input table j) rows) (replicate rows 0)
 
 -- the words of a group's counts; where an input has no equal table row, "the column words needed become 0"
 unfoldable pub group_words : ℕ → List (ℕ → 𝔾.F) → (ℕ → 𝔾.F) → List ℕ

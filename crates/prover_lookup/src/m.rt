@@ -9,6 +9,30 @@ ghost use Rattle.prover_lookup.specs.Lookups.{inputs_from, Room, added_words, gr
 
 use prover_instance::blank_column::clear;
 
+// Adds the counts of one input to the column m, each at the last equal table row. False, and a column of zeros, where an input has none.
+fn count_inputs(rows: usize, input: &[u64], table: &[u64], m: &mut [u64]) -> bool
+    requires { (rows ≤ length input.now) × (rows ≤ length table.now) × (rows ≤ length m.old) × Small rows (λ b. get_or input.now b 0) × Small rows (λ b. get_or table.now b 0) × Room rows (λ b. get_or m.old b 0) }
+    ensures { (result ≡ covered 𝔾 rows (elements input.now) (elements table.now)) × (m.new ≡ write_at m.old 0 (added_words m.old rows (elements input.now) (elements table.now))) }
+{
+    for i in 0..rows {
+        let v = input[i];
+        let found = 'search: {
+            for j in (0..rows).rev() {
+                if table[j] == v {
+                    break 'search Some(j);
+                }
+            }
+            None
+        };
+        let Some(row) = found else {
+            clear(m, 0, rows);
+            return false;
+        };
+        m[row] += 1;
+    }
+    true
+}
+
 // Counts each input at the last equal table row, in a column of its own. False, and a column of zeros, where an input has none.
 // Both are also said by the answers of the search: its number, 15 where one is `None`, and its column m.
 pub fn m_column(rows: usize, input: &[u64], table: &[u64], m: &mut [u64]) -> bool
@@ -17,66 +41,7 @@ pub fn m_column(rows: usize, input: &[u64], table: &[u64], m: &mut [u64]) -> boo
     ensures found { (cond result 0 15 ≡ first_number (searches 𝔾 rows (elements input.now) (elements table.now))) × (m.new ≡ write_at m.old 0 (m_words rows (searches 𝔾 rows (elements input.now) (elements table.now)))) }
 {
     clear(m, 0, rows);
-    let mut i: usize = 0;
-    while i < rows {
-        let v = input[i];
-        let mut seen = 0;
-        let found = 'search: loop {
-            if seen == rows {
-                break 'search None;
-            }
-            seen += 1;
-            let j = rows - seen;
-            if table[j] == v {
-                break 'search Some(j);
-            }
-        };
-        match found {
-            Some(row) => {
-                m[row] += 1;
-            }
-            None => {
-                clear(m, 0, rows);
-                return false;
-            }
-        }
-        i += 1;
-    }
-    true
-}
-
-// Adds the counts of one input to the words from m on, behind the input and the table. False, and zeros there, where an input has no
-// equal table row.
-fn count_inputs(columns: &mut [u64], input: usize, table: usize, m: usize, rows: usize) -> bool
-    requires { (input + rows ≤ m) × (table + rows ≤ m) × (m + rows ≤ length columns.old) × Small rows (λ b. get_or columns.old (input + b) 0) × Small rows (λ b. get_or columns.old (table + b) 0) × Room rows (λ b. get_or columns.old (m + b) 0) }
-    ensures { (result ≡ covered 𝔾 rows (elements_from columns.old input) (elements_from columns.old table)) × (columns.new ≡ write_at columns.old m (added_words columns.old m rows (elements_from columns.old input) (elements_from columns.old table))) }
-{
-    let end = table + rows;
-    let mut i: usize = 0;
-    while i < rows {
-        let v = columns[input + i];
-        let mut at = end;
-        let found = 'search: loop {
-            if at == table {
-                break 'search None;
-            }
-            at -= 1;
-            if columns[at] == v {
-                break 'search Some(at - table);
-            }
-        };
-        match found {
-            Some(row) => {
-                columns[m + row] += 1;
-            }
-            None => {
-                clear(columns, m, rows);
-                return false;
-            }
-        }
-        i += 1;
-    }
-    true
+    count_inputs(rows, input, table, m)
 }
 
 // The counts of a group, in the column buffer: its first input starts at word input, each further one 2 * rows behind the one before,
@@ -93,17 +58,17 @@ pub fn lookup_m_poly(
     ensures counts { (result ≡ group_covered 𝔾 rows (inputs_from columns.old input rows members) (elements_from columns.old (input + rows))) × (columns.new ≡ write_at columns.old m (group_words rows (inputs_from columns.old input rows members) (elements_from columns.old (input + rows)))) }
     ensures found { (cond result 0 15 ≡ first_number (group_searches rows (inputs_from columns.old input rows members) (elements_from columns.old (input + rows)))) × (columns.new ≡ write_at columns.old m (m_words rows (group_searches rows (inputs_from columns.old input rows members) (elements_from columns.old (input + rows))))) }
 {
-    clear(columns, m, rows);
-    let table = input + rows;
-    let mut from = input;
-    let mut i: usize = 0;
-    while i < members {
-        let covered = count_inputs(columns, from, table, m, rows);
-        if !covered {
+    let (given, counts) = columns.split_at_mut(m);
+    clear(counts, 0, rows);
+    for i in 0..members {
+        if !count_inputs(
+            rows,
+            &given[input + i * (2 * rows)..],
+            &given[input + rows..],
+            counts,
+        ) {
             return false;
         }
-        from += 2 * rows;
-        i += 1;
     }
     true
 }
