@@ -1,5 +1,6 @@
 // Circuit words for which questions 1 to 11 and 18 are yes, and what is computed from them alone.
-ghost use Rattle.std.specs.Prelude.{◌≡◌, ◌++◌, ◌-◌, ◌≤◌, length, take, replicate};
+ghost use Rattle.std.specs.Prelude.{◌≡◌, ◌≤◌};
+ghost use Rattle.arrayvec.specs.ArrayVec.{array_vec_len};
 ghost use Rattle.lists.specs.Lists.{total};
 ghost use Rattle.backend.specs.Circuit.{circuit_of, num_copied, num_groups, group_sizes, max_polys};
 ghost use Rattle.backend.specs.Circuit as def;
@@ -8,11 +9,13 @@ ghost use Rattle.preprocessor.specs.Compose.{params_of};
 ghost use Rattle.hyperplonk_spec.specs.Build.{q12};
 ghost use Rattle.hyperplonk_prepare.specs.Prepared.{Accepted, layout_from_words};
 
+use arrayvec::ArrayVec;
+use backend::MAX_POLYS;
 use backend_nodes::degrees::{degrees_of, max_degree};
 use backend_sections::bodies::{num_poly, num_user, num_witness, rows};
 use backend_sections::contents::{INSTANCE_COUNT, PREPROCESS_COUNT, PREPROCESS_START, WIDTH_COUNT};
-use backend_sections::copied::{Copied, copied_columns};
-use backend_sections::groups::{GroupSizes, group_sizes};
+use backend_sections::copied::copied_columns;
+use backend_sections::groups::group_sizes;
 use backend_sections::reader::{cells_of, groups_of, instances_of};
 use backend_sections::words::total_to;
 use expression::poly::Layout;
@@ -26,9 +29,10 @@ pub struct AcceptedCircuit<'a> {
 }
 
 impl<'a> AcceptedCircuit<'a> {
-    // The copied columns of the circuit, and zeros after them.
-    pub fn copied(&self) -> Copied
-        ensures { (result.count ≤ max_polys) × (take result.count result.of ≡ def.copied (circuit_of self.now.words.now)) × (result.count ≡ num_copied (circuit_of self.now.words.now)) × (result.of ≡ def.copied (circuit_of self.now.words.now) ++ replicate (max_polys - result.count) 0) }
+    // The copied columns of the circuit.
+    pub fn copied(&self) -> ArrayVec<u64, MAX_POLYS>
+        ensures columns { result.items ≡ def.copied (circuit_of self.now.words.now) }
+        ensures few { array_vec_len result ≤ max_polys }
     {
         let polys = num_poly(self.words);
         let cells = cells_of(self.words);
@@ -36,8 +40,10 @@ impl<'a> AcceptedCircuit<'a> {
     }
 
     // How many lookups each group has.
-    pub fn group_sizes(&self) -> GroupSizes
-        ensures { (result.count ≤ 8) × (length result.of ≡ 8) × (result.count ≡ num_groups (circuit_of self.now.words.now)) × (take result.count result.of ≡ group_sizes (circuit_of self.now.words.now).groups) }
+    pub fn group_sizes(&self) -> ArrayVec<u64, 8>
+        ensures sizes { result.items ≡ group_sizes (circuit_of self.now.words.now).groups }
+        ensures count { array_vec_len result ≡ num_groups (circuit_of self.now.words.now) }
+        ensures few { array_vec_len result ≤ 8 }
     {
         let numbers = groups_of(self.words);
         group_sizes(numbers)

@@ -6,29 +6,33 @@ pub mod circuit;
 pub mod inputs;
 pub mod needed;
 
-ghost use Rattle.std.specs.Prelude.{◌≡◌, ◌++◌, ◌-◌, ◌≤◌, length, take, replicate};
+ghost use Rattle.std.specs.Prelude.{◌≡◌, ◌≤◌};
+ghost use Rattle.arrayvec.specs.ArrayVec.{array_vec_len};
 ghost use Rattle.backend.specs.Circuit.{circuit_of, num_copied, num_groups, group_sizes, max_polys};
 ghost use Rattle.backend.specs.Circuit as def;
 ghost use Rattle.preprocessor.specs.Compose.{params_of};
 ghost use Rattle.hyperplonk_prepare.specs.Prepared.{Accepted};
 
 use crate::circuit::AcceptedCircuit;
-use backend_sections::copied::Copied;
-use backend_sections::groups::GroupSizes;
+use arrayvec::ArrayVec;
+use backend::MAX_POLYS;
 use preprocessor::CircuitParams;
 
-// The copied columns of the circuit, and zeros after them, for callers that have the words alone.
-pub fn copied_of(circuit: &[u64]) -> Copied
+// The copied columns of the circuit, for callers that have the words alone.
+pub fn copied_of(circuit: &[u64]) -> ArrayVec<u64, MAX_POLYS>
     requires { Accepted circuit.now }
-    ensures { (result.count ≤ max_polys) × (take result.count result.of ≡ def.copied (circuit_of circuit.now)) × (result.count ≡ num_copied (circuit_of circuit.now)) × (result.of ≡ def.copied (circuit_of circuit.now) ++ replicate (max_polys - result.count) 0) }
+    ensures columns { result.items ≡ def.copied (circuit_of circuit.now) }
+    ensures few { array_vec_len result ≤ max_polys }
 {
     AcceptedCircuit { words: circuit }.copied()
 }
 
 // How many lookups each group has, for callers that have the words alone.
-pub fn group_sizes_of(circuit: &[u64]) -> GroupSizes
+pub fn group_sizes_of(circuit: &[u64]) -> ArrayVec<u64, 8>
     requires { Accepted circuit.now }
-    ensures { (result.count ≤ 8) × (length result.of ≡ 8) × (result.count ≡ num_groups (circuit_of circuit.now)) × (take result.count result.of ≡ group_sizes (circuit_of circuit.now).groups) }
+    ensures sizes { result.items ≡ group_sizes (circuit_of circuit.now).groups }
+    ensures count { array_vec_len result ≡ num_groups (circuit_of circuit.now) }
+    ensures few { array_vec_len result ≤ 8 }
 {
     AcceptedCircuit { words: circuit }.group_sizes()
 }
@@ -40,5 +44,5 @@ pub fn circuit_params(circuit: &[u64], copied: usize) -> CircuitParams
 {
     let accepted = AcceptedCircuit { words: circuit };
     let groups = accepted.group_sizes();
-    accepted.params(copied, groups.count)
+    accepted.params(copied, groups.len())
 }

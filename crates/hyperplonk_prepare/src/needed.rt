@@ -1,7 +1,7 @@
 // What is computed once from accepted circuit words: the copied columns, the sizes of the groups and the numbers that the composed
 // expression names; and from these how many words the columns and the nodes need, how many nodes an evaluation visits, and question 14,
 // whether the buffers have the words. Nothing is built: the nodes are counted.
-ghost use Rattle.std.specs.Prelude.{◌≡◌, List, ℕ, ◌≤◌, min, length, take};
+ghost use Rattle.std.specs.Prelude.{◌≡◌, List, ℕ, ◌≤◌, min, length};
 ghost use Rattle.expression.specs.Flat.{largest_size};
 ghost use Rattle.expression.specs.Walks.{weight};
 ghost use Rattle.backend.specs.Circuit.{circuit_of, group_sizes};
@@ -12,24 +12,22 @@ ghost use Rattle.hyperplonk_spec.specs.Sizes.{composed_visits, most_nodes};
 ghost use Rattle.hyperplonk_prepare.specs.Prepared.{Accepted};
 
 use crate::circuit::AcceptedCircuit;
+use arrayvec::ArrayVec;
+use backend::MAX_POLYS;
 use backend_sections::contents::INSTANCE_COUNT;
-use backend_sections::copied::Copied;
-use backend_sections::groups::GroupSizes;
 use backend_sections::reader::{constraints_of, nodes_of, pairs_of, widths_of};
 use preprocessor::CircuitParams;
 
 // An accepted circuit with what is computed from it.
-#[derive(Clone, Copy)]
+#[derive(Drop)]
 pub struct PreparedCircuit<'a> {
     pub circuit: AcceptedCircuit<'a>,
     pub params: CircuitParams,
-    copied: Copied,
-    sizes: GroupSizes,
+    copied: ArrayVec<u64, MAX_POLYS>,
+    sizes: ArrayVec<u64, 8>,
     pub ghost params_are: { params ≡ params_of (circuit_of circuit.words.now) },
-    ghost few_copied: { copied.count ≤ def.max_polys },
-    ghost copied_are: { take copied.count copied.of ≡ def.copied (circuit_of circuit.words.now) },
-    ghost few_groups: { sizes.count ≤ 8 },
-    ghost sizes_are: { take sizes.count sizes.of ≡ group_sizes (circuit_of circuit.words.now).groups },
+    ghost copied_are: { copied.items ≡ def.copied (circuit_of circuit.words.now) },
+    ghost sizes_are: { sizes.items ≡ group_sizes (circuit_of circuit.words.now).groups },
 }
 
 impl<'a> PreparedCircuit<'a> {
@@ -38,7 +36,7 @@ impl<'a> PreparedCircuit<'a> {
     {
         let copied = circuit.copied();
         let sizes = circuit.group_sizes();
-        let params = circuit.params(copied.count, sizes.count);
+        let params = circuit.params(copied.len(), sizes.len());
         PreparedCircuit {
             circuit,
             params,
@@ -51,14 +49,14 @@ impl<'a> PreparedCircuit<'a> {
     pub fn copied(&self) -> &[u64]
         ensures { result.now ≡ def.copied (circuit_of self.now.circuit.words.now) }
     {
-        &self.copied.of[..self.copied.count]
+        self.copied.as_slice()
     }
 
     // How many lookups each group has.
     pub fn group_sizes(&self) -> &[u64]
         ensures { result.now ≡ group_sizes (circuit_of self.now.circuit.words.now).groups }
     {
-        &self.sizes.of[..self.sizes.count]
+        self.sizes.as_slice()
     }
 
     // The column words needed.

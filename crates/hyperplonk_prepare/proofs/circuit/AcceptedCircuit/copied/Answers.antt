@@ -1,8 +1,5 @@
 -- `copied_of` meets its contract.
-use mathlib.Core.Path.{ap, ◌∙◌}
-use mathlib.Core.List.{List, ◌++◌}
-use Prim.Native.Nat.{ℕ, ◌-◌}
-use lib.ListN.{length, replicate}
+use mathlib.Core.Path.{◌∙◌}
 use native.Mathlib.Omega.{arith}
 use Rattle.hyperplonk_prepare.proofs.Accepted.{laid_counted, laid_of, few_polys}
 use Rattle.hyperplonk_prepare.proofs.Computed.{copied_from}
@@ -18,8 +15,6 @@ pub copied_columns-requires : goal.copied_columns-requires
 copied_columns-requires c =
     omega (arith, few_polys c.args.self.now.words.now c.args.self.now.accepted, c.num_poly-polys.ensures)
 
-pub returns : goal.returns
-returns c =
-    let e = copied_from c.args.self.now.words.now c.args.self.now.accepted _ c.cells_of-cells.ensures _ c.num_poly-polys.ensures in
-    let r = c.copied_columns.ensures in
-    (r.0, r.1 ∙ e, r.2 ∙ ap length e, r.3 ∙ ap (λ (xs : List ℕ). xs ++ replicate (72 - c.copied_columns.result.count) 0) e)
+pub returns-clause-columns : goal.returns-clause-columns
+returns-clause-columns c =
+    c.copied_columns.ensures.columns ∙ copied_from c.args.self.now.words.now c.args.self.now.accepted _ c.cells_of-cells.ensures _ c.num_poly-polys.ensures

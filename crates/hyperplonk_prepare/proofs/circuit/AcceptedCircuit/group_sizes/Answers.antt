@@ -11,11 +11,10 @@ pub group_sizes-requires : goal.group_sizes-requires
 group_sizes-requires c =
     numbers_good_is c.args.self.now.words.now c.args.self.now.accepted _ c.groups_of-numbers.ensures
 
-pub returns : goal.returns
-returns c =
-    let r = c.group_sizes.ensures in (
-      r.0,
-      r.1,
-      r.2 ∙ groups_from c.args.self.now.words.now c.args.self.now.accepted _ c.groups_of-numbers.ensures,
-      r.3 ∙ sizes_from c.args.self.now.words.now c.args.self.now.accepted _ c.groups_of-numbers.ensures,
-    )
+pub returns-clause-sizes : goal.returns-clause-sizes
+returns-clause-sizes c =
+    c.group_sizes.ensures.sizes ∙ sizes_from c.args.self.now.words.now c.args.self.now.accepted _ c.groups_of-numbers.ensures
+
+pub returns-clause-count : goal.returns-clause-count
+returns-clause-count c =
+    c.group_sizes.ensures.count ∙ groups_from c.args.self.now.words.now c.args.self.now.accepted _ c.groups_of-numbers.ensures
