@@ -7,6 +7,7 @@ use native.Mathlib.Omega.{arith}
 use lib.ListN.{length}
 use lib.Dec.{leb}
 use borrow.Author.Tests.{leb-true}
+use Rattle.std.specs.Prelude.{Ok, Err}
 use Rattle.field.specs.Field.{𝔾}
 use Rattle.lists.specs.Lists.{write_prefix}
 use Rattle.lists.proofs.Tests.{and_left, and_right}
@@ -22,8 +23,8 @@ use Rattle.prover.specs.Words.{words_of}
 use Rattle.hyperplonk_spec.specs.Build.{Output, log_of, column_words, q14, check_build, refused, made, zeroed, build_log, build_of, lent_build}
 use Rattle.hyperplonk_spec.specs.declared.Built.{Built}
 use Rattle.hyperplonk_spec.proofs.Building.{refused_by}
-use Rattle.hyperplonk_columns.specs.Outcome.{columns_outcome, columns_number, columns_left}
-use Rattle.hyperplonk_columns.specs.declared.ColumnsOutcome.{ColumnsOutcome}
+use Rattle.hyperplonk_columns.specs.Outcome.{ColumnsOutcome, columns_outcome, columns_number, columns_left}
+use Rattle.hyperplonk_columns.specs.declared.Refused.{Refused}
 
 module _ (ws instances witness challenges columns nodes : List ℕ) where
   -- a refusal by questions 1 to 14
@@ -54,7 +55,7 @@ module _ (ws instances witness challenges columns nodes : List ℕ) where
 
   -- by questions 15 and 17
   abbrev outcome_by : Bool → Bool → ColumnsOutcome
-  outcome_by t z = cond t (cond z ColumnsOutcome.ZeroDenominator ColumnsOutcome.Written) ColumnsOutcome.Uncovered
+  outcome_by t z = cond t (cond z (Err Refused.ZeroDenominator) (Ok tt)) (Err Refused.Uncovered)
 
   abbrev built_by : Bool → Bool → Output
   built_by t z = cond t (cond z (zeroed 17 log.circuit columns nodes) (made log columns nodes)) (zeroed 15 log.circuit columns nodes)

@@ -18,26 +18,26 @@ use backend_sections::contents::INSTANCE_COUNT;
 use field::goldilocks::Goldilocks;
 use hyperplonk_prepare::circuit::AcceptedCircuit;
 use hyperplonk_prepare::needed::PreparedCircuit;
-use prover::Outcome;
+use prover::ZeroDenominator;
 use prover_instance::blank_column::clear;
 use prover_lookup::{lookup_h_polys, lookup_m_polys};
 
-// What `write_columns` answers: the columns are written; an input equals no table row, which gives 15; a denominator is zero, which gives
-// 17 (specs/Outcome.antt).
-#[derive(Clone, Copy)]
-pub enum ColumnsOutcome {
-    Written,
+// Why the columns are not written: an input equals no table row, which gives 15; a denominator is zero, which gives 17
+// (specs/Outcome.antt).
+#[derive(Clone, Copy, Debug, PartialEq, Eq)]
+pub enum Refused {
     Uncovered,
     ZeroDenominator,
 }
 
-pub fn columns_number(outcome: ColumnsOutcome) -> u64
+// The number of what `write_columns` answers.
+pub fn columns_number(outcome: Result<(), Refused>) -> u64
     ensures { result ≡ columns_number outcome }
 {
     match outcome {
-        ColumnsOutcome::Written => 0,
-        ColumnsOutcome::Uncovered => 15,
-        ColumnsOutcome::ZeroDenominator => 17,
+        Ok(()) => 0,
+        Err(Refused::Uncovered) => 15,
+        Err(Refused::ZeroDenominator) => 17,
     }
 }
 
@@ -88,7 +88,7 @@ fn columns_after_m(
     witness: &[u64],
     challenges: &[u64],
     columns: &mut [u64],
-) -> Outcome
+) -> Result<(), ZeroDenominator>
     requires challenges { length challenges.now ≡ num_challenges (circuit_of prepared.now.circuit.words.now) + 2 }
     requires room { column_words (circuit_of prepared.now.circuit.words.now) ≤ length columns.old }
     ensures { (instances : List ℕ) → take (h_offset (circuit_of prepared.now.circuit.words.now)) columns.old ≡ words_of (rows_of (circuit_of prepared.now.circuit.words.now)) (polys_through_m 𝔾 (log_of prepared.now.circuit.words.now instances witness.now challenges.now)) → AfterM (log_of prepared.now.circuit.words.now instances witness.now challenges.now) columns.old result columns.new }
@@ -97,7 +97,7 @@ fn columns_after_m(
     let sizes = prepared.group_sizes();
     let user = prepared.params.num_challenges;
     let gamma = Goldilocks::at(challenges, user + 1);
-    let hs = lookup_h_polys(
+    lookup_h_polys(
         columns,
         sizes,
         at.compressed,
@@ -105,11 +105,8 @@ fn columns_after_m(
         at.hs,
         gamma,
         prepared.params.rows,
-    );
-    match hs {
-        Outcome::Written => z_columns(prepared, witness, columns, challenges),
-        Outcome::ZeroDenominator => Outcome::ZeroDenominator,
-    }
+    )?;
+    z_columns(prepared, witness, columns, challenges)
 }
 
 // All columns. Where an input of a lookup is in no table row, or a denominator is zero, the column words needed become 0.
@@ -119,7 +116,7 @@ pub fn write_columns<'a>(
     witness: &'a [u64],
     challenges: &'a [u64],
     columns: &mut [u64],
-) -> ColumnsOutcome
+) -> Result<(), Refused>
     requires inputs { q12 (circuit_of prepared.now.circuit.words.now) instance.now witness.now challenges.now ≡ true }
     requires room { column_words (circuit_of prepared.now.circuit.words.now) ≤ length columns.old }
     ensures { (result ≡ columns_outcome (log_of prepared.now.circuit.words.now instance.now witness.now challenges.now)) × (columns.new ≡ write_prefix (columns_left (log_of prepared.now.circuit.words.now instance.now witness.now challenges.now) result) columns.old) }
@@ -145,14 +142,14 @@ pub fn write_columns<'a>(
     );
     if !covered {
         clear(columns, 0, words);
-        return ColumnsOutcome::Uncovered;
+        return Err(Refused::Uncovered);
     }
     let last = columns_after_m(prepared, witness, challenges, columns);
     match last {
-        Outcome::Written => ColumnsOutcome::Written,
-        Outcome::ZeroDenominator => {
+        Ok(()) => Ok(()),
+        Err(ZeroDenominator) => {
             clear(columns, 0, words);
-            ColumnsOutcome::ZeroDenominator
+            Err(Refused::ZeroDenominator)
         }
     }
 }

@@ -25,7 +25,7 @@ use hyperplonk_prepare::circuit::AcceptedCircuit;
 use hyperplonk_prepare::needed::PreparedCircuit;
 use lists::word_at;
 use preprocessor_permutation::permutation_polys;
-use prover::Outcome;
+use prover::ZeroDenominator;
 use prover_compressed::{CompressedPolys, lookup_compressed_polys};
 use prover_instance::instance_polys;
 use prover_z::{ZColumns, permutation_z_polys};
@@ -122,7 +122,7 @@ pub(crate) fn z_columns(
     witness: &[u64],
     columns: &mut [u64],
     challenges: &[u64],
-) -> Outcome
+) -> Result<(), ZeroDenominator>
     requires { z_offset (circuit_of prepared.now.circuit.words.now) + num_z (circuit_of prepared.now.circuit.words.now) * rows_of (circuit_of prepared.now.circuit.words.now) ≤ length columns.old }
     ensures { (result ≡ outcome_of (some_zero 𝔾 (z_denominators prepared.now.circuit.words.now witness.now columns.old challenges.now))) × (columns.new ≡ write_at columns.old (z_offset (circuit_of prepared.now.circuit.words.now)) (outcome_words result (z_words prepared.now.circuit.words.now witness.now columns.old challenges.now))) }
 {

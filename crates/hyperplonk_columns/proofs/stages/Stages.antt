@@ -18,8 +18,7 @@ use Rattle.prover.specs.Columns.{instance_at}
 use Rattle.prover.specs.Running.{z_of}
 use Rattle.prover.specs.Words.{words_of}
 use Rattle.prover.specs.Denominators.{some_zero, factor_denominators}
-use Rattle.prover.specs.Answers.{outcome_of, outcome_words}
-use Rattle.prover.specs.declared.Outcome.{Outcome}
+use Rattle.prover.specs.Answers.{Outcome, outcome_of, outcome_words}
 use Rattle.prover.specs.Lent.{Given, Behind, environment_from_words, compressed_polys_in, ratio_in_words}
 use Rattle.prover_z.specs.Factors.{denominator_in_words}
 use Rattle.prover.proofs.Lent.{lookups_are}

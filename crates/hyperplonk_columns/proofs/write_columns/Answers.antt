@@ -74,16 +74,16 @@ columns_after_m-last-requires c =
       room = omega (arith, c.requires.room, c.lookup_m_polys-covered.auto.columns, c.columns_before_m.auto.columns);
     }
 
-pub clear-requires-in-ZeroDenominator : goal.clear-requires-in-ZeroDenominator
-clear-requires-in-ZeroDenominator c =
+pub clear-requires-in-Err : goal.clear-requires-in-Err
+clear-requires-in-Err c =
     omega (arith, c.column_words-words.ensures, c.requires.room, c.columns_after_m-last.auto.columns, c.lookup_m_polys-covered.auto.columns, c.columns_before_m.auto.columns)
 
-pub shape_of-columns-in-Written : goal.shape_of-columns-in-Written
-shape_of-columns-in-Written c =
+pub shape_of-columns-in-Ok : goal.shape_of-columns-in-Ok
+shape_of-columns-in-Ok c =
     c.columns_after_m-last.auto.columns ∙ c.lookup_m_polys-covered.auto.columns ∙ c.columns_before_m.auto.columns
 
-pub returns-in-Written : goal.returns-in-Written
-returns-in-Written c =
+pub returns-in-Ok : goal.returns-in-Ok
+returns-in-Ok c =
     let at = c.places_of-at in
     let before = c.columns_before_m.ensures in
     let m = c.lookup_m_polys-covered in
@@ -119,14 +119,14 @@ returns-in-Written c =
     before
     m.ensures)
     (c.columns_after_m-last.ensures c.args.instance.now)
-    c.in-Written.is
+    c.in-Ok.is
 
-pub shape_of-columns-in-ZeroDenominator : goal.shape_of-columns-in-ZeroDenominator
-shape_of-columns-in-ZeroDenominator c =
-    c.clear-in-ZeroDenominator.auto.columns ∙ c.columns_after_m-last.auto.columns ∙ c.lookup_m_polys-covered.auto.columns ∙ c.columns_before_m.auto.columns
+pub shape_of-columns-in-Err : goal.shape_of-columns-in-Err
+shape_of-columns-in-Err c =
+    c.clear-in-Err.auto.columns ∙ c.columns_after_m-last.auto.columns ∙ c.lookup_m_polys-covered.auto.columns ∙ c.columns_before_m.auto.columns
 
-pub returns-in-ZeroDenominator : goal.returns-in-ZeroDenominator
-returns-in-ZeroDenominator c =
+pub returns-in-Err : goal.returns-in-Err
+returns-in-Err c =
     let at = c.places_of-at in
     let before = c.columns_before_m.ensures in
     let m = c.lookup_m_polys-covered in
@@ -164,6 +164,6 @@ returns-in-ZeroDenominator c =
     (c.columns_after_m-last.ensures c.args.instance.now)
     _
     _
-    c.in-ZeroDenominator.is
+    c.in-Err.is
     c.column_words-words.ensures
-    c.clear-in-ZeroDenominator.ensures
+    c.clear-in-Err.ensures
