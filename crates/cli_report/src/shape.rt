@@ -1,6 +1,6 @@
 // What circuit words have and ask for, once questions 1 to 11 and 18 have been put to them; what they ask for is told by `sizes`.
-ghost use Rattle.std.specs.Prelude.{◌≡◌, ◌≤◌, List, take};
-ghost use Rattle.backend.specs.Circuit.{circuit_of, copied, max_polys};
+ghost use Rattle.std.specs.Prelude.{◌≡◌};
+ghost use Rattle.backend.specs.Circuit.{circuit_of, num_copied};
 ghost use Rattle.hyperplonk_prepare.specs.Prepared.{Accepted};
 
 use backend::MAX_POLYS;
@@ -58,19 +58,20 @@ fn refused(no: u64) -> Shape {
 }
 
 fn accepted(circuit: &[u64], count: usize, of: [u64; MAX_POLYS], told: Sizes) -> Shape
-    requires { Accepted circuit.now × ((count ≤ max_polys) × (take count of ≡ copied (circuit_of circuit.now))) }
+    requires { Accepted circuit.now × (count ≡ num_copied (circuit_of circuit.now)) }
 {
     let params = circuit_params(circuit, count);
     let grouped = group_sizes_of(circuit);
     let instances = lists::word_at(circuit, 3);
-    let sizes = grouped.of;
+    let mut sizes = [0; 8];
+    sizes[..grouped.len()].copy_from_slice(grouped.as_slice());
     Shape {
         no: 0,
         instances: instances as usize,
         copied: count,
         of: of,
         lookups: params.num_lookups,
-        groups: grouped.count,
+        groups: grouped.len(),
         sizes: sizes,
         polys: params.num_poly,
         user: params.num_challenges,
@@ -90,6 +91,7 @@ pub fn shape_of(circuit: &[u64]) -> Shape {
         return refused(told.number);
     }
     let copied = copied_of(circuit);
-    let of = copied.of;
-    accepted(circuit, copied.count, of, told)
+    let mut of = [0; MAX_POLYS];
+    of[..copied.len()].copy_from_slice(copied.as_slice());
+    accepted(circuit, copied.len(), of, told)
 }

@@ -18,13 +18,6 @@ use Rattle.cli_search.specs.Zero.{ZeroSide, ZeroOf, ZeroIn, ZeroAt}
 use Rattle.cli_search.specs.declared.Column.{Column}
 use Rattle.cli_search.specs.declared.filled.Ground.{Ground}
 
-pub count_is : (of : List ℕ) (count : ℕ) (names : List ℕ) → count ≤ length of → take count of ≡ names → count ≡ length names
-count_is of count names h e = sym (length-take-le count of h) ∙ ap (λ (xs : List ℕ). length xs) e
-
--- the part of the names from the first on
-pub first_names : (of : List ℕ) (count : ℕ) (names : List ℕ) → take count of ≡ names → take (count - 0) of ≡ names
-first_names of count names e = subst (λ (n : ℕ). take n of ≡ names) {x = count} {y = count - 0} (omega arith) e
-
 pub groups_are : (ws groups : List ℕ) → groups ≡ body_of ws Section.groups → groups ≡ (circuit_of ws).groups
 unfolding circuit_of
 groups_are ws groups e = e

@@ -1,5 +1,5 @@
 -- The words of the columns before m, and the numbers that they are read by.
-use Rattle.std.specs.Prelude.{◌≡◌, ℕ, ◌+◌, ◌*◌, ◌≤◌, List, take, nat_lt, slice_index}
+use Rattle.std.specs.Prelude.{◌≡◌, ℕ, ◌+◌, ◌*◌, ◌≤◌, List, length, nat_lt, slice_index}
 use Rattle.lists.specs.Lists.{count_of}
 use Rattle.field.specs.Element.{elem}
 use Rattle.expression.specs.Reader.{LayoutSmall}
@@ -43,6 +43,6 @@ pub record GroundSmall (g : Ground) : Type 0 where
 -- questions 1 to 11 and 18 are yes, and the copied columns are named
 pub record FilledFor (circuit : List ℕ) (f : Filled) : Type 0 where
   pub accepted : Accepted circuit
-  pub few : f.count ≤ max_polys
-  pub counted : f.count ≡ num_copied (circuit_of circuit)
-  pub named : take f.count f.of ≡ copied (circuit_of circuit)
+  pub few : length f.copied.items ≤ max_polys
+  pub counted : length f.copied.items ≡ num_copied (circuit_of circuit)
+  pub named : f.copied.items ≡ copied (circuit_of circuit)

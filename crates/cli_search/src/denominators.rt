@@ -1,7 +1,7 @@
 // Which denominators question 17 finds zero: how many there are, and of the first which it is, the row, and its place in the row
 // order. They are gamma + input of each lookup and gamma + table of each group on all rows, and the factor value + beta * label + gamma
 // of each copied column on every row but 0, with the label of its permutation column.
-ghost use Rattle.std.specs.Prelude.{◌≡◌, ◌<◌, ◌≤◌, true, ◌≢◌, length, take};
+ghost use Rattle.std.specs.Prelude.{◌≡◌, ◌<◌, ◌≤◌, true, ◌≢◌, length};
 ghost use Rattle.field.specs.Field.{𝔾};
 ghost use Rattle.field.specs.Element.{elem};
 ghost use Rattle.backend.specs.Circuit.{circuit_of, copied as copiedOf, max_polys};
@@ -14,7 +14,6 @@ use crate::Column;
 use crate::filled::{Ground, behind, fill, ground_of, side_word};
 use crate::groups::first_of;
 use crate::seen::{Seen, noted, nothing};
-use backend::MAX_POLYS;
 use backend_sections::reader::groups_of;
 use bh::rotations::place_of;
 use expression_nodes::poly::given_at;
@@ -268,21 +267,6 @@ fn first<'a>(
     }
 }
 
-fn first_named<'a>(
-    circuit: &'a [u64],
-    witness: &'a [u64],
-    challenges: &'a [u64],
-    columns: &'a [u64],
-    names: &'a [u64; MAX_POLYS],
-    count: usize,
-) -> ZeroDenominator
-    requires { Accepted circuit.now × (count ≤ max_polys) × (take count names.now ≡ copiedOf (circuit_of circuit.now)) }
-    ensures { result.count ≢ 0 → ZeroNamed circuit.now witness.now challenges.now columns.now result }
-{
-    let all = &names[..];
-    first(circuit, witness, challenges, columns, &all[0..count])
-}
-
 // Of words for which build answered 17. The columns before m are written to the column buffer. A denominator that is named is zero.
 pub fn find<'a>(
     circuit: &'a [u64],
@@ -297,6 +281,5 @@ pub fn find<'a>(
     if !f.good {
         return none();
     }
-    let names = f.of;
-    first_named(circuit, witness, challenges, columns, &names, f.count)
+    first(circuit, witness, challenges, columns, f.copied.as_slice())
 }

@@ -1,11 +1,12 @@
 // The columns before m, filled anew, and the numbers to read them by.
-ghost use Rattle.std.specs.Prelude.{◌≡◌, ◌<◌, ◌≤◌, true, false, take};
+ghost use Rattle.std.specs.Prelude.{◌≡◌, ◌<◌, ◌≤◌, true, false};
 ghost use Rattle.expression.specs.Reader.{LayoutSmall};
-ghost use Rattle.backend.specs.Circuit.{circuit_of, num_copied, copied as copiedOf, max_polys};
+ghost use Rattle.backend.specs.Circuit.{circuit_of, num_copied, copied as copiedOf};
 ghost use Rattle.hyperplonk_spec.specs.Build.{q12};
 ghost use Rattle.hyperplonk_prepare.specs.Prepared.{Accepted};
 ghost use Rattle.cli_search.specs.Ground.{word_behind, side_word, GroundSmall, Grounded, FilledFor};
 
+use arrayvec::ArrayVec;
 use backend::MAX_POLYS;
 use backend_questions::first_no;
 use backend_sections::bodies::num_user;
@@ -21,12 +22,11 @@ use hyperplonk_prepare::needed::column_words;
 use hyperplonk_prepare::{circuit_params, copied_of};
 use lists::word_at;
 
-// Were the columns filled? Then the copied columns are the first `count` of `of`.
-#[derive(Clone, Copy)]
+// Were the columns filled? Then `copied` are the copied columns.
+#[derive(Drop)]
 pub struct Filled {
     pub good: bool,
-    pub count: usize,
-    pub of: [u64; MAX_POLYS],
+    pub copied: ArrayVec<u64, MAX_POLYS>,
 }
 
 fn refused() -> Filled
@@ -34,8 +34,7 @@ fn refused() -> Filled
 {
     Filled {
         good: false,
-        count: 0,
-        of: [0; MAX_POLYS],
+        copied: ArrayVec::new(),
     }
 }
 
@@ -46,24 +45,15 @@ fn fill_named<'a>(
     witness: &'a [u64],
     challenges: &'a [u64],
     columns: &mut [u64],
-    names: &[u64; MAX_POLYS],
-    count: usize,
+    copied: &[u64],
 ) -> bool
-    requires { Accepted circuit.now × (q12 (circuit_of circuit.now) instance.now witness.now challenges.now ≡ true) × (count ≤ max_polys) × (take count names.now ≡ copiedOf (circuit_of circuit.now)) }
+    requires { Accepted circuit.now × (q12 (circuit_of circuit.now) instance.now witness.now challenges.now ≡ true) × (copied.now ≡ copiedOf (circuit_of circuit.now)) }
 {
-    let all = &names[..];
-    let params = circuit_params(circuit, count);
+    let params = circuit_params(circuit, copied.len());
     if column_words(circuit, params) > columns.len() {
         return false;
     }
-    columns_before_m(
-        circuit,
-        instance,
-        witness,
-        challenges,
-        columns,
-        &all[0..count],
-    );
+    columns_before_m(circuit, instance, witness, challenges, columns, copied);
     true
 }
 
@@ -84,15 +74,17 @@ pub fn fill<'a>(
         return refused();
     }
     let copied = copied_of(circuit);
-    let count = copied.count;
-    let names = copied.of;
     let good = fill_named(
-        circuit, instance, witness, challenges, columns, &names, count,
+        circuit,
+        instance,
+        witness,
+        challenges,
+        columns,
+        copied.as_slice(),
     );
     Filled {
         good: good,
-        count: count,
-        of: names,
+        copied: copied,
     }
 }
 

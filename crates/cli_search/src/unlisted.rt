@@ -284,5 +284,5 @@ pub fn find<'a>(
     if !f.good {
         return none();
     }
-    first(circuit, witness, challenges, columns, f.count)
+    first(circuit, witness, challenges, columns, f.copied.len())
 }

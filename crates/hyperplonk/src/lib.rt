@@ -15,6 +15,8 @@ ghost use Rattle.completeness.specs.DemandWhole.{DemandThreeWhole};
 use hyperplonk_spec::{Built, RowSum, Sizes, Summed};
 pub use hyperplonk_stages::{eq_xy, lookup_h_poly, lookup_m_poly};
 
+// Kept: `sizes`, `build` and `row_sum` call one function each, since a `pub use` would show no contract here, and this file has what each call promises.
+
 // What a circuit asks for, before there is a log: the words that building needs, and the nodes that one evaluation on one row visits.
 pub fn sizes(circuit: &[u64]) -> Sizes
     ensures { (result ≡ sizes_of circuit.now) × Foretells circuit.now result }
@@ -63,10 +65,7 @@ pub fn build_and_sum<'a>(
 ) -> Summed
     ensures { (let lent = lent_build circuit.now instance.now witness.now challenges.now columns.old nodes.old in let left : Left = record { answer = result; columns = columns.new; nodes = nodes.new } in (left ≡ build_and_sum_of lent y.now) × DemandThreeWhole lent y.now left) }
 {
-    let mut count = challenges.len();
-    if count > 0 {
-        count -= 1;
-    }
+    let count = challenges.len().saturating_sub(1);
     let b = build(
         circuit,
         instance,

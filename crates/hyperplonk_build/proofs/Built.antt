@@ -4,14 +4,15 @@ use mathlib.Core.Bool.{Bool, true, false, cond}
 use mathlib.Core.List.{List}
 use Prim.Native.Nat.{ℕ, suc, ◌-◌, ◌*◌, ◌≤◌}
 use native.Mathlib.Omega.{arith}
-use lib.ListN.{length, take, length-take}
+use lib.ListN.{length}
 use lib.Dec.{leb}
 use borrow.Author.Tests.{leb-true}
+use Rattle.std.specs.Prelude.{Ok, Err}
 use Rattle.field.specs.Field.{𝔾}
 use Rattle.lists.specs.Lists.{write_prefix}
 use Rattle.lists.proofs.Tests.{and_left, and_right}
 use Rattle.lists.proofs.Over.{write_at_write_prefix}
-use Rattle.backend.specs.Circuit.{circuit_of, rows_of, copied, num_copied}
+use Rattle.backend.specs.Circuit.{circuit_of, rows_of}
 use Rattle.preprocessor.specs.Compose.{num_z, composed_words, composed_nodes}
 use Rattle.preprocessor.specs.ComposeWords.{Composed}
 use Rattle.preprocessor.proofs.Composed.{composed_over}
@@ -22,8 +23,8 @@ use Rattle.prover.specs.Words.{words_of}
 use Rattle.hyperplonk_spec.specs.Build.{Output, log_of, column_words, q14, check_build, refused, made, zeroed, build_log, build_of, lent_build}
 use Rattle.hyperplonk_spec.specs.declared.Built.{Built}
 use Rattle.hyperplonk_spec.proofs.Building.{refused_by}
-use Rattle.hyperplonk_columns.specs.Outcome.{columns_outcome, columns_number, columns_left}
-use Rattle.hyperplonk_columns.specs.declared.ColumnsOutcome.{ColumnsOutcome}
+use Rattle.hyperplonk_columns.specs.Outcome.{ColumnsOutcome, columns_outcome, columns_number, columns_left}
+use Rattle.hyperplonk_columns.specs.declared.Refused.{Refused}
 
 module _ (ws instances witness challenges columns nodes : List ℕ) where
   -- a refusal by questions 1 to 14
@@ -54,7 +55,7 @@ module _ (ws instances witness challenges columns nodes : List ℕ) where
 
   -- by questions 15 and 17
   abbrev outcome_by : Bool → Bool → ColumnsOutcome
-  outcome_by t z = cond t (cond z ColumnsOutcome.ZeroDenominator ColumnsOutcome.Written) ColumnsOutcome.Uncovered
+  outcome_by t z = cond t (cond z (Err Refused.ZeroDenominator) (Ok tt)) (Err Refused.Uncovered)
 
   abbrev built_by : Bool → Bool → Output
   built_by t z = cond t (cond z (zeroed 17 log.circuit columns nodes) (made log columns nodes)) (zeroed 15 log.circuit columns nodes)
@@ -145,7 +146,3 @@ module _ (ws instances witness challenges columns nodes : List ℕ) where
             })
             counts
             ∙ build_by true false p q
-
--- the copied columns are as many as their list is long
-pub count_is : (ws names : List ℕ) (n : ℕ) → n ≤ length names → take n names ≡ copied (circuit_of ws) → n ≡ num_copied (circuit_of ws)
-count_is ws names n h e = sym (length-take n names ∙ omega arith) ∙ ap length e

@@ -8,6 +8,7 @@ use native.Mathlib.Omega.{arith}
 use lib.ListN.{length, get_or, take, drop, replicate}
 use lib.Dec.{eqb}
 use borrow.Author.Tests.{eqb-true}
+use Rattle.std.specs.Prelude.{Ok, Err}
 use Rattle.field.specs.Prime.{P}
 use Rattle.field.specs.Field.{𝔾, el}
 use Rattle.lists.specs.Lists.{All, write_at, total, write_prefix, any_of}
@@ -20,8 +21,8 @@ use Rattle.preprocessor.specs.declared.CircuitParams.{CircuitParams}
 use Rattle.prover.specs.Log.{Log}
 use Rattle.prover.specs.Columns.{permutation_at, permutation_factor_at, group_inputs, group_table, instance_polys, permutation_polys, compressed_polys, m_polys, h_polys, all_covered}
 use Rattle.prover.specs.Denominators.{some_zero, group_denominators, factor_denominators, zero_denominator}
-use Rattle.prover.specs.Answers.{outcome_of, outcome_words}
-use Rattle.prover.specs.declared.Outcome.{Outcome}
+use Rattle.prover.specs.Answers.{Outcome, outcome_of, outcome_words}
+use Rattle.prover.proofs.Answers.{written_none, zero_some}
 use Rattle.prover.proofs.NoneZero.{zero_parts}
 use Rattle.prover.specs.Words.{words_of, Small}
 use Rattle.prover.specs.Lent.{Given}
@@ -31,12 +32,11 @@ use Rattle.hyperplonk_prepare.specs.Prepared.{Accepted, layout_from_words, permu
 use Rattle.hyperplonk_prepare.proofs.Accepted.{k_pos, k_few, rows_few, rows_is, few_user, few_lookups, given, instances_entries, sizes_are, sizes_pos, sizes_sum}
 use Rattle.hyperplonk_prepare.proofs.Computed.{columns_low}
 use Rattle.prover_lookup.specs.Lookups.{covered_from, counts_from, zero_from, hs_from, CountsWritten, HsWritten}
-use Rattle.prover_lookup.proofs.Hs.{written_none, zero_some}
 use Rattle.prover_lookup.proofs.Log.{lookups_small, all_covered_is, zero_lookups_is, counts_are, hs_are}
 use Rattle.hyperplonk_columns.specs.Stages.{instance_words, permutation_words, compressed_words, z_words, z_denominators}
 use Rattle.hyperplonk_columns.specs.Kinds.{polys_before_m, polys_through_m, polys_after_m}
-use Rattle.hyperplonk_columns.specs.Outcome.{columns_outcome, columns_left, AfterM}
-use Rattle.hyperplonk_columns.specs.declared.ColumnsOutcome.{ColumnsOutcome}
+use Rattle.hyperplonk_columns.specs.Outcome.{ColumnsOutcome, columns_outcome, columns_left, AfterM}
+use Rattle.hyperplonk_columns.specs.declared.Refused.{Refused}
 use Rattle.hyperplonk_columns.proofs.Divided.{never, first_zero, first_none, past_z}
 use Rattle.hyperplonk_columns.proofs.Fronts.{cleared}
 use Rattle.hyperplonk_columns.proofs.Columns.{counts_at, hs_at, through_m_more, compressed_before_m, compressed_counted, counts_counted, counted_taken, written_more, before_m_written, divided_by, last_written}
@@ -88,6 +88,10 @@ module _ (c : Circuit) (instances witness challenges : List ℕ) (yes : q12 c in
 
 -- ---- the words that the stages write
 
+-- what is answered by the tests of questions 15 and 17
+abbrev by_tests : Bool → Bool → ColumnsOutcome
+by_tests t z = cond t (cond z (Err Refused.ZeroDenominator) (Ok tt)) (Err Refused.Uncovered)
+
 module _ (ws instances witness challenges : List ℕ) (a : Accepted ws) where
   abbrev log : Log 𝔾
   log = log_of ws instances witness challenges
@@ -133,9 +137,9 @@ module _ (ws instances witness challenges : List ℕ) (a : Accepted ws) where
     parts = zero_parts 𝔾 log
 
     -- a group has a denominator that is zero
-    pub h_stopped : (d₅ : List ℕ) → Outcome.ZeroDenominator ≡ outcome_of in_lookups
+    pub h_stopped : (d₅ : List ℕ) → ◌≡◌ {A = Outcome} (Err (record {})) (outcome_of in_lookups)
         → drop (h_offset c + num_groups c * rows) d₅ ≡ drop (h_offset c + num_groups c * rows) d₄
-        → AfterM log d₄ Outcome.ZeroDenominator d₅
+        → AfterM log d₄ (Err (record {})) d₅
     unfolding log_of
     h_stopped d₅ is back =
         let p = placed c in
@@ -146,7 +150,7 @@ module _ (ws instances witness challenges : List ℕ) (a : Accepted ws) where
         }
 
     -- none has: then z decides
-    pub z_decides : (d₅ d₆ : List ℕ) (r : Outcome) → Outcome.Written ≡ outcome_of in_lookups
+    pub z_decides : (d₅ d₆ : List ℕ) (r : Outcome) → ◌≡◌ {A = Outcome} (Ok tt) (outcome_of in_lookups)
         → drop (h_offset c + num_groups c * rows) d₅ ≡ drop (h_offset c + num_groups c * rows) d₄
         → d₅ ≡ write_at d₄ (h_offset c) (words_of rows (h_polys 𝔾 log))
         → length d₅ ≡ length d₄
@@ -189,11 +193,11 @@ module _ (ws instances witness challenges : List ℕ) (a : Accepted ws) where
       unfolding log_of
       after = last (ap (take (h_offset c)) (counted d₄ fourth) ∙ counted_taken log d₀)
 
-      pub all_end : r ≡ Outcome.Written
-          → (ColumnsOutcome.Written ≡ columns_outcome log) × (d₆ ≡ write_prefix (columns_left log ColumnsOutcome.Written) d₀)
+      pub all_end : r ≡ Ok tt
+          → (◌≡◌ {A = ColumnsOutcome} (Ok tt) (columns_outcome log)) × (d₆ ≡ write_prefix (columns_left log (Ok tt)) d₀)
       unfolding log_of
       all_end e = (
-        sym (ap₂ (λ (t z : Bool). cond t (cond z ColumnsOutcome.ZeroDenominator ColumnsOutcome.Written) ColumnsOutcome.Uncovered) (sym yes)
+        sym (ap₂ (λ (t z : Bool). by_tests t z) (sym yes)
             (written_none (zero_denominator 𝔾 log) (sym after.is ∙ e))),
         after.written e
             ∙ ap (λ (d : List ℕ). write_at d (h_offset c) (words_of rows (polys_after_m 𝔾 log))) (counted d₄ fourth)
@@ -201,11 +205,11 @@ module _ (ws instances witness challenges : List ℕ) (a : Accepted ws) where
       )
 
       -- question 17: "zeroes the column words as 15 does"
-      pub zero_end : (d₇ : List ℕ) (words : ℕ) → r ≡ Outcome.ZeroDenominator → words ≡ column_words c → d₇ ≡ write_at d₆ 0 (replicate words 0)
-          → (ColumnsOutcome.ZeroDenominator ≡ columns_outcome log) × (d₇ ≡ write_prefix (columns_left log ColumnsOutcome.ZeroDenominator) d₀)
+      pub zero_end : (d₇ : List ℕ) (words : ℕ) → r ≡ Err (record {}) → words ≡ column_words c → d₇ ≡ write_at d₆ 0 (replicate words 0)
+          → (◌≡◌ {A = ColumnsOutcome} (Err Refused.ZeroDenominator) (columns_outcome log)) × (d₇ ≡ write_prefix (columns_left log (Err Refused.ZeroDenominator)) d₀)
       unfolding log_of
       zero_end d₇ words e q zeros = (
-        sym (ap₂ (λ (t z : Bool). cond t (cond z ColumnsOutcome.ZeroDenominator ColumnsOutcome.Written) ColumnsOutcome.Uncovered) (sym yes)
+        sym (ap₂ (λ (t z : Bool). by_tests t z) (sym yes)
             (zero_some (zero_denominator 𝔾 log) (sym after.is ∙ e))),
         zeros
             ∙ ap (λ (n : ℕ). write_at d₆ 0 (replicate n 0)) q
@@ -220,11 +224,11 @@ module _ (ws instances witness challenges : List ℕ) (a : Accepted ws) where
         → drop (m_offset c + num_groups c * rows) d₄ ≡ drop (m_offset c + num_groups c * rows) d₃
         → words ≡ column_words c
         → d₆ ≡ write_at d₄ 0 (replicate words 0)
-        → (ColumnsOutcome.Uncovered ≡ columns_outcome log) × (d₆ ≡ write_prefix (columns_left log ColumnsOutcome.Uncovered) d₀)
+        → (◌≡◌ {A = ColumnsOutcome} (Err Refused.Uncovered) (columns_outcome log)) × (d₆ ≡ write_prefix (columns_left log (Err Refused.Uncovered)) d₀)
     unfolding log_of
     none_end d₄ d₆ words un behind q zeros =
         let p = placed c in (
-          ap (λ (t : Bool). cond t (cond (zero_denominator 𝔾 log) ColumnsOutcome.ZeroDenominator ColumnsOutcome.Written) ColumnsOutcome.Uncovered) un,
+          ap (λ (t : Bool). by_tests t (zero_denominator 𝔾 log)) un,
           zeros
               ∙ ap (λ (n : ℕ). write_at d₄ 0 (replicate n 0)) q
               ∙ cleared (column_words c) d₀ d₄
@@ -281,29 +285,26 @@ module _ (ws : List ℕ) (a : Accepted ws) (v : CircuitParams) (e : v ≡ params
 
 -- ---- what the stages ask for
 
-module _ (ws instances witness challenges : List ℕ) (a : Accepted ws)
-    (q : q12 (circuit_of ws) instances witness challenges ≡ true) (n : ℕ) (room : column_words (circuit_of ws) ≤ n) where
+module _ (ws instances witness challenges : List ℕ) (q : q12 (circuit_of ws) instances witness challenges ≡ true) (n : ℕ) (room : column_words (circuit_of ws) ≤ n) where
   abbrev circuit : Circuit
   circuit = circuit_of ws
 
-  pub instance_asked : Accepted ws
-      × (total (body_of ws Section.instances) ≡ length instances)
+  pub instance_asked : (total (body_of ws Section.instances) ≡ length instances)
       × (num_instance circuit * rows_of circuit ≤ n)
   unfolding circuit_of
   instance_asked =
-      let p = placed circuit in (a, sym (exact_instances circuit instances witness challenges q), omega arith)
+      let p = placed circuit in (sym (exact_instances circuit instances witness challenges q), omega arith)
 
   pub permutation_asked : (names : List ℕ) → names ≡ copied circuit → (m : ℕ) → m ≡ n
-      → Accepted ws × (names ≡ copied circuit) × (compressed_offset circuit ≤ m)
-  permutation_asked names e m l = let p = placed circuit in (a, e, omega arith)
+      → (names ≡ copied circuit) × (compressed_offset circuit ≤ m)
+  permutation_asked names e m l = let p = placed circuit in (e, omega arith)
 
   pub compressed_asked : (names : List ℕ) → names ≡ copied circuit → (m : ℕ) → m ≡ n
-      → Accepted ws
-      × (length challenges ≡ num_challenges circuit + 2)
+      → (length challenges ≡ num_challenges circuit + 2)
       × (length names ≡ num_copied circuit)
       × (compressed_offset circuit + num_lookups circuit * 2 * rows_of circuit ≤ m)
   compressed_asked names e m l =
-      let p = placed circuit in (a, exact_challenges circuit instances witness challenges q, ap length e, omega arith)
+      let p = placed circuit in (exact_challenges circuit instances witness challenges q, ap length e, omega arith)
 
 module _ (ws : List ℕ) (a : Accepted ws) (v : CircuitParams) (e : v ≡ params_of (circuit_of ws)) (sizes : List ℕ)
     (s-is : sizes ≡ group_sizes (circuit_of ws).groups) (x y : ℕ) (x-is : x ≡ compressed_offset (circuit_of ws))
@@ -387,7 +388,7 @@ module _ (ws : List ℕ) (a : Accepted ws) (v : CircuitParams) (e : v ≡ params
           (ap₂ (λ (r x : ℕ). zero_from d x r sizes γ) (rows_are ws a v e) x-is
           ∙ zero_lookups_is log' sizes s-is sizes_all sizes_some d (compressed_offset (circuit_of ws)) (compressed_counted log' d front) γ γ-same)
 
-      pub hs_written : answer ≡ Outcome.Written → d' ≡ write_at d (h_offset (circuit_of ws)) (words_of R (h_polys 𝔾 log'))
+      pub hs_written : answer ≡ Ok tt → d' ≡ write_at d (h_offset (circuit_of ws)) (words_of R (h_polys 𝔾 log'))
       unfolding log_of
       hs_written t =
           w.hs t
@@ -442,11 +443,5 @@ module _ (ws : List ℕ) (a : Accepted ws) (v : CircuitParams) (e : v ≡ params
         ap (λ (n : ℕ). drop n d') (sym q) ∙ w.back ∙ ap (λ (n : ℕ). drop n d) q
 
 -- z behind h
-pub z_asked : (ws : List ℕ) → Accepted ws → (v : CircuitParams) → v ≡ params_of (circuit_of ws) → (names : List ℕ) → names ≡ copied (circuit_of ws)
-    → (n : ℕ) → column_words (circuit_of ws) ≤ n
-    → Accepted ws
-    × (names ≡ copied (circuit_of ws))
-    × (v.num_groups ≡ num_groups (circuit_of ws))
-    × (v.num_chunks ≡ num_z (circuit_of ws))
-    × (z_offset (circuit_of ws) + num_z (circuit_of ws) * rows_of (circuit_of ws) ≤ n)
-z_asked ws a v e names h n room = let p = placed (circuit_of ws) in (a, h, groups_are ws a v e, parts_are ws a v e, omega arith)
+pub z_room : (ws : List ℕ) → (n : ℕ) → column_words (circuit_of ws) ≤ n → z_offset (circuit_of ws) + num_z (circuit_of ws) * rows_of (circuit_of ws) ≤ n
+z_room ws n room = let p = placed (circuit_of ws) in omega arith

@@ -5,6 +5,7 @@ use mathlib.Core.List.{List}
 use Prim.Native.Nat.{ℕ, suc, ◌+◌, ◌-◌, ◌*◌, ◌≤◌, ◌<◌}
 use native.Mathlib.Omega.{arith}
 use lib.ListN.{length, get_or, drop}
+use Rattle.std.specs.Prelude.{Ok, Err}
 use Rattle.field.specs.Field.{𝔾, el}
 use Rattle.lists.specs.Lists.{concat, write_at}
 use Rattle.lists.proofs.Columns.{tabulate_cong}
@@ -17,10 +18,9 @@ use Rattle.prover.specs.Log.{Log}
 use Rattle.prover.specs.Columns.{permutation_at, copied_at, permutation_factor_at}
 use Rattle.prover.specs.Running.{factor_of}
 use Rattle.prover.specs.Denominators.{factor_denominators}
-use Rattle.prover.specs.Answers.{outcome_of, outcome_words}
-use Rattle.prover.specs.declared.Outcome.{Outcome}
+use Rattle.prover.specs.Answers.{Outcome, outcome_of, outcome_words}
+use Rattle.prover.proofs.Answers.{outcome_length}
 use Rattle.prover.proofs.Lent.{Reads, polys_agree}
-use Rattle.prover_lookup.proofs.Hs.{outcome_length}
 use Rattle.prover_z.specs.Factors.{denominator_in_words}
 
 module _ (g : Log 𝔾) (l : Layout) (circuit witness columns challenges : List ℕ) (r : Reads g l circuit witness columns challenges)
@@ -53,11 +53,11 @@ module _ (g : Log 𝔾) (l : Layout) (circuit witness columns challenges : List 
 
 -- ---- what the answers tell
 
-pub never : {C : Type 0} → Outcome.ZeroDenominator ≡ Outcome.Written → C
-never e = let z : ◌≡◌ {A = ℕ} 0 1 = cc in absurd (omega arith)
+pub never : {C : Type 0} → ◌≡◌ {A = Outcome} (Err (record {})) (Ok tt) → C
+never e = cc
 
 -- of two parts the first has one
-pub first_zero : (a b t : Bool) → t ≡ (a || b) → a ≡ true → Outcome.ZeroDenominator ≡ outcome_of t
+pub first_zero : (a b t : Bool) → t ≡ (a || b) → a ≡ true → ◌≡◌ {A = Outcome} (Err (record {})) (outcome_of t)
 first_zero a b t e h = sym (ap (λ (x : Bool). outcome_of x) (e ∙ ap (λ (x : Bool). x || b) h))
 
 -- the first has none

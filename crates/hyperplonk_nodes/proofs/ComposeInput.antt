@@ -12,6 +12,7 @@ use Rattle.preprocessor.specs.declared.CircuitParams.{CircuitParams}
 use Rattle.preprocessor.proofs.Composed.{composed_is}
 use Rattle.hyperplonk_prepare.specs.Prepared.{Prepared}
 use Rattle.hyperplonk_prepare.proofs.Accepted as known
+use Rattle.hyperplonk_prepare.proofs.Bound.{composed_most}
 
 module _ (ws names sizes : List ℕ) (v : CircuitParams) (g : Prepared ws names sizes v) (nodes roots widths pairs : List ℕ) (x : nodes ≡ body_of ws Section.nodes)
     (y : roots ≡ body_of ws Section.constraints)
@@ -23,8 +24,7 @@ module _ (ws names sizes : List ℕ) (v : CircuitParams) (g : Prepared ws names 
   pub decoded_from : DecodedFrom (circuit_of ws) v names nodes roots sizes widths pairs
   decoded_from = rw (g.params_are, g.copied_are, g.sizes_are, x, y, z, q) (known.decoded ws g.accepted)
 
-  pub asked : composed_nodes (circuit_of ws) * 4 ≤ most_words
-      → ComposeInput v names nodes roots sizes widths pairs
+  pub asked : ComposeInput v names nodes roots sizes widths pairs
       × (size (compose_tree v (constraints_from_words v names nodes roots sizes widths pairs)) * 4 ≤ most_words)
   unfolding composed_nodes
-  asked h = (input_from, omega (arith, ap size (composed_is decoded_from)))
+  asked = (input_from, omega (arith, ap size (composed_is decoded_from), composed_most ws g.accepted))

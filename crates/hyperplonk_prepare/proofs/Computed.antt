@@ -4,8 +4,8 @@ use mathlib.Core.Bool.{Bool, true, ◌&&◌}
 use mathlib.Core.List.{List, [], ◌∷◌}
 use Prim.Native.Nat.{ℕ, ◌+◌, ◌-◌, ◌*◌, ◌/◌, ◌^◌, ◌≤◌, min}
 use native.Mathlib.Omega.{arith}
-use native.Mathlib.Nat.{mul-le-mul, sub-zero}
-use lib.ListN.{length, get_or, take}
+use native.Mathlib.Nat.{mul-le-mul}
+use lib.ListN.{length, get_or}
 use lib.Dec.{eqb, leb, ltb}
 use lib.Seq.{take_all}
 use Rattle.field.specs.Prime.{P}
@@ -13,6 +13,7 @@ use Rattle.lists.specs.Lists.{all_of, total, concat, All}
 use Rattle.lists.proofs.All.{all_from}
 use Rattle.lists.proofs.Columns.{tabulate_length}
 use Rattle.lists.proofs.Parts.{concat_split}
+use Rattle.expression.specs.declared.poly.Layout.{Layout}
 use Rattle.backend.specs.Circuit.{Section, word_k, body_of, word_each, cell_at, cells_of, stated_of, circuit_of, rows_of, num_witness, num_challenges, num_poly, num_lookups, num_groups_in, group_sizes, num_groups, groups_of, copied_in, copied, num_copied}
 use Rattle.backend.specs.Constraints.{max_degree}
 use Rattle.backend.specs.Degrees.{largest_degree, degrees_fit}
@@ -24,10 +25,28 @@ use Rattle.preprocessor.specs.Compose.{num_z, composed_nodes, params_of}
 use Rattle.preprocessor.specs.ComposeWords.{Words, DecodedFrom}
 use Rattle.preprocessor.specs.declared.CircuitParams.{CircuitParams}
 use Rattle.hyperplonk_spec.specs.Build.{column_words, q12, q13, q14}
-use Rattle.hyperplonk_prepare.specs.Prepared.{Accepted, Prepared}
+use Rattle.hyperplonk_prepare.specs.Prepared.{Accepted, layout_from_words}
 use Rattle.hyperplonk_prepare.proofs.Accepted as known
 
 -- ---- over plain lists and numbers
+
+-- where the given polynomials stand
+pub layout_is : (ws : List ℕ) (rows witness instances preprocess start : ℕ) → rows ≡ 2 ^ word_k ws → witness ≡ num_witness (circuit_of ws)
+    → instances ≡ get_or ws 3 0 → preprocess ≡ get_or ws 5 0 → start ≡ get_or ws 4 0
+    → ◌≡◌ {A = Layout}
+    (record {
+      rows = rows;
+      instances = instances;
+      preprocess = preprocess;
+      start = start;
+      witness = witness;
+      permutations = 0;
+      skipped = 0;
+      rest = 0;
+    })
+    (layout_from_words ws)
+unfolding layout_from_words
+layout_is ws rows witness instances preprocess start a b c d e = rw (a, b, c, d, e)
 
 -- a sum of numbers that are at most m
 total_most : (m : ℕ) (ns : List ℕ) → All (λ n. n ≤ m) ns → total ns ≤ length ns * m
@@ -89,19 +108,6 @@ module _ (ws : List ℕ) (a : Accepted ws) where
 
       pub decoded_from : DecodedFrom (circuit_of ws) v (copied (circuit_of ws)) nodes roots sizes widths pairs
       decoded_from = rw (e, x, y, s, z, q) (known.decoded ws a)
-
-  -- the copied columns and the sizes of the groups, as the first of lists
-  pub prepared : (names sizes : List ℕ) (n g : ℕ) (v : CircuitParams) → take n names ≡ copied (circuit_of ws)
-      → take g sizes ≡ group_sizes (circuit_of ws).groups
-      → v ≡ params_of (circuit_of ws)
-      → Prepared ws (take (n - 0) names) (take (g - 0) sizes) v
-  prepared names sizes n g v c s e =
-      record {
-        accepted = a;
-        copied_are = ap (λ (m : ℕ). take m names) (sub-zero n) ∙ c;
-        sizes_are = ap (λ (m : ℕ). take m sizes) (sub-zero g) ∙ s;
-        params_are = e;
-      }
 
   -- ---- the numbers
   pub lookups_are : get_or ws 13 0 ≡ num_lookups (circuit_of ws)

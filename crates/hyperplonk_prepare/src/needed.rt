@@ -1,79 +1,132 @@
-// How many words the columns and the nodes of accepted circuit words need, how many nodes an evaluation visits, and question 14, whether
-// the buffers have the words. Nothing is built: the nodes are counted.
+// What is computed once from accepted circuit words: the copied columns, the sizes of the groups and the numbers that the composed
+// expression names; and from these how many words the columns and the nodes need, how many nodes an evaluation visits, and question 14,
+// whether the buffers have the words. Nothing is built: the nodes are counted.
 ghost use Rattle.std.specs.Prelude.{◌≡◌, List, ℕ, ◌≤◌, min, length};
 ghost use Rattle.expression.specs.Flat.{largest_size};
 ghost use Rattle.expression.specs.Walks.{weight};
-ghost use Rattle.backend.specs.Circuit.{circuit_of};
+ghost use Rattle.backend.specs.Circuit.{circuit_of, group_sizes};
+ghost use Rattle.backend.specs.Circuit as def;
 ghost use Rattle.preprocessor.specs.Compose.{compose, composed_nodes, params_of};
 ghost use Rattle.hyperplonk_spec.specs.Build.{column_words, q14};
 ghost use Rattle.hyperplonk_spec.specs.Sizes.{composed_visits, most_nodes};
 ghost use Rattle.hyperplonk_prepare.specs.Prepared.{Accepted};
 
-use crate::group_sizes_of;
+use crate::circuit::AcceptedCircuit;
+use arrayvec::ArrayVec;
+use backend::MAX_POLYS;
 use backend_sections::contents::INSTANCE_COUNT;
 use backend_sections::reader::{constraints_of, nodes_of, pairs_of, widths_of};
 use preprocessor::CircuitParams;
 use preprocessor_compose::words::CircuitWords;
 
-// The column words needed.
+// An accepted circuit with what is computed from it.
+#[derive(Drop)]
+pub struct PreparedCircuit<'a> {
+    pub circuit: AcceptedCircuit<'a>,
+    pub params: CircuitParams,
+    copied: ArrayVec<u64, MAX_POLYS>,
+    sizes: ArrayVec<u64, 8>,
+    pub ghost params_are: { params ≡ params_of (circuit_of circuit.words.now) },
+    ghost copied_are: { copied.items ≡ def.copied (circuit_of circuit.words.now) },
+    ghost sizes_are: { sizes.items ≡ group_sizes (circuit_of circuit.words.now).groups },
+}
+
+impl<'a> PreparedCircuit<'a> {
+    pub fn new(circuit: AcceptedCircuit<'a>) -> Self
+        ensures { result.circuit.words.now ≡ circuit.entry.words.now }
+    {
+        let copied = circuit.copied();
+        let sizes = circuit.group_sizes();
+        let params = circuit.params(copied.len(), sizes.len());
+        PreparedCircuit {
+            circuit,
+            params,
+            copied,
+            sizes,
+        }
+    }
+
+    // The copied columns.
+    pub fn copied(&self) -> &[u64]
+        ensures { result.now ≡ def.copied (circuit_of self.now.circuit.words.now) }
+    {
+        self.copied.as_slice()
+    }
+
+    // How many lookups each group has.
+    pub fn group_sizes(&self) -> &[u64]
+        ensures { result.now ≡ group_sizes (circuit_of self.now.circuit.words.now).groups }
+    {
+        self.sizes.as_slice()
+    }
+
+    // The column words needed.
+    pub fn column_words(&self) -> usize
+        ensures { result ≡ column_words (circuit_of self.now.circuit.words.now) }
+    {
+        let params = self.params;
+        let instances = self.circuit.words[INSTANCE_COUNT] as usize;
+        (instances
+            + params.num_permutation_polys
+            + params.num_lookups * 2
+            + params.num_groups * 2
+            + params.num_chunks)
+            * params.rows
+    }
+
+    // The nodes of the composed expression, an Item counted as `item`; no more than 2^60 are counted.
+    fn composed_count(&self, item: u64) -> u64
+        requires { item ≤ 1 }
+        ensures { result ≡ min largest_size (weight item (compose (circuit_of self.now.circuit.words.now))) }
+    {
+        let circuit = self.circuit.words;
+        let user = nodes_of(circuit);
+        let roots = constraints_of(circuit);
+        let widths = widths_of(circuit);
+        let pairs = pairs_of(circuit);
+        let sizes = self.group_sizes();
+        let params = self.params;
+        let words = CircuitWords {
+            user,
+            roots,
+            sizes,
+            widths,
+            pairs,
+            params,
+        };
+        preprocessor_compose::count::composed_nodes(&words, item)
+    }
+
+    // The nodes that the composed expression takes.
+    pub fn composed_nodes(&self) -> usize
+        ensures nodes { result ≡ composed_nodes (circuit_of self.now.circuit.words.now) }
+        ensures few { result ≤ most_nodes }
+    {
+        self.composed_count(1) as usize
+    }
+
+    // The nodes that one evaluation of it visits: its Items are not.
+    pub fn composed_visits(&self) -> usize
+        ensures { result ≡ composed_visits (circuit_of self.now.circuit.words.now) }
+    {
+        self.composed_count(0) as usize
+    }
+
+    // Question 14, of buffers of so many words.
+    pub fn question_14(&self, columns: usize, nodes: usize) -> bool
+        ensures { (cs ns : List ℕ) → length cs ≡ columns → length ns ≡ nodes → result ≡ q14 (circuit_of self.now.circuit.words.now) cs ns }
+    {
+        let words = self.column_words();
+        let composed = self.composed_nodes();
+        (words <= columns) & (composed * 4 <= nodes)
+    }
+}
+
+// The column words needed, for callers that have the words alone.
 pub fn column_words(circuit: &[u64], params: CircuitParams) -> usize
     requires { Accepted circuit.now × (params ≡ params_of (circuit_of circuit.now)) }
     ensures { result ≡ column_words (circuit_of circuit.now) }
 {
-    let instances = circuit[INSTANCE_COUNT] as usize;
-    (instances
-        + params.num_permutation_polys
-        + params.num_lookups * 2
-        + params.num_groups * 2
-        + params.num_chunks)
-        * params.rows
-}
-
-// The nodes of the composed expression, an Item counted as `item`; no more than 2^60 are counted.
-fn composed_count(circuit: &[u64], params: CircuitParams, item: u64) -> u64
-    requires { Accepted circuit.now × (params ≡ params_of (circuit_of circuit.now)) × (item ≤ 1) }
-    ensures { result ≡ min largest_size (weight item (compose (circuit_of circuit.now))) }
-{
-    let user = nodes_of(circuit);
-    let roots = constraints_of(circuit);
-    let widths = widths_of(circuit);
-    let pairs = pairs_of(circuit);
-    let groups = group_sizes_of(circuit);
-    let count = groups.count;
-    let sizes = groups.of;
-    let words = CircuitWords {
-        user,
-        roots,
-        sizes: &sizes[0..count],
-        widths,
-        pairs,
-        params,
-    };
-    preprocessor_compose::count::composed_nodes(&words, item)
-}
-
-// The nodes that the composed expression takes.
-pub fn composed_nodes(circuit: &[u64], params: CircuitParams) -> usize
-    requires { Accepted circuit.now × (params ≡ params_of (circuit_of circuit.now)) }
-    ensures { (result ≡ composed_nodes (circuit_of circuit.now)) × (result ≤ most_nodes) }
-{
-    composed_count(circuit, params, 1) as usize
-}
-
-// The nodes that one evaluation of it visits: its Items are not.
-pub fn composed_visits(circuit: &[u64], params: CircuitParams) -> usize
-    requires { Accepted circuit.now × (params ≡ params_of (circuit_of circuit.now)) }
-    ensures { result ≡ composed_visits (circuit_of circuit.now) }
-{
-    composed_count(circuit, params, 0) as usize
-}
-
-// Question 14, of buffers of so many words.
-pub fn question_14(circuit: &[u64], params: CircuitParams, columns: usize, nodes: usize) -> bool
-    requires { Accepted circuit.now × (params ≡ params_of (circuit_of circuit.now)) }
-    ensures { (cs ns : List ℕ) → length cs ≡ columns → length ns ≡ nodes → result ≡ q14 (circuit_of circuit.now) cs ns }
-{
-    let words = column_words(circuit, params);
-    let composed = composed_nodes(circuit, params);
-    (words <= columns) & (composed * 4 <= nodes)
+    let prepared = PreparedCircuit::new(AcceptedCircuit { words: circuit });
+    prepared.column_words()
 }

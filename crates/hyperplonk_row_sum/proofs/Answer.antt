@@ -2,11 +2,9 @@
 use mathlib.Core.Path.{◌≡◌, refl, sym, ap, ◌∙◌}
 use mathlib.Core.Bool.{Bool, true, false, not, cond}
 use mathlib.Core.List.{List, [], map}
-use Prim.Native.Nat.{ℕ, suc, ◌-◌, ◌≤◌}
+use Prim.Native.Nat.{ℕ, suc, ◌-◌}
 use native.Mathlib.Omega.{arith}
 use lib.Dec.{eqb}
-use lib.ListN.{length, take}
-use lib.Seq.{length-take-le}
 use borrow.Author.Tests.{ne_eqb}
 use Rattle.field.specs.Field.{val}
 use Rattle.lists.specs.Lists.{question_of, first_no}
@@ -98,7 +96,3 @@ module _ (ws witness columns nodes challenges y : List ℕ) where
           ∙ first_next _ _ lent yes_16 ∙ none_asked
           in
           ap (λ (s : ℕ). record { number = 0; sum = s }) q ∙ sym (by_number 0 told)
-
--- the copied columns, as the first of an array
-pub count_is : (of : List ℕ) (count : ℕ) (names : List ℕ) → count ≤ length of → take count of ≡ names → count ≡ length names
-count_is of count names h e = sym (length-take-le count of h) ∙ ap (λ (xs : List ℕ). length xs) e

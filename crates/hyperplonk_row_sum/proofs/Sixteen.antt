@@ -2,10 +2,10 @@
 use mathlib.Core.Path.{◌≡◌, refl, sym, ap, ap₂, ◌∙◌}
 use mathlib.Core.Bool.{Bool, true, false, not, ◌&&◌}
 use mathlib.Core.List.{List}
-use Prim.Native.Nat.{ℕ, ◌+◌, ◌-◌, ◌*◌, ◌≤◌}
+use Prim.Native.Nat.{ℕ, ◌+◌, ◌*◌, ◌≤◌}
 use native.Mathlib.Omega.{arith}
 use lib.Dec.{eqb, ltb}
-use lib.ListN.{length, get_or}
+use lib.ListN.{length}
 use borrow.Author.Tests.{eq-eqb, eqb-true}
 use Rattle.field.specs.Prime.{P}
 use Rattle.lists.specs.Lists.{all_of, same_words}
@@ -16,12 +16,11 @@ use Rattle.expression.proofs.FlatLength.{flat_length}
 use Rattle.backend.specs.Circuit.{Circuit, word_k, circuit_of, rows_of, num_witness, num_challenges}
 use Rattle.backend.specs.Questions.{small}
 use Rattle.backend.proofs.Answers.{says_no, says_yes}
-use Rattle.backend.proofs.Numbers.{polys}
 use Rattle.preprocessor.specs.Compose.{compose, composed_words, composed_nodes, params_of}
 use Rattle.preprocessor.specs.declared.CircuitParams.{CircuitParams}
 use Rattle.hyperplonk_spec.specs.Build.{column_words}
 use Rattle.hyperplonk_spec.specs.RowSum.{q16}
-use Rattle.hyperplonk_prepare.specs.Prepared.{Accepted}
+use Rattle.hyperplonk_prepare.specs.Prepared.{Accepted, layout_from_words}
 use Rattle.hyperplonk_prepare.proofs.Accepted as known
 use Rattle.hyperplonk_row_sum.specs.Sum.{lengths_right, lent_small, sum_layout}
 
@@ -123,11 +122,6 @@ unfolding lent_small
 small_all ws xs ys zs p q r s a b c d = ap₂ ◌&&◌ (ap₂ ◌&&◌ (ap₂ ◌&&◌ a b) c) d
 
 module _ (ws : List ℕ) (a : Accepted ws) (v : CircuitParams) (e : v ≡ params_of (circuit_of ws)) where
-  -- the layout
-  pub polys_are : get_or ws 3 0 + get_or ws 5 0 + num_witness (circuit_of ws) ≡ v.num_poly
-  unfolding params_of
-  polys_are = polys ws (num_witness (circuit_of ws)) (known.laid_of ws a) refl ∙ sym (ap (λ (v : CircuitParams). v.num_poly) e)
-
   pub numbers_few : (v.num_permutation_polys ≤ 72) × (v.num_lookups ≤ 8) × (v.num_chunks ≤ 72) × (v.num_challenges ≤ 16) × (v.num_groups ≤ 8)
   unfolding params_of
   numbers_few =
@@ -138,22 +132,22 @@ module _ (ws : List ℕ) (a : Accepted ws) (v : CircuitParams) (e : v ≡ params
       let u = known.few_user ws a in
       rw e (omega arith, omega arith, omega arith, omega arith, omega arith)
 
-  pub layout_made : ◌≡◌ {A = Layout}
+  -- the layout, from that of the given polynomials
+  pub layout_made : (l : Layout) → l ≡ layout_from_words ws
+      → ◌≡◌ {A = Layout}
       (record {
-        rows = v.rows;
-        instances = get_or ws 3 0;
-        preprocess = get_or ws 5 0;
-        start = get_or ws 4 0;
-        witness = v.num_poly - get_or ws 3 0 - get_or ws 5 0;
+        rows = l.rows;
+        instances = l.instances;
+        preprocess = l.preprocess;
+        start = l.start;
+        witness = l.witness;
         permutations = v.num_permutation_polys;
         skipped = v.num_lookups * 2;
         rest = v.num_groups * 2 + v.num_chunks;
       })
       (sum_layout ws)
-  unfolding sum_layout params_of
-  layout_made =
-      let w : v.num_poly - get_or ws 3 0 - get_or ws 5 0 ≡ num_witness (circuit_of ws) = let p = polys_are in omega arith in
-      rw (w, e, known.rows_is ws a) refl
+  unfolding layout_from_words sum_layout params_of
+  layout_made l h = rw (h, e) refl
 
   -- the witness words
   pub words_fit : (l : Layout) → l ≡ sum_layout ws → l.witness * l.rows ≤ 32768

@@ -1,66 +1,70 @@
 -- `columns_after_m` meets its contract: h of all groups first, and z where no denominator of theirs is zero.
-use mathlib.Core.Path.{sym, ◌∙◌, refl}
+use mathlib.Core.Path.{sym, ◌∙◌, refl, subst}
 use native.Mathlib.Omega.{arith}
 use lib.ListN.{length}
-use Rattle.hyperplonk_columns.proofs.Accepted.{user_few, user_is, hs_asked, hs_answer, hs_written, hs_behind, h_stopped, z_asked, z_decides}
+use Rattle.prover.specs.Answers.{Outcome}
+use Rattle.prover.proofs.Answers.{only_error}
+use Rattle.hyperplonk_spec.specs.Build.{log_of}
+use Rattle.hyperplonk_columns.specs.Outcome.{AfterM}
+use Rattle.hyperplonk_columns.proofs.Accepted.{user_few, user_is, hs_asked, hs_answer, hs_written, hs_behind, h_stopped, z_room, z_decides}
 use Rattle.hyperplonk_columns.proofs.columns_after_m.Goals as goal
 
 pub overflow_add-user : goal.overflow_add-user
-overflow_add-user c = omega (arith, user_few c.args.circuit.now c.requires.0.accepted c.args.params c.requires.0.params_are)
+overflow_add-user c = omega (arith, user_few c.args.prepared.now.circuit.words.now c.args.prepared.now.circuit.accepted c.args.prepared.now.params c.args.prepared.now.params_are)
 
 pub at-gamma-requires : goal.at-gamma-requires
 at-gamma-requires c =
-    omega (arith, c.requires.1, user_is c.args.circuit.now c.requires.0.accepted c.args.params c.requires.0.params_are)
+    omega (arith, c.requires.challenges, user_is c.args.prepared.now.circuit.words.now c.args.prepared.now.circuit.accepted c.args.prepared.now.params c.args.prepared.now.params_are)
 
-pub lookup_h_polys-hs-requires : goal.lookup_h_polys-hs-requires
-lookup_h_polys-hs-requires c =
+pub lookup_h_polys-requires : goal.lookup_h_polys-requires
+lookup_h_polys-requires c =
     let at = c.places_of-at in
-    hs_asked c.args.circuit.now c.requires.0.accepted c.args.params c.requires.0.params_are c.args.sizes.now c.requires.0.sizes_are _ _ at.ensures.0 at.ensures.1
+    hs_asked c.args.prepared.now.circuit.words.now c.args.prepared.now.circuit.accepted c.args.prepared.now.params c.args.prepared.now.params_are _ c.group_sizes-sizes.ensures _ _ at.ensures.compressed at.ensures.counts
     (length c.args.columns.now)
-    c.requires.2
+    c.requires.room
     _
-    at.ensures.2
+    at.ensures.hs
     _
     refl
 
 pub z_columns-requires : goal.z_columns-requires
-z_columns-requires c =
-    z_asked c.args.circuit.now c.requires.0.accepted c.args.params c.requires.0.params_are c.args.copied.now c.requires.0.copied_are _
-    (omega (arith, c.requires.2, c.lookup_h_polys-hs.auto.columns))
+z_columns-requires c = z_room c.args.prepared.now.circuit.words.now _ (omega (arith, c.requires.room, c.lookup_h_polys.auto.columns))
 
-pub shape_of-columns-in-Written : goal.shape_of-columns-in-Written
-shape_of-columns-in-Written c = c.z_columns.auto.columns ∙ c.lookup_h_polys-hs.auto.columns
+pub shape_of-columns : goal.shape_of-columns
+shape_of-columns c = c.z_columns.auto.columns ∙ c.lookup_h_polys.auto.columns
 
-pub returns-in-Written : goal.returns-in-Written
-returns-in-Written c instances front =
+pub returns : goal.returns
+returns c instances front =
     let at = c.places_of-at in
-    let x = c.lookup_h_polys-hs in
+    let x = c.lookup_h_polys in
     let γ = c.at-gamma.ensures in
-    let told = c.in-Written.is in
-    z_decides c.args.circuit.now instances c.args.witness.now c.args.challenges.now c.requires.0.accepted c.args.columns.now c.requires.2 front _ _ _
+    let told = c.in_ok-lookup_h_polys.was in
+    z_decides c.args.prepared.now.circuit.words.now instances c.args.witness.now c.args.challenges.now c.args.prepared.now.circuit.accepted c.args.columns.now c.requires.room front _ _ _
     (sym told
-    ∙ hs_answer c.args.circuit.now c.requires.0.accepted c.args.params c.requires.0.params_are c.args.sizes.now c.requires.0.sizes_are _ _ at.ensures.0 at.ensures.1
-    (length c.args.columns.now) c.requires.2 _ at.ensures.2 _ instances c.args.witness.now c.args.challenges.now c.args.columns.now _ _ γ front x.ensures)
-    (hs_behind c.args.circuit.now c.requires.0.accepted c.args.params c.requires.0.params_are c.args.sizes.now c.requires.0.sizes_are _ _ at.ensures.0 at.ensures.1
-    (length c.args.columns.now) c.requires.2 _ at.ensures.2 _ instances c.args.witness.now c.args.challenges.now c.args.columns.now _ _ γ front x.ensures)
-    (hs_written c.args.circuit.now c.requires.0.accepted c.args.params c.requires.0.params_are c.args.sizes.now c.requires.0.sizes_are _ _ at.ensures.0 at.ensures.1
-    (length c.args.columns.now) c.requires.2 _ at.ensures.2 _ instances c.args.witness.now c.args.challenges.now c.args.columns.now _ _ γ front x.ensures
+    ∙ hs_answer c.args.prepared.now.circuit.words.now c.args.prepared.now.circuit.accepted c.args.prepared.now.params c.args.prepared.now.params_are _ c.group_sizes-sizes.ensures _ _ at.ensures.compressed at.ensures.counts
+    (length c.args.columns.now) c.requires.room _ at.ensures.hs _ instances c.args.witness.now c.args.challenges.now c.args.columns.now _ _ γ front x.ensures)
+    (hs_behind c.args.prepared.now.circuit.words.now c.args.prepared.now.circuit.accepted c.args.prepared.now.params c.args.prepared.now.params_are _ c.group_sizes-sizes.ensures _ _ at.ensures.compressed at.ensures.counts
+    (length c.args.columns.now) c.requires.room _ at.ensures.hs _ instances c.args.witness.now c.args.challenges.now c.args.columns.now _ _ γ front x.ensures)
+    (hs_written c.args.prepared.now.circuit.words.now c.args.prepared.now.circuit.accepted c.args.prepared.now.params c.args.prepared.now.params_are _ c.group_sizes-sizes.ensures _ _ at.ensures.compressed at.ensures.counts
+    (length c.args.columns.now) c.requires.room _ at.ensures.hs _ instances c.args.witness.now c.args.challenges.now c.args.columns.now _ _ γ front x.ensures
     told)
     x.auto.columns
     c.z_columns.ensures
 
-pub shape_of-columns-in-ZeroDenominator : goal.shape_of-columns-in-ZeroDenominator
-shape_of-columns-in-ZeroDenominator c = c.lookup_h_polys-hs.auto.columns
+pub shape_of-columns-in_err-lookup_h_polys : goal.shape_of-columns-in_err-lookup_h_polys
+shape_of-columns-in_err-lookup_h_polys c = c.lookup_h_polys.auto.columns
 
-pub returns-in-ZeroDenominator : goal.returns-in-ZeroDenominator
-returns-in-ZeroDenominator c instances front =
+pub returns-in_err-lookup_h_polys : goal.returns-in_err-lookup_h_polys
+returns-in_err-lookup_h_polys c instances front =
     let at = c.places_of-at in
-    let x = c.lookup_h_polys-hs in
+    let x = c.lookup_h_polys in
     let γ = c.at-gamma.ensures in
-    let told = c.in-ZeroDenominator.is in
-    h_stopped c.args.circuit.now instances c.args.witness.now c.args.challenges.now c.requires.0.accepted c.args.columns.now c.requires.2 front _
+    let told = c.in_err-lookup_h_polys.was in
+    subst (λ (o : Outcome). AfterM (log_of c.args.prepared.now.circuit.words.now instances c.args.witness.now c.args.challenges.now) c.args.columns.now o c.lookup_h_polys.new.columns)
+    (sym (only_error _ c.from_residual.ensures.0))
+    (h_stopped c.args.prepared.now.circuit.words.now instances c.args.witness.now c.args.challenges.now c.args.prepared.now.circuit.accepted c.args.columns.now c.requires.room front _
     (sym told
-    ∙ hs_answer c.args.circuit.now c.requires.0.accepted c.args.params c.requires.0.params_are c.args.sizes.now c.requires.0.sizes_are _ _ at.ensures.0 at.ensures.1
-    (length c.args.columns.now) c.requires.2 _ at.ensures.2 _ instances c.args.witness.now c.args.challenges.now c.args.columns.now _ _ γ front x.ensures)
-    (hs_behind c.args.circuit.now c.requires.0.accepted c.args.params c.requires.0.params_are c.args.sizes.now c.requires.0.sizes_are _ _ at.ensures.0 at.ensures.1
-    (length c.args.columns.now) c.requires.2 _ at.ensures.2 _ instances c.args.witness.now c.args.challenges.now c.args.columns.now _ _ γ front x.ensures)
+    ∙ hs_answer c.args.prepared.now.circuit.words.now c.args.prepared.now.circuit.accepted c.args.prepared.now.params c.args.prepared.now.params_are _ c.group_sizes-sizes.ensures _ _ at.ensures.compressed at.ensures.counts
+    (length c.args.columns.now) c.requires.room _ at.ensures.hs _ instances c.args.witness.now c.args.challenges.now c.args.columns.now _ _ γ front x.ensures)
+    (hs_behind c.args.prepared.now.circuit.words.now c.args.prepared.now.circuit.accepted c.args.prepared.now.params c.args.prepared.now.params_are _ c.group_sizes-sizes.ensures _ _ at.ensures.compressed at.ensures.counts
+    (length c.args.columns.now) c.requires.room _ at.ensures.hs _ instances c.args.witness.now c.args.challenges.now c.args.columns.now _ _ γ front x.ensures))

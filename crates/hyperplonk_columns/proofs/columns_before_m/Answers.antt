@@ -6,14 +6,13 @@ use Rattle.hyperplonk_columns.proofs.columns_before_m.Goals as goal
 
 pub instance_columns-requires : goal.instance_columns-requires
 instance_columns-requires c =
-    instance_asked c.args.circuit.now c.args.instance.now c.args.witness.now c.args.challenges.now c.requires.0 c.requires.2
+    instance_asked c.args.circuit.now c.args.instance.now c.args.witness.now c.args.challenges.now c.requires.2
     (length c.args.columns.now)
     c.requires.3
 
 pub permutation_columns-requires : goal.permutation_columns-requires
 permutation_columns-requires c =
-    permutation_asked c.args.circuit.now c.args.instance.now c.args.witness.now c.args.challenges.now c.requires.0
-    c.requires.2
+    permutation_asked c.args.circuit.now c.args.instance.now c.args.witness.now c.args.challenges.now c.requires.2
     (length c.args.columns.now)
     c.requires.3
     c.args.copied.now
@@ -23,8 +22,7 @@ permutation_columns-requires c =
 
 pub compressed_columns-requires : goal.compressed_columns-requires
 compressed_columns-requires c =
-    compressed_asked c.args.circuit.now c.args.instance.now c.args.witness.now c.args.challenges.now c.requires.0
-    c.requires.2
+    compressed_asked c.args.circuit.now c.args.instance.now c.args.witness.now c.args.challenges.now c.requires.2
     (length c.args.columns.now)
     c.requires.3
     c.args.copied.now

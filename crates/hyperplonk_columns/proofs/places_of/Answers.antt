@@ -7,48 +7,50 @@ use Rattle.hyperplonk_prepare.proofs.Computed.{columns_low}
 use Rattle.hyperplonk_columns.proofs.Accepted.{words_fit, places_from}
 use Rattle.hyperplonk_columns.proofs.places_of.Goals as goal
 
-pub bounds-circuit-3 : goal.bounds-circuit-3
-bounds-circuit-3 c = omega (arith, (laid_of c.args.circuit.now c.requires.0).long)
+pub bounds-prepared-3 : goal.bounds-prepared-3
+bounds-prepared-3 c = omega (arith, (laid_of c.args.prepared.now.circuit.words.now c.args.prepared.now.circuit.accepted).long)
 
 pub overflow_add-named : goal.overflow_add-named
-overflow_add-named c = omega (arith, (columns_low c.args.circuit.now c.requires.0 c.args.params c.requires.1).0)
+overflow_add-named c = omega (arith, (columns_low c.args.prepared.now.circuit.words.now c.args.prepared.now.circuit.accepted c.args.prepared.now.params c.args.prepared.now.params_are).0)
 
 pub overflow_mul-result : goal.overflow_mul-result
 overflow_mul-result c =
-    omega (arith, words_fit c.args.circuit.now c.requires.0 c.args.params c.requires.1 (get_or c.args.circuit.now 3 0 + c.args.params.num_permutation_polys) (omega arith))
+    omega (arith, words_fit c.args.prepared.now.circuit.words.now c.args.prepared.now.circuit.accepted c.args.prepared.now.params c.args.prepared.now.params_are (get_or c.args.prepared.now.circuit.words.now 3 0 + c.args.prepared.now.params.num_permutation_polys) (omega arith))
 
 pub overflow_mul-result-2 : goal.overflow_mul-result-2
-overflow_mul-result-2 c = omega (arith, (columns_low c.args.circuit.now c.requires.0 c.args.params c.requires.1).0)
+overflow_mul-result-2 c = omega (arith, (columns_low c.args.prepared.now.circuit.words.now c.args.prepared.now.circuit.accepted c.args.prepared.now.params c.args.prepared.now.params_are).0)
 
 pub overflow_add-result : goal.overflow_add-result
-overflow_add-result c = omega (arith, (columns_low c.args.circuit.now c.requires.0 c.args.params c.requires.1).0)
+overflow_add-result c = omega (arith, (columns_low c.args.prepared.now.circuit.words.now c.args.prepared.now.circuit.accepted c.args.prepared.now.params c.args.prepared.now.params_are).0)
 
 pub overflow_mul-result-3 : goal.overflow_mul-result-3
 overflow_mul-result-3 c =
     omega (
       arith,
-      words_fit c.args.circuit.now c.requires.0 c.args.params c.requires.1
-          (get_or c.args.circuit.now 3 0 + c.args.params.num_permutation_polys + c.args.params.num_lookups * 2)
+      words_fit c.args.prepared.now.circuit.words.now c.args.prepared.now.circuit.accepted c.args.prepared.now.params c.args.prepared.now.params_are
+          (get_or c.args.prepared.now.circuit.words.now 3 0 + c.args.prepared.now.params.num_permutation_polys + c.args.prepared.now.params.num_lookups * 2)
           (omega arith),
     )
 
 pub overflow_mul-result-4 : goal.overflow_mul-result-4
-overflow_mul-result-4 c = omega (arith, (columns_low c.args.circuit.now c.requires.0 c.args.params c.requires.1).0)
+overflow_mul-result-4 c = omega (arith, (columns_low c.args.prepared.now.circuit.words.now c.args.prepared.now.circuit.accepted c.args.prepared.now.params c.args.prepared.now.params_are).0)
 
 pub overflow_add-result-2 : goal.overflow_add-result-2
-overflow_add-result-2 c = omega (arith, (columns_low c.args.circuit.now c.requires.0 c.args.params c.requires.1).0)
+overflow_add-result-2 c = omega (arith, (columns_low c.args.prepared.now.circuit.words.now c.args.prepared.now.circuit.accepted c.args.prepared.now.params c.args.prepared.now.params_are).0)
 
 pub overflow_add-result-3 : goal.overflow_add-result-3
-overflow_add-result-3 c = omega (arith, (columns_low c.args.circuit.now c.requires.0 c.args.params c.requires.1).0)
+overflow_add-result-3 c = omega (arith, (columns_low c.args.prepared.now.circuit.words.now c.args.prepared.now.circuit.accepted c.args.prepared.now.params c.args.prepared.now.params_are).0)
 
 pub overflow_mul-result-5 : goal.overflow_mul-result-5
 overflow_mul-result-5 c =
     omega (
       arith,
-      words_fit c.args.circuit.now c.requires.0 c.args.params c.requires.1
-          (get_or c.args.circuit.now 3 0 + c.args.params.num_permutation_polys + c.args.params.num_lookups * 2 + c.args.params.num_groups)
+      words_fit c.args.prepared.now.circuit.words.now c.args.prepared.now.circuit.accepted c.args.prepared.now.params c.args.prepared.now.params_are
+          (get_or c.args.prepared.now.circuit.words.now 3 0 + c.args.prepared.now.params.num_permutation_polys + c.args.prepared.now.params.num_lookups * 2 + c.args.prepared.now.params.num_groups)
           (omega arith),
     )
 
 pub returns : goal.returns
-returns c = places_from c.args.circuit.now c.requires.0 c.args.params c.requires.1
+returns c =
+    let p = places_from c.args.prepared.now.circuit.words.now c.args.prepared.now.circuit.accepted c.args.prepared.now.params c.args.prepared.now.params_are in
+    record { compressed = p.0; counts = p.1; hs = p.2 }

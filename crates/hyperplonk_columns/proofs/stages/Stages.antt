@@ -10,23 +10,7 @@ use Rattle.field.specs.Field.{𝔾, el, val, val_el}
 use Rattle.lists.specs.Lists.{range, tabulate, concat, write_at, split, total}
 use Rattle.lists.proofs.Columns.{tabulate_cong, map_tabulate}
 use Rattle.expression.specs.declared.poly.Layout.{Layout}
-use Rattle.backend.specs.Circuit.{
-  pairs_of,
-  Section,
-  word_k,
-  body_of,
-  cells_of,
-  Circuit,
-  circuit_of,
-  rows_of,
-  num_instance,
-  num_witness,
-  num_challenges,
-  num_lookups,
-  num_groups,
-  copied,
-  num_copied,
-}
+use Rattle.backend.specs.Circuit.{pairs_of, Section, word_k, body_of, cells_of, Circuit, circuit_of, rows_of, num_instance, num_challenges, num_lookups, num_groups, copied, num_copied}
 use Rattle.preprocessor.specs.Compose.{num_z}
 use Rattle.preprocessor.specs.Permutation.{Walkable, label, permutation_columns}
 use Rattle.preprocessor.proofs.Copied.{label_lt, label_columns_is}
@@ -34,31 +18,13 @@ use Rattle.prover.specs.Columns.{instance_at}
 use Rattle.prover.specs.Running.{z_of}
 use Rattle.prover.specs.Words.{words_of}
 use Rattle.prover.specs.Denominators.{some_zero, factor_denominators}
-use Rattle.prover.specs.Answers.{outcome_of, outcome_words}
-use Rattle.prover.specs.declared.Outcome.{Outcome}
+use Rattle.prover.specs.Answers.{Outcome, outcome_of, outcome_words}
 use Rattle.prover.specs.Lent.{Given, Behind, environment_from_words, compressed_polys_in, ratio_in_words}
 use Rattle.prover_z.specs.Factors.{denominator_in_words}
 use Rattle.prover.proofs.Lent.{lookups_are}
 use Rattle.hyperplonk_prepare.specs.Prepared.{Accepted, layout_from_words, permutation_offset, compressed_offset, z_offset}
 use Rattle.hyperplonk_prepare.proofs.Accepted as accepted
 use Rattle.hyperplonk_columns.specs.Stages.{z_words, z_denominators}
-
-pub layout_is : (ws : List ℕ) (rows witness instances preprocess start : ℕ) → rows ≡ 2 ^ word_k ws → witness ≡ num_witness (circuit_of ws)
-    → instances ≡ get_or ws 3 0 → preprocess ≡ get_or ws 5 0 → start ≡ get_or ws 4 0
-    → ◌≡◌ {A = Layout}
-    (record {
-      rows = rows;
-      instances = instances;
-      preprocess = preprocess;
-      start = start;
-      witness = witness;
-      permutations = 0;
-      skipped = 0;
-      rest = 0;
-    })
-    (layout_from_words ws)
-unfolding layout_from_words
-layout_is ws rows witness instances preprocess start a b c d e = rw (a, b, c, d, e)
 
 module _ (ws : List ℕ) (a : Accepted ws) where
   -- ---- instance columns

@@ -6,21 +6,14 @@ use Rattle.hyperplonk_columns.proofs.Accepted.{exact_challenges, counts_asked, a
 use Rattle.hyperplonk_columns.proofs.write_columns.Goals as goal
 
 pub columns_before_m-requires : goal.columns_before_m-requires
-columns_before_m-requires c =
-    (c.requires.0.accepted, c.requires.0.copied_are, c.requires.1, c.requires.2)
-
-pub places_of-at-requires : goal.places_of-at-requires
-places_of-at-requires c = (c.requires.0.accepted, c.requires.0.params_are)
-
-pub column_words-words-requires : goal.column_words-words-requires
-column_words-words-requires c = (c.requires.0.accepted, c.requires.0.params_are)
+columns_before_m-requires c = (c.args.prepared.now.circuit.accepted, c.copied-copied.ensures, c.requires.inputs, c.requires.room)
 
 pub lookup_m_polys-covered-requires : goal.lookup_m_polys-covered-requires
 lookup_m_polys-covered-requires c =
     let at = c.places_of-at in
-    counts_asked c.args.circuit.now c.requires.0.accepted c.args.params c.requires.0.params_are c.args.sizes.now c.requires.0.sizes_are _ _ at.ensures.0 at.ensures.1
+    counts_asked c.args.prepared.now.circuit.words.now c.args.prepared.now.circuit.accepted c.args.prepared.now.params c.args.prepared.now.params_are _ c.group_sizes-sizes.ensures _ _ at.ensures.compressed at.ensures.counts
     (length c.args.columns.now)
-    c.requires.2
+    c.requires.room
     c.args.instance.now
     c.args.witness.now
     c.args.challenges.now
@@ -31,7 +24,7 @@ lookup_m_polys-covered-requires c =
 
 pub clear-requires : goal.clear-requires
 clear-requires c =
-    omega (arith, c.column_words-words.ensures, c.requires.2, c.lookup_m_polys-covered.auto.columns, c.columns_before_m.auto.columns)
+    omega (arith, c.column_words-words.ensures, c.requires.room, c.lookup_m_polys-covered.auto.columns, c.columns_before_m.auto.columns)
 
 pub shape_of-columns-then-not-covered : goal.shape_of-columns-then-not-covered
 shape_of-columns-then-not-covered c =
@@ -42,14 +35,14 @@ returns-then-not-covered c =
     let at = c.places_of-at in
     let before = c.columns_before_m.ensures in
     let m = c.lookup_m_polys-covered in
-    none_end c.args.circuit.now c.args.instance.now c.args.witness.now c.args.challenges.now c.requires.0.accepted c.args.columns.now _ c.requires.2 before
+    none_end c.args.prepared.now.circuit.words.now c.args.instance.now c.args.witness.now c.args.challenges.now c.args.prepared.now.circuit.accepted c.args.columns.now _ c.requires.room before
     _
     _
     _
     (sym (c.if-not-covered.true)
-    ∙ answer_is c.args.circuit.now c.requires.0.accepted c.args.params c.requires.0.params_are c.args.sizes.now c.requires.0.sizes_are _ _ at.ensures.0 at.ensures.1
+    ∙ answer_is c.args.prepared.now.circuit.words.now c.args.prepared.now.circuit.accepted c.args.prepared.now.params c.args.prepared.now.params_are _ c.group_sizes-sizes.ensures _ _ at.ensures.compressed at.ensures.counts
     (length c.args.columns.now)
-    c.requires.2
+    c.requires.room
     c.args.instance.now
     c.args.witness.now
     c.args.challenges.now
@@ -59,9 +52,9 @@ returns-then-not-covered c =
     m.result
     before
     m.ensures)
-    (counts_behind c.args.circuit.now c.requires.0.accepted c.args.params c.requires.0.params_are c.args.sizes.now c.requires.0.sizes_are _ _ at.ensures.0 at.ensures.1
+    (counts_behind c.args.prepared.now.circuit.words.now c.args.prepared.now.circuit.accepted c.args.prepared.now.params c.args.prepared.now.params_are _ c.group_sizes-sizes.ensures _ _ at.ensures.compressed at.ensures.counts
     (length c.args.columns.now)
-    c.requires.2
+    c.requires.room
     c.args.instance.now
     c.args.witness.now
     c.args.challenges.now
@@ -75,33 +68,33 @@ returns-then-not-covered c =
     c.clear.ensures
 
 pub columns_after_m-last-requires : goal.columns_after_m-last-requires
-columns_after_m-last-requires c = (
-  c.requires.0,
-  exact_challenges _ c.args.instance.now c.args.witness.now c.args.challenges.now c.requires.1,
-  omega (arith, c.requires.2, c.lookup_m_polys-covered.auto.columns, c.columns_before_m.auto.columns),
-)
+columns_after_m-last-requires c =
+    record {
+      challenges = exact_challenges _ c.args.instance.now c.args.witness.now c.args.challenges.now c.requires.inputs;
+      room = omega (arith, c.requires.room, c.lookup_m_polys-covered.auto.columns, c.columns_before_m.auto.columns);
+    }
 
-pub clear-requires-in-ZeroDenominator : goal.clear-requires-in-ZeroDenominator
-clear-requires-in-ZeroDenominator c =
-    omega (arith, c.column_words-words.ensures, c.requires.2, c.columns_after_m-last.auto.columns, c.lookup_m_polys-covered.auto.columns, c.columns_before_m.auto.columns)
+pub clear-requires-in-Err : goal.clear-requires-in-Err
+clear-requires-in-Err c =
+    omega (arith, c.column_words-words.ensures, c.requires.room, c.columns_after_m-last.auto.columns, c.lookup_m_polys-covered.auto.columns, c.columns_before_m.auto.columns)
 
-pub shape_of-columns-in-Written : goal.shape_of-columns-in-Written
-shape_of-columns-in-Written c =
+pub shape_of-columns-in-Ok : goal.shape_of-columns-in-Ok
+shape_of-columns-in-Ok c =
     c.columns_after_m-last.auto.columns ∙ c.lookup_m_polys-covered.auto.columns ∙ c.columns_before_m.auto.columns
 
-pub returns-in-Written : goal.returns-in-Written
-returns-in-Written c =
+pub returns-in-Ok : goal.returns-in-Ok
+returns-in-Ok c =
     let at = c.places_of-at in
     let before = c.columns_before_m.ensures in
     let m = c.lookup_m_polys-covered in
     let yes = c.if-not-covered.false in
-    all_end c.args.circuit.now c.args.instance.now c.args.witness.now c.args.challenges.now c.requires.0.accepted c.args.columns.now _ c.requires.2 before
+    all_end c.args.prepared.now.circuit.words.now c.args.instance.now c.args.witness.now c.args.challenges.now c.args.prepared.now.circuit.accepted c.args.columns.now _ c.requires.room before
     _
     _
     _
-    (counts_written c.args.circuit.now c.requires.0.accepted c.args.params c.requires.0.params_are c.args.sizes.now c.requires.0.sizes_are _ _ at.ensures.0 at.ensures.1
+    (counts_written c.args.prepared.now.circuit.words.now c.args.prepared.now.circuit.accepted c.args.prepared.now.params c.args.prepared.now.params_are _ c.group_sizes-sizes.ensures _ _ at.ensures.compressed at.ensures.counts
     (length c.args.columns.now)
-    c.requires.2
+    c.requires.room
     c.args.instance.now
     c.args.witness.now
     c.args.challenges.now
@@ -113,9 +106,9 @@ returns-in-Written c =
     m.ensures
     yes)
     (sym yes
-    ∙ answer_is c.args.circuit.now c.requires.0.accepted c.args.params c.requires.0.params_are c.args.sizes.now c.requires.0.sizes_are _ _ at.ensures.0 at.ensures.1
+    ∙ answer_is c.args.prepared.now.circuit.words.now c.args.prepared.now.circuit.accepted c.args.prepared.now.params c.args.prepared.now.params_are _ c.group_sizes-sizes.ensures _ _ at.ensures.compressed at.ensures.counts
     (length c.args.columns.now)
-    c.requires.2
+    c.requires.room
     c.args.instance.now
     c.args.witness.now
     c.args.challenges.now
@@ -126,25 +119,25 @@ returns-in-Written c =
     before
     m.ensures)
     (c.columns_after_m-last.ensures c.args.instance.now)
-    c.in-Written.is
+    c.in-Ok.is
 
-pub shape_of-columns-in-ZeroDenominator : goal.shape_of-columns-in-ZeroDenominator
-shape_of-columns-in-ZeroDenominator c =
-    c.clear-in-ZeroDenominator.auto.columns ∙ c.columns_after_m-last.auto.columns ∙ c.lookup_m_polys-covered.auto.columns ∙ c.columns_before_m.auto.columns
+pub shape_of-columns-in-Err : goal.shape_of-columns-in-Err
+shape_of-columns-in-Err c =
+    c.clear-in-Err.auto.columns ∙ c.columns_after_m-last.auto.columns ∙ c.lookup_m_polys-covered.auto.columns ∙ c.columns_before_m.auto.columns
 
-pub returns-in-ZeroDenominator : goal.returns-in-ZeroDenominator
-returns-in-ZeroDenominator c =
+pub returns-in-Err : goal.returns-in-Err
+returns-in-Err c =
     let at = c.places_of-at in
     let before = c.columns_before_m.ensures in
     let m = c.lookup_m_polys-covered in
     let yes = c.if-not-covered.false in
-    zero_end c.args.circuit.now c.args.instance.now c.args.witness.now c.args.challenges.now c.requires.0.accepted c.args.columns.now _ c.requires.2 before
+    zero_end c.args.prepared.now.circuit.words.now c.args.instance.now c.args.witness.now c.args.challenges.now c.args.prepared.now.circuit.accepted c.args.columns.now _ c.requires.room before
     _
     _
     _
-    (counts_written c.args.circuit.now c.requires.0.accepted c.args.params c.requires.0.params_are c.args.sizes.now c.requires.0.sizes_are _ _ at.ensures.0 at.ensures.1
+    (counts_written c.args.prepared.now.circuit.words.now c.args.prepared.now.circuit.accepted c.args.prepared.now.params c.args.prepared.now.params_are _ c.group_sizes-sizes.ensures _ _ at.ensures.compressed at.ensures.counts
     (length c.args.columns.now)
-    c.requires.2
+    c.requires.room
     c.args.instance.now
     c.args.witness.now
     c.args.challenges.now
@@ -156,9 +149,9 @@ returns-in-ZeroDenominator c =
     m.ensures
     yes)
     (sym yes
-    ∙ answer_is c.args.circuit.now c.requires.0.accepted c.args.params c.requires.0.params_are c.args.sizes.now c.requires.0.sizes_are _ _ at.ensures.0 at.ensures.1
+    ∙ answer_is c.args.prepared.now.circuit.words.now c.args.prepared.now.circuit.accepted c.args.prepared.now.params c.args.prepared.now.params_are _ c.group_sizes-sizes.ensures _ _ at.ensures.compressed at.ensures.counts
     (length c.args.columns.now)
-    c.requires.2
+    c.requires.room
     c.args.instance.now
     c.args.witness.now
     c.args.challenges.now
@@ -171,6 +164,6 @@ returns-in-ZeroDenominator c =
     (c.columns_after_m-last.ensures c.args.instance.now)
     _
     _
-    c.in-ZeroDenominator.is
+    c.in-Err.is
     c.column_words-words.ensures
-    c.clear-in-ZeroDenominator.ensures
+    c.clear-in-Err.ensures

@@ -1,6 +1,7 @@
-use mathlib.Core.Path.{refl, sym, ◌∙◌}
-use Prim.Native.Nat.{◌-◌}
+use mathlib.Core.Path.{◌≡◌, sym, ◌∙◌}
+use Prim.Native.Nat.{◌+◌, ◌*◌, ◌-◌, min}
 use native.Mathlib.Omega.{arith}
+use lib.ListN.{length}
 use Rattle.lists.proofs.Same.{run_differs, same_all}
 use Rattle.backend.specs.Circuit.{circuit_of}
 use Rattle.preprocessor.specs.Compose.{composed_words}
@@ -8,25 +9,20 @@ use Rattle.preprocessor.proofs.Composed.{composed_length}
 use Rattle.hyperplonk_nodes.proofs.Compared.{up_to}
 use Rattle.hyperplonk_nodes.proofs.same_nodes.Goals as goal
 
-pub loop-at-init : goal.loop-at-init
-loop-at-init c = (omega arith, refl)
-
-pub same_window-requires : goal.same_window-requires
-same_window-requires c =
-    (c.requires.0, (c.requires.1, (omega arith, (omega arith, omega arith))))
-
 pub returns-then-not-same_window : goal.returns-then-not-same_window
 returns-then-not-same_window c =
-    sym (run_differs c.args.nodes.now (composed_words (circuit_of c.args.circuit.now)) c.loop-at.at (c.window_end-end.result - c.loop-at.at)
+    sym (run_differs c.args.nodes.now (composed_words (circuit_of c.args.prepared.now.circuit.words.now)) (c.loop-i.i * 2048) (c.min-end.result - c.loop-i.i * 2048)
     (sym c.same_window.ensures ∙ c.if-not-same_window.true))
 
-pub loop-at-preserved : goal.loop-at-preserved
-loop-at-preserved c = (
-  omega arith,
-  up_to c.args.nodes.now (composed_words (circuit_of c.args.circuit.now)) c.loop-at.at c.window_end-end.result (omega arith) c.loop-at.invariant.1
-      (sym c.same_window.ensures ∙ c.if-not-same_window.false),
-)
+pub loop-i-preserved : goal.loop-i-preserved
+loop-i-preserved c =
+    let words = composed_words (circuit_of c.args.prepared.now.circuit.words.now) in
+    let end : c.min-end.result ≡ min (length c.args.nodes.now) ((c.loop-i.i + 1) * 2048) = omega (arith, c.min-end.ensures) in
+    up_to c.args.nodes.now words (c.loop-i.i * 2048) c.min-end.result ((c.loop-i.i + 1) * 2048) (omega (arith, composed_length (circuit_of c.args.prepared.now.circuit.words.now))) end
+    (omega arith)
+    c.loop-i.invariant
+    (sym c.same_window.ensures ∙ c.if-not-same_window.false)
 
 pub returns : goal.returns
 returns c =
-    sym (same_all c.args.nodes.now (composed_words (circuit_of c.args.circuit.now)) c.loop-at.at (omega arith) (omega (arith, composed_length (circuit_of c.args.circuit.now))) c.loop-at.invariant.1)
+    sym (same_all c.args.nodes.now (composed_words (circuit_of c.args.prepared.now.circuit.words.now)) (c.loop-i.i * 2048) (omega arith) (omega (arith, composed_length (circuit_of c.args.prepared.now.circuit.words.now))) c.loop-i.invariant)

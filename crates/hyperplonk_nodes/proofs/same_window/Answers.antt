@@ -4,5 +4,4 @@ use Rattle.hyperplonk_nodes.proofs.Compared.{compared}
 use Rattle.hyperplonk_nodes.proofs.same_window.Goals as goal
 
 pub returns : goal.returns
-returns c =
-    compared c.same_words.result _ (c.args.end - c.args.at) (omega arith) (omega arith) c.compose_nodes.ensures c.same_words.ensures
+returns c = compared c.eq.result _ (c.args.end - c.args.at) (omega arith) (omega arith) c.compose_nodes.ensures c.eq.ensures

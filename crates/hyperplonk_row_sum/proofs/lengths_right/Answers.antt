@@ -4,16 +4,15 @@ use Rattle.hyperplonk_row_sum.proofs.Sixteen.{numbers_few, words_fit, lengths_ar
 use Rattle.hyperplonk_row_sum.proofs.lengths_right.Goals as goal
 
 pub overflow_mul-result : goal.overflow_mul-result
-overflow_mul-result c = omega (arith, words_fit c.args.circuit.now c.requires.0 c.args.params c.requires.1 _ c.sum_layout-layout.ensures)
+overflow_mul-result c = omega (arith, words_fit c.args.prepared.now.circuit.words.now c.args.prepared.now.circuit.accepted c.args.prepared.now.params c.args.prepared.now.params_are _ c.sum_layout-layout.ensures)
 
 pub overflow_add-result : goal.overflow_add-result
-overflow_add-result c = omega (arith, (numbers_few c.args.circuit.now c.requires.0 c.args.params c.requires.1).3)
+overflow_add-result c = omega (arith, (numbers_few c.args.prepared.now.circuit.words.now c.args.prepared.now.circuit.accepted c.args.prepared.now.params c.args.prepared.now.params_are).3)
 
 pub returns : goal.returns
 returns c =
     let a = c.args in
-    let pre = c.requires in
-    lengths_are a.circuit.now pre.0 a.params pre.1 a.witness a.columns a.nodes a.challenges a.y _ _ _ _ c.sum_layout-layout.ensures
+    lengths_are a.prepared.now.circuit.words.now a.prepared.now.circuit.accepted a.prepared.now.params a.prepared.now.params_are a.witness a.columns a.nodes a.challenges a.y _ _ _ _ c.sum_layout-layout.ensures
     c.column_words-words.ensures
-    c.composed_nodes-composed.ensures.0
+    c.composed_nodes-composed.ensures.nodes
     c.k_of-k.ensures

@@ -6,21 +6,21 @@ use Rattle.hyperplonk_row_sum.proofs.question_16.Goals as goal
 pub returns-then-not-lengths_right : goal.returns-then-not-lengths_right
 returns-then-not-lengths_right c =
     let a = c.args in
-    lengths_no (circuit_of a.circuit.now) a.witness.now a.columns.now a.nodes.now a.challenges.now a.y.now _ c.lengths_right.ensures (mathlib.Core.Path.ap mathlib.Core.Bool.not c.if-not-lengths_right.true)
+    lengths_no (circuit_of a.prepared.now.circuit.words.now) a.witness.now a.columns.now a.nodes.now a.challenges.now a.y.now _ c.lengths_right.ensures (mathlib.Core.Path.ap mathlib.Core.Bool.not c.if-not-lengths_right.true)
 
 pub same_nodes-requires : goal.same_nodes-requires
 same_nodes-requires c =
     let a = c.args in
-    (c.requires, nodes_many (circuit_of a.circuit.now) a.witness.now a.columns.now a.nodes.now a.challenges.now a.y.now _ c.lengths_right.ensures (mathlib.Core.Path.ap mathlib.Core.Bool.not c.if-not-lengths_right.false))
+    nodes_many (circuit_of a.prepared.now.circuit.words.now) a.witness.now a.columns.now a.nodes.now a.challenges.now a.y.now _ c.lengths_right.ensures (mathlib.Core.Path.ap mathlib.Core.Bool.not c.if-not-lengths_right.false)
 
 pub returns-then-not-same_nodes : goal.returns-then-not-same_nodes
 returns-then-not-same_nodes c =
     let a = c.args in
-    nodes_no (circuit_of a.circuit.now) a.witness.now a.columns.now a.nodes.now a.challenges.now a.y.now _ c.same_nodes.ensures (mathlib.Core.Path.ap mathlib.Core.Bool.not c.if-not-same_nodes.true)
+    nodes_no (circuit_of a.prepared.now.circuit.words.now) a.witness.now a.columns.now a.nodes.now a.challenges.now a.y.now _ c.same_nodes.ensures (mathlib.Core.Path.ap mathlib.Core.Bool.not c.if-not-same_nodes.true)
 
 pub returns : goal.returns
 returns c =
     let a = c.args in
-    rest_is (circuit_of a.circuit.now) a.witness.now a.columns.now a.nodes.now a.challenges.now a.y.now _ _ _ c.lengths_right.ensures (mathlib.Core.Path.ap mathlib.Core.Bool.not c.if-not-lengths_right.false) c.same_nodes.ensures
+    rest_is (circuit_of a.prepared.now.circuit.words.now) a.witness.now a.columns.now a.nodes.now a.challenges.now a.y.now _ _ _ c.lengths_right.ensures (mathlib.Core.Path.ap mathlib.Core.Bool.not c.if-not-lengths_right.false) c.same_nodes.ensures
     (mathlib.Core.Path.ap mathlib.Core.Bool.not c.if-not-same_nodes.false)
     c.values_small.ensures

@@ -7,14 +7,14 @@ use Rattle.hyperplonk_row_sum.proofs.sum_prepared.Goals as goal
 pub returns-then-not-question_16 : goal.returns-then-not-question_16
 returns-then-not-question_16 c =
     let a = c.args in
-    refused_late a.circuit.now a.witness.now a.columns.now a.nodes.now a.challenges.now a.y.now c.requires.accepted _ c.question_16.ensures (mathlib.Core.Path.ap mathlib.Core.Bool.not c.if-not-question_16.true)
+    refused_late a.prepared.now.circuit.words.now a.witness.now a.columns.now a.nodes.now a.challenges.now a.y.now c.args.prepared.now.circuit.accepted _ c.question_16.ensures (mathlib.Core.Path.ap mathlib.Core.Bool.not c.if-not-question_16.true)
 
 pub sum_rows-sum-requires : goal.sum_rows-sum-requires
 sum_rows-sum-requires c =
     let a = c.args in
-    summable a.circuit.now a.witness.now a.columns.now a.nodes.now a.challenges.now a.y.now c.requires.accepted _ c.question_16.ensures (mathlib.Core.Path.ap mathlib.Core.Bool.not c.if-not-question_16.false) _ c.sum_layout-layout.ensures _ c.k_of-k.ensures
+    summable a.prepared.now.circuit.words.now a.witness.now a.columns.now a.nodes.now a.challenges.now a.y.now c.args.prepared.now.circuit.accepted _ c.question_16.ensures (mathlib.Core.Path.ap mathlib.Core.Bool.not c.if-not-question_16.false) _ c.sum_layout-layout.ensures _ c.k_of-k.ensures
 
 pub returns : goal.returns
 returns c =
     let a = c.args in
-    answered a.circuit.now a.witness.now a.columns.now a.nodes.now a.challenges.now a.y.now c.requires.accepted _ c.question_16.ensures (mathlib.Core.Path.ap mathlib.Core.Bool.not c.if-not-question_16.false) _ (c.to_u64.ensures ∙ ap val c.sum_rows-sum.ensures)
+    answered a.prepared.now.circuit.words.now a.witness.now a.columns.now a.nodes.now a.challenges.now a.y.now c.args.prepared.now.circuit.accepted _ c.question_16.ensures (mathlib.Core.Path.ap mathlib.Core.Bool.not c.if-not-question_16.false) _ (c.to_u64.ensures ∙ ap val c.sum_rows-sum.ensures)

@@ -14,7 +14,7 @@ pub overflow_sub-root : goal.overflow_sub-root
 overflow_sub-root c = root_there _ _ _ _ _ c.requires
 
 pub loop-place-init : goal.loop-place-init
-loop-place-init c = (sym (row_zero c.args.k), omega arith, added_none _ _)
+loop-place-init c = (sym (row_zero c.args.k), added_none _ _)
 
 pub eq_at-requires : goal.eq_at-requires
 eq_at-requires c = values_there _ _ _ _ _ c.requires
@@ -30,20 +30,13 @@ row_after-row-requires c =
     let pre = c.requires in
     (k_low _ _ _ _ _ pre, k_high _ _ _ _ _ pre, c.loop-place.invariant.0)
 
-pub overflow_add-place : goal.overflow_add-place
-overflow_add-place c = omega (arith, c.loop-place-test.true)
-
-pub loop-place-smaller : goal.loop-place-smaller
-loop-place-smaller c = omega (arith, c.loop-place-test.true)
-
 pub loop-place-preserved : goal.loop-place-preserved
 loop-place-preserved c =
     let pre = c.requires in
     let l = c.loop-place in
     let inside : l.place < 2 ^ c.args.k = omega (arith, c.loop-place-test.true, c.rows_of-rows.ensures) in (
       c.row_after-row.ensures.0,
-      omega (arith, c.loop-place-test.true, c.rows_of-rows.ensures),
-      added_more _ _ _ _ l.row _ _ l.invariant.2 l.invariant.0
+      added_more _ _ _ _ l.row _ _ l.invariant.1 l.invariant.0
           (value_is _ _ _ _ _ pre _ _ _ _ _ refl (placed _ _ _ _ _ pre l.row l.place inside l.invariant.0 _) (c.word-eq.ensures ∙ c.eq_at.ensures) c.value-x.ensures)
           c.add-sum.ensures,
     )
@@ -51,4 +44,4 @@ loop-place-preserved c =
 pub returns : goal.returns
 returns c =
     let l = c.loop-place in
-    sum_is _ _ _ _ _ c.requires _ _ _ _ l.place l.invariant.2 (omega (arith, c.loop-place-test.false, c.rows_of-rows.ensures, l.invariant.1))
+    sum_is _ _ _ _ _ c.requires _ _ _ _ l.place l.invariant.1 (omega (arith, c.loop-place-test.false, c.rows_of-rows.ensures))

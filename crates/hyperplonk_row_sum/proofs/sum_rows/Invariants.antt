@@ -1,5 +1,5 @@
 use mathlib.Core.Path.{◌≡◌}
-use Prim.Native.Nat.{◌-◌, ◌^◌, ◌≤◌}
+use Prim.Native.Nat.{◌-◌}
 use Rattle.field.specs.Field.{𝔾}
 use Rattle.field.specs.Element.{elem}
 use Rattle.bh.specs.Rows.{row_at}
@@ -12,7 +12,4 @@ use Rattle.hyperplonk_row_sum.proofs.Rows.{Added}
 use Rattle.hyperplonk_row_sum.proofs.sum_rows.Given as goal
 
 abbrev pub invariant-loop-place : goal.invariant-loop-place
-invariant-loop-place l = (l.row ≡ row_at l.k l.place) × (l.place ≤ 2 ^ l.k) × Added l.k (value_at 𝔾 (row_sum_environment l.circuit l.witness l.columns l.challenges l.y) (expr_of l.nodes (composed_nodes (circuit_of l.circuit) - 1))) (elem l.sum) l.place
-
-abbrev pub decreases-loop-place : goal.decreases-loop-place
-decreases-loop-place l = l.rows - l.place
+invariant-loop-place l = (l.row ≡ row_at l.k l.place) × Added l.k (value_at 𝔾 (row_sum_environment l.circuit l.witness l.columns l.challenges l.y) (expr_of l.nodes (composed_nodes (circuit_of l.circuit) - 1))) (elem l.sum) l.place

@@ -1,5 +1,5 @@
 -- `shape_of` ends, and asks `copied_of` and `accepted` only of circuit words for which questions 1 to 11 and 18 are yes.
-use Rattle.std.proofs.Common.{◌≡◌, ℕ, List, sym, ap, ◌∙◌}
+use Rattle.std.proofs.Common.{◌≡◌, ℕ, List, length, sym, ap, ◌∙◌}
 use Rattle.hyperplonk_prepare.specs.Prepared.{Accepted}
 use Rattle.hyperplonk_prepare.proofs.Foretold.{accepted_when}
 use Rattle.hyperplonk_spec.specs.Sizes.{sizes_of}
@@ -14,5 +14,4 @@ copied_of-copied-requires c = told-yes _ _ c.sizes-told.ensures.0 c.if-told-ne0.
 
 pub accepted-requires : goal.accepted-requires
 accepted-requires c =
-    let n = c.copied_of-copied in
-    (told-yes _ _ c.sizes-told.ensures.0 c.if-told-ne0.false, (n.ensures.0, n.ensures.1))
+    (told-yes _ _ c.sizes-told.ensures.0 c.if-told-ne0.false, c.len.ensures.value ∙ ap (λ (xs : List ℕ). length xs) c.copied_of-copied.ensures.columns)

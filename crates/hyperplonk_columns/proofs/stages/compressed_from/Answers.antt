@@ -4,18 +4,18 @@ use Rattle.hyperplonk_columns.proofs.stages.Stages.{compressed_asks, compressed_
 use Rattle.hyperplonk_columns.proofs.stages.compressed_from.Goals as goal
 
 pub nodes_of-nodes-requires : goal.nodes_of-nodes-requires
-nodes_of-nodes-requires c = accepted.laid_of c.args.circuit.now c.requires.0
+nodes_of-nodes-requires c = accepted.laid_of c.args.circuit.now.words.now c.args.circuit.now.accepted
 
 pub widths_of-widths-requires : goal.widths_of-widths-requires
-widths_of-widths-requires c = accepted.laid_of c.args.circuit.now c.requires.0
+widths_of-widths-requires c = accepted.laid_of c.args.circuit.now.words.now c.args.circuit.now.accepted
 
 pub pairs_of-pairs-requires : goal.pairs_of-pairs-requires
-pairs_of-pairs-requires c = accepted.laid_of c.args.circuit.now c.requires.0
+pairs_of-pairs-requires c = accepted.laid_of c.args.circuit.now.words.now c.args.circuit.now.accepted
 
 pub lookup_compressed_polys-requires : goal.lookup_compressed_polys-requires
 lookup_compressed_polys-requires c =
-    compressed_asks c.args.circuit.now c.requires.0 _ _ _ _ _ _ _ c.requires.1 c.requires.2 c.nodes_of-nodes.ensures c.widths_of-widths.ensures c.pairs_of-pairs.ensures c.requires.3 c.requires.4
+    compressed_asks c.args.circuit.now.words.now c.args.circuit.now.accepted _ _ _ _ _ _ _ c.requires.0 c.requires.1 c.nodes_of-nodes.ensures c.widths_of-widths.ensures c.pairs_of-pairs.ensures c.requires.2 c.requires.3
 
 pub returns : goal.returns
 returns c =
-    compressed_written c.args.circuit.now c.requires.0 _ _ _ _ _ _ _ _ _ _ _ c.nodes_of-nodes.ensures c.widths_of-widths.ensures c.pairs_of-pairs.ensures c.lookup_compressed_polys.ensures
+    compressed_written c.args.circuit.now.words.now c.args.circuit.now.accepted _ _ _ _ _ _ _ _ _ _ _ c.nodes_of-nodes.ensures c.widths_of-widths.ensures c.pairs_of-pairs.ensures c.lookup_compressed_polys.ensures
