@@ -1,7 +1,6 @@
 // What is said of question 18: a group number that breaks the rule, a table that is not that of its group's first lookup.
 use cli_faults::bounds::{Bounds, bounds_of};
 use cli_faults::groups::{first_of, lookup_start, number_of, width_of};
-use cli_texts::say;
 use lists::word_at;
 use std::io;
 use std::io::Stderr;
@@ -30,49 +29,48 @@ pub(crate) fn lookup_at(circuit: &[u64], b: Bounds, place: usize) -> u64 {
 
 // "first 0, each next the same or one more"
 fn number_why(err: Stderr, circuit: &[u64], b: Bounds, i: u64) -> io::Result<()> {
-    say::error_count(err, b"lookup ", i)?;
-    say::error_count(err, b" has group number ", number_of(circuit, b, i))?;
+    print!(err; "lookup {i} has group number {}", number_of(circuit, b, i))?;
     if i == 0 {
-        return say::error(err, b", expected 0\n");
+        return println!(err; ", expected 0");
     }
     let before = number_of(circuit, b, last(i));
-    say::error_count(err, b", expected ", before)?;
-    say::error_count(err, b" or ", std::num::wrapping_add_u64(before, 1))?;
-    say::error_count(err, b": that of lookup ", last(i))?;
-    say::error(err, b", or one more\n")
+    println!(err;
+        ", expected {before} or {}: that of lookup {}, or one more",
+        std::num::wrapping_add_u64(before, 1),
+        last(i)
+    )
 }
 
 // The first lookup of the group.
 fn against(err: Stderr, circuit: &[u64], b: Bounds, i: u64) -> io::Result<()> {
-    say::error_count(err, b"lookup ", first_of(circuit, b, i))?;
-    say::error_count(err, b", the first of group ", number_of(circuit, b, i))
+    print!(err;
+        "lookup {}, the first of group {}",
+        first_of(circuit, b, i),
+        number_of(circuit, b, i)
+    )
 }
 
 fn width_why(err: Stderr, circuit: &[u64], b: Bounds, i: u64) -> io::Result<()> {
-    say::error_count(err, b"the table of lookup ", i)?;
-    say::error_count(err, b" has width ", width_of(circuit, b, i))?;
-    say::error(err, b", that of ")?;
-    against(err, circuit, b, i)?;
-    say::error_count(
-        err,
-        b", has width ",
-        width_of(circuit, b, first_of(circuit, b, i)),
+    print!(err;
+        "the table of lookup {i} has width {}, that of ",
+        width_of(circuit, b, i)
     )?;
-    say::error(err, b"\n")
+    against(err, circuit, b, i)?;
+    println!(err;
+        ", has width {}",
+        width_of(circuit, b, first_of(circuit, b, i))
+    )
 }
 
 fn tree_why(err: Stderr, circuit: &[u64], b: Bounds, place: usize) -> io::Result<()> {
     let i = lookup_at(circuit, b, place);
-    say::error_count(
-        err,
-        b"table expression ",
+    print!(err;
+        "table expression {} of lookup {i}, node {}, is not the same tree as that of ",
         behind(place, lookup_start(circuit, b, i)) / 2,
+        word_at(circuit, place)
     )?;
-    say::error_count(err, b" of lookup ", i)?;
-    say::error_count(err, b", node ", word_at(circuit, place))?;
-    say::error(err, b", is not the same tree as that of ")?;
     against(err, circuit, b, i)?;
-    say::error(err, b"\n")
+    println!(err; "")
 }
 
 // Question 18.

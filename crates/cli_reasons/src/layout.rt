@@ -4,7 +4,6 @@ use cli_faults::names::{next_name, times};
 use cli_faults::nodes::{
     HIGH, ITEM, LARGE, NO_ITEM, UNUSED, first_why, is_kind, largest, second_why, value_why,
 };
-use cli_texts::say;
 use expression::kind;
 use lists::word_at;
 use std::io;
@@ -14,13 +13,13 @@ use std::io::Stderr;
 fn root(err: Stderr, b: Bounds, place: usize) -> io::Result<()> {
     if place < b.pairs_start {
         let j = std::num::wrapping_sub_usize(place, b.constraints_start);
-        return say::error_count(err, b"constraint root ", j as u64);
+        return print!(err; "constraint root {j}");
     }
     let part = std::num::wrapping_sub_usize(place, b.pairs_start);
     if part % 2 == 0 {
-        say::error_count(err, b"the input of lookup pair ", (part / 2) as u64)?;
+        print!(err; "the input of lookup pair {}", (part / 2) as u64)?;
     } else {
-        say::error_count(err, b"the table of lookup pair ", (part / 2) as u64)?;
+        print!(err; "the table of lookup pair {}", (part / 2) as u64)?;
     }
     Ok(())
 }
@@ -30,23 +29,24 @@ fn root_why(err: Stderr, circuit: &[u64], b: Bounds, place: usize) -> io::Result
     let n = word_at(circuit, place);
     root(err, b, place)?;
     if n < b.nodes {
-        say::error_count(err, b" is ", n)?;
-        return say::error(err, b", an Item\n");
+        return println!(err; " is {n}, an Item");
     }
     if b.nodes == 0 {
-        say::error_count(err, b" is ", n)?;
-        return say::error(err, b", there is no node\n");
+        return println!(err; " is {n}, there is no node");
     }
-    say::error_range(err, b" is ", n, 0, std::num::wrapping_sub_u64(b.nodes, 1))
+    println!(err;
+        " is {n}, from 0 to {}",
+        std::num::wrapping_sub_u64(b.nodes, 1)
+    )
 }
 
 // By what a node is named, at the place of a word.
 fn by(err: Stderr, b: Bounds, place: usize) -> io::Result<()> {
     if place < b.constraints_start {
         let part = std::num::wrapping_sub_usize(place, b.nodes_start);
-        return say::error_count(err, b"by node ", (part / 4) as u64);
+        return print!(err; "by node {}", (part / 4) as u64);
     }
-    say::error(err, b"as ")?;
+    print!(err; "as ")?;
     root(err, b, place)
 }
 
@@ -54,12 +54,12 @@ fn by(err: Stderr, b: Bounds, place: usize) -> io::Result<()> {
 fn by_two(err: Stderr, circuit: &[u64], b: Bounds, n: u64, named: u64) -> io::Result<()> {
     let first = next_name(circuit, b, b.nodes_start, n);
     let second = next_name(circuit, b, after(first, 1), n);
-    say::error(err, b": ")?;
+    print!(err; ": ")?;
     by(err, b, first)?;
-    say::error(err, b" and ")?;
+    print!(err; " and ")?;
     by(err, b, second)?;
     if named > 2 {
-        say::error(err, b", and more")?;
+        print!(err; ", and more")?;
     }
     Ok(())
 }
@@ -67,42 +67,36 @@ fn by_two(err: Stderr, circuit: &[u64], b: Bounds, n: u64, named: u64) -> io::Re
 // How often node n is named.
 fn names_why(err: Stderr, circuit: &[u64], b: Bounds, n: u64) -> io::Result<()> {
     let named = times(circuit, b, n);
-    say::error_count(err, b"node ", n)?;
-    say::error_count(err, b" is named ", named)?;
-    say::error(err, b" times")?;
+    print!(err; "node {n} is named {named} times")?;
     if named > 1 {
         by_two(err, circuit, b, n, named)?;
     } else {
-        say::error(err, b", exactly once is asked")?;
+        print!(err; ", exactly once is asked")?;
     }
-    say::error(err, b"\n")
+    println!(err; "")
 }
 
 // A word that the kind does not use.
 fn unused_why(err: Stderr, kind: u64, part: usize) -> io::Result<()> {
-    say::error_count(err, b"kind ", kind)?;
+    print!(err; "kind {kind}")?;
     if kind == kind::ITEM {
-        say::error(err, b" of value 0, the last Item,")?;
+        print!(err; " of value 0, the last Item,")?;
     }
     match part {
-        1 => say::error(err, b" does not use its first: expected 0\n"),
-        2 => say::error(err, b" does not use its second: expected 0\n"),
-        _ => say::error(err, b" does not use its value: expected 0\n"),
+        1 => println!(err; " does not use its first: expected 0"),
+        2 => println!(err; " does not use its second: expected 0"),
+        _ => println!(err; " does not use its value: expected 0"),
     }
 }
 
 // A name that is not right.
 fn name_why(err: Stderr, n: u64, named: u64, what: u64) -> io::Result<()> {
-    say::error_count(err, b"node ", n)?;
-    say::error_count(err, b" names node ", named)?;
+    print!(err; "node {n} names node {named}")?;
     match what {
-        HIGH => say::error(err, b", a node names lower nodes only\n"),
-        ITEM => say::error(
-            err,
-            b", an Item, which only the second of kind 11 or 12 names\n",
-        ),
-        NO_ITEM => say::error(err, b", which is no Item\n"),
-        _ => say::error(err, b", the last Item, and kind 11 has two Items or more\n"),
+        HIGH => println!(err; ", a node names lower nodes only"),
+        ITEM => println!(err; ", an Item, which only the second of kind 11 or 12 names"),
+        NO_ITEM => println!(err; ", which is no Item"),
+        _ => println!(err; ", the last Item, and kind 11 has two Items or more"),
     }
 }
 
@@ -112,13 +106,7 @@ fn word_why(err: Stderr, n: u64, part: usize, kind: u64, held: u64, what: u64) -
         return unused_why(err, kind, part);
     }
     if what == LARGE {
-        return say::error_two(
-            err,
-            b"a value of kind ",
-            kind,
-            b" is at most ",
-            largest(kind),
-        );
+        return println!(err; "a value of kind {kind} is at most {}", largest(kind));
     }
     name_why(err, n, held, what)
 }
@@ -127,7 +115,7 @@ fn kind_why(err: Stderr, circuit: &[u64], b: Bounds, n: u64, kind: u64) -> io::R
     if is_kind(kind) {
         names_why(err, circuit, b, n)?;
     } else {
-        say::error_range(err, b"kind ", kind, kind::CONSTANT, kind::ITEM)?;
+        println!(err; "kind {kind}, from {} to {}", kind::CONSTANT, kind::ITEM)?;
     }
     Ok(())
 }

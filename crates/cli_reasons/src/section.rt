@@ -3,7 +3,6 @@ use backend_sections::contents::{
     CELLS, GROUPS, INSTANCES, LENGTHS, NEXT_START, NODES, PAIRS, PREPROCESS, ROUNDS, WIDTHS,
 };
 use cli_faults::bounds::{NO_SECTION, after};
-use cli_texts::say;
 use lists::word_at;
 use std::io;
 use std::io::Stderr;
@@ -37,21 +36,21 @@ pub fn section_name(err: Stderr, s: usize) -> io::Result<()> {
 
 fn early_name(err: Stderr, s: usize) -> io::Result<()> {
     match s {
-        INSTANCES => say::error(err, b"the instance lengths"),
-        PREPROCESS => say::error(err, b"the preprocess columns"),
-        ROUNDS => say::error(err, b"the rounds"),
-        NODES => say::error(err, b"the nodes"),
-        _ => say::error(err, b"the constraint roots"),
+        INSTANCES => print!(err; "the instance lengths"),
+        PREPROCESS => print!(err; "the preprocess columns"),
+        ROUNDS => print!(err; "the rounds"),
+        NODES => print!(err; "the nodes"),
+        _ => print!(err; "the constraint roots"),
     }
 }
 
 fn late_name(err: Stderr, s: usize) -> io::Result<()> {
     match s {
-        WIDTHS => say::error(err, b"the lookup widths"),
-        PAIRS => say::error(err, b"the lookup pairs"),
-        LENGTHS => say::error(err, b"the cycle lengths"),
-        CELLS => say::error(err, b"the cells"),
-        GROUPS => say::error(err, b"the group numbers"),
-        _ => say::error(err, b"the table of contents"),
+        WIDTHS => print!(err; "the lookup widths"),
+        PAIRS => print!(err; "the lookup pairs"),
+        LENGTHS => print!(err; "the cycle lengths"),
+        CELLS => print!(err; "the cells"),
+        GROUPS => print!(err; "the group numbers"),
+        _ => print!(err; "the table of contents"),
     }
 }

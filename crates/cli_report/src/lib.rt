@@ -5,6 +5,7 @@
 pub mod cuts;
 pub mod explain;
 mod files;
+mod line;
 pub mod output;
 pub mod regroup;
 pub mod shape;

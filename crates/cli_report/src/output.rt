@@ -1,15 +1,23 @@
 // OUT: written beside and then renamed, so that what stands there stays until the new file is whole; and never over a file that
 // `build` did not write.
-use crate::files::{put, put_digits};
+use crate::line::name_beside;
 use crate::shape::Shape;
 use crate::write_out::write_out;
-use cli_messages::say;
 use cli_texts::files::unnamed;
+use cli_texts::say;
 use std::fs::{OpenFile, OpenOptions};
-use std::io::{ErrorKind, Read, Seek, SeekFrom, Stderr, Write};
+use std::io::{ErrorKind, Print, Read, Seek, SeekFrom, Stderr, Write};
 use std::process::Process;
 use std::rt::{Env, Files};
 use std::{fs, io, process};
+
+// What a build wrote, and the shape of its circuit.
+#[derive(Clone, Copy)]
+pub struct Built<'a> {
+    pub columns: &'a [u64],
+    pub nodes: &'a [u64],
+    pub shape: Shape,
+}
 
 // Does what is open begin as a file that `build` wrote? What has no place to read from, as a pipe or a terminal, is not read.
 fn is_built(file: &mut (impl Read + Seek)) -> bool {
@@ -36,47 +44,30 @@ fn is_free(rt: &impl Files, err: Stderr, path: &str) -> io::Result<bool> {
     };
     let built = is_built(&mut file);
     if !built {
-        say::error(err, path.as_bytes())?;
-        say::error(
-            err,
-            b": something stands there that build did not write; it is left as it is, and nothing is written\n",
+        println!(err;
+            "{path}: something stands there that build did not write; it is left as it is, and nothing is written"
         )?;
     }
     Ok(built)
 }
 
-// Puts the name of the file beside, and answers its length.
-fn name_beside(process: Process, path: &[u8], name: &mut [u8]) -> usize {
-    let stem = put(name, 0, path);
-    let dot = put(name, stem, b".");
-    let number = put_digits(name, dot, u64::from(process::id(process)));
-    put(name, number, b".part")
-}
-
 // Writes all of it, to the device.
-fn fill(
-    file: &mut (impl Write + OpenFile),
-    columns: &[u64],
-    nodes: &[u64],
-    s: Shape,
-) -> io::Result<()> {
-    write_out(file, columns, nodes, s)?;
+fn fill(file: &mut (impl Write + OpenFile), built: &Built) -> io::Result<()> {
+    write_out(file, built)?;
     file.sync_all()
 }
 
 // Fills, closes and renames the file beside; where that fails there is none any more, and it says why.
-fn through<'a, R: Files>(
+fn through<R: Files>(
     rt: &R,
     err: Stderr,
-    path: &'a str,
-    beside: &'a str,
+    path: &str,
+    beside: &str,
     file: R::File,
-    columns: &'a [u64],
-    nodes: &'a [u64],
-    s: Shape,
+    built: &Built,
 ) -> io::Result<bool> {
     let mut file = file;
-    let filled = fill(&mut file, columns, nodes, s);
+    let filled = fill(&mut file, built);
     drop(file);
     let done = match filled {
         Ok(()) => fs::rename(rt, beside, path),
@@ -87,29 +78,25 @@ fn through<'a, R: Files>(
     };
     let _ = fs::remove_file(rt, beside);
     say::fail(err, path.as_bytes(), &why)?;
-    say::error(err, path.as_bytes())?;
-    say::error(
-        err,
-        b": the columns and nodes could not be written whole; what stood there is as before\n",
+    println!(err;
+        "{path}: the columns and nodes could not be written whole; what stood there is as before"
     )?;
     Ok(false)
 }
 
-fn write_beside<'a>(
+fn write_beside(
     rt: &impl Files,
     err: Stderr,
-    path: &'a str,
-    beside: &'a str,
-    columns: &'a [u64],
-    nodes: &'a [u64],
-    s: Shape,
+    path: &str,
+    beside: &str,
+    built: &Built,
 ) -> io::Result<bool> {
     match OpenOptions::new()
         .write(true)
         .create_new(true)
         .open(rt, beside)
     {
-        Ok(file) => through(rt, err, path, beside, file, columns, nodes, s),
+        Ok(file) => through(rt, err, path, beside, file, built),
         Err(why) => {
             say::fail(err, path.as_bytes(), &why)?;
             Ok(false)
@@ -117,38 +104,29 @@ fn write_beside<'a>(
     }
 }
 
-fn write_path<'a>(
+fn write_path(
     rt: &impl Files,
     process: Process,
     err: Stderr,
-    path: &'a str,
-    columns: &'a [u64],
-    nodes: &'a [u64],
-    s: Shape,
+    path: &str,
+    built: &Built,
 ) -> io::Result<bool> {
-    let mut name = [0u8; 4200];
     if !is_free(rt, err, path)? {
         return Ok(false);
     }
-    let n = name_beside(process, path.as_bytes(), &mut name);
-    if n > name.len() {
-        return Ok(false);
-    }
-    match str::from_utf8(&name[0..n]) {
-        Ok(beside) => write_beside(rt, err, path, beside, columns, nodes, s),
+    match name_beside(path, process::id(process)) {
+        Ok(beside) => write_beside(rt, err, path, beside.as_str(), built),
         Err(_) => Ok(false),
     }
 }
 
 // Writes what was built to the file that an argument names; answers whether it stands there.
-pub fn write<'a>(
+pub fn write(
     rt: &(impl Files + Env),
     process: Process,
     err: Stderr,
     argument: usize,
-    columns: &'a [u64],
-    nodes: &'a [u64],
-    s: Shape,
+    built: &Built,
 ) -> io::Result<bool> {
     let mut path = [0u8; 4096];
     let n = match rt.arg(argument, &mut path) {
@@ -159,10 +137,10 @@ pub fn write<'a>(
         }
     };
     match str::from_utf8(&path[..n]) {
-        Ok(text) => write_path(rt, process, err, text, columns, nodes, s),
+        Ok(text) => write_path(rt, process, err, text, built),
         Err(_) => {
-            say::error(err, &path[..n])?;
-            say::error(err, b": the name is no UTF-8 text\n")?;
+            Print::write_all(&err, &path[..n])?;
+            println!(err; ": the name is no UTF-8 text")?;
             Ok(false)
         }
     }

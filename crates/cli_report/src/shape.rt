@@ -3,6 +3,7 @@ ghost use Rattle.std.specs.Prelude.{◌≡◌};
 ghost use Rattle.backend.specs.Circuit.{circuit_of, num_copied};
 ghost use Rattle.hyperplonk_prepare.specs.Prepared.{Accepted};
 
+use crate::cuts::Cuts;
 use backend::MAX_POLYS;
 use hyperplonk_prepare::{circuit_params, copied_of, group_sizes_of};
 use hyperplonk_sizes::sizes;
@@ -13,19 +14,23 @@ const HALF: usize = 98304;
 
 const HALF_NODES: usize = 4190;
 
-// The number of the first no, 0 for none; the rest is 0 for refused circuit words. `of` has the copied columns' polynomials, and
-// `sizes` how many lookups each group has; `part` is D - 1, `parts` is N,
-// and `half` says that the smaller rooms do.
+// Which rooms of the program do.
+#[derive(Clone, Copy, PartialEq, Eq)]
+pub enum Rooms {
+    Half,
+    Whole,
+}
+
+// What accepted circuit words ask for. `of` has the copied columns' polynomials, and `sizes` how many lookups each group has;
+// `part` is D - 1, `parts` is N.
 #[derive(Clone, Copy)]
 pub struct Shape {
-    pub no: u64,
     pub instances: usize,
     pub copied: usize,
     pub of: [u64; MAX_POLYS],
     pub lookups: usize,
     pub groups: usize,
     pub sizes: [u64; 8],
-    pub polys: usize,
     pub user: usize,
     pub rows: usize,
     pub part: usize,
@@ -33,27 +38,25 @@ pub struct Shape {
     pub column_words: usize,
     pub nodes: u64,
     pub visits: u64,
-    pub half: bool,
+    pub rooms: Rooms,
 }
 
-fn refused(no: u64) -> Shape {
-    Shape {
-        no: no,
-        instances: 0,
-        copied: 0,
-        of: [0; MAX_POLYS],
-        lookups: 0,
-        groups: 0,
-        sizes: [0; 8],
-        polys: 0,
-        user: 0,
-        rows: 0,
-        part: 0,
-        parts: 0,
-        column_words: 0,
-        nodes: 0,
-        visits: 0,
-        half: true,
+impl Shape {
+    // Both cuts of the copied columns.
+    pub fn cuts(&self) -> Cuts {
+        Cuts {
+            copied: self.copied,
+            part: self.part,
+            parts: self.parts,
+        }
+    }
+}
+
+fn rooms_of(told: Sizes) -> Rooms {
+    if told.column_words <= HALF && told.nodes <= HALF_NODES {
+        Rooms::Half
+    } else {
+        Rooms::Whole
     }
 }
 
@@ -66,14 +69,12 @@ fn accepted(circuit: &[u64], count: usize, of: [u64; MAX_POLYS], told: Sizes) ->
     let mut sizes = [0; 8];
     sizes[..grouped.len()].copy_from_slice(grouped.as_slice());
     Shape {
-        no: 0,
         instances: instances as usize,
         copied: count,
         of: of,
         lookups: params.num_lookups,
         groups: grouped.len(),
         sizes: sizes,
-        polys: params.num_poly,
         user: params.num_challenges,
         rows: params.rows,
         part: params.chunk_size,
@@ -81,17 +82,18 @@ fn accepted(circuit: &[u64], count: usize, of: [u64; MAX_POLYS], told: Sizes) ->
         column_words: told.column_words,
         nodes: told.nodes as u64,
         visits: told.visits as u64,
-        half: (told.column_words <= HALF) & (told.nodes <= HALF_NODES),
+        rooms: rooms_of(told),
     }
 }
 
-pub fn shape_of(circuit: &[u64]) -> Shape {
+// What circuit words ask for; the number of the first question answered no for refused ones.
+pub fn shape_of(circuit: &[u64]) -> Result<Shape, u64> {
     let told = sizes(circuit);
     if told.number != 0 {
-        return refused(told.number);
+        return Err(told.number);
     }
     let copied = copied_of(circuit);
     let mut of = [0; MAX_POLYS];
     of[..copied.len()].copy_from_slice(copied.as_slice());
-    accepted(circuit, copied.len(), of, told)
+    Ok(accepted(circuit, copied.len(), of, told))
 }

@@ -1,77 +1,66 @@
 // The columns and the nodes that a build wrote, as a file.
 use crate::files::{unwritten, write_words};
+use crate::output::Built;
 use crate::shape::Shape;
-use backend::MAX_POLYS;
 use std::io;
 use std::io::Write;
 
-// A text, a number and the line's end.
-fn title(to: &mut impl Write, name: &[u8], n: u64) -> io::Result<()> {
-    to.write_all(name)?;
-    writeln!(to, "{n}")
-}
-
 // Which column it is, of those of the lookups and z: compressed input and table per lookup, m and h per group, z.
 fn lookup_title(to: &mut impl Write, c: usize, lookups: usize, groups: usize) -> io::Result<()> {
-    if c / 2 < lookups {
+    let lookup = c / 2;
+    if lookup < lookups {
         if c % 2 == 0 {
-            return title(to, b"# compressed input of lookup ", (c / 2) as u64);
+            return writeln!(to, "# compressed input of lookup {lookup}");
         }
-        return title(to, b"# compressed table of lookup ", (c / 2) as u64);
+        return writeln!(to, "# compressed table of lookup {lookup}");
     }
     let m = c - lookups - lookups;
     if m < groups {
-        return title(to, b"# m of group ", m as u64);
+        return writeln!(to, "# m of group {m}");
     }
     let h = m - groups;
     if h < groups {
-        return title(to, b"# h of group ", h as u64);
+        return writeln!(to, "# h of group {h}");
     }
-    title(to, b"# z column ", (h - groups) as u64)
+    let z = h - groups;
+    writeln!(to, "# z column {z}")
 }
 
 // Which column it is: instance, permutation, then the others.
-fn column_title(to: &mut impl Write, c: usize, s: Shape) -> io::Result<()> {
+fn column_title(to: &mut impl Write, c: usize, s: &Shape) -> io::Result<()> {
     if c < s.instances {
-        return title(to, b"# instance column ", c as u64);
+        return writeln!(to, "# instance column {c}");
     }
     let p = c - s.instances;
-    if p < s.copied {
-        let of = s.of;
-        if p < MAX_POLYS {
-            return title(to, b"# permutation column of polynomial ", of[p]);
-        }
-        return Err(unwritten());
+    if p >= s.copied {
+        return lookup_title(to, p - s.copied, s.lookups, s.groups);
     }
-    lookup_title(to, p - s.copied, s.lookups, s.groups)
+    let Some(polynomial) = s.of.get(p) else {
+        return Err(unwritten());
+    };
+    writeln!(to, "# permutation column of polynomial {polynomial}")
 }
 
 // Writes each column with its title.
-fn write_columns(to: &mut impl Write, columns: &[u64], s: Shape) -> io::Result<()> {
-    let rows = s.rows;
-    let mut left = s.column_words;
-    let mut at: usize = 0;
-    let mut c: usize = 0;
-    while left > 0 {
-        if rows == 0 {
-            return Err(unwritten());
-        }
-        if left < rows {
-            return Err(unwritten());
-        }
+fn write_columns(to: &mut impl Write, columns: &[u64], s: &Shape) -> io::Result<()> {
+    if s.rows == 0 || columns.len() < s.column_words {
+        return Err(unwritten());
+    }
+    for (c, column) in columns[..s.column_words].chunks(s.rows).enumerate() {
         column_title(to, c, s)?;
-        write_words(to, columns, at, rows, 8)?;
-        at = std::num::wrapping_add_usize(at, rows);
-        c = std::num::wrapping_add_usize(c, 1);
-        left -= rows;
+        write_words(to, column, 8)?;
     }
     Ok(())
 }
 
 // Writes the columns and then the nodes, each under a comment line; an error where not all of it was written.
-pub fn write_out(to: &mut impl Write, columns: &[u64], nodes: &[u64], s: Shape) -> io::Result<()> {
-    title(to, b"# columns, words to each: ", s.rows as u64)?;
-    write_columns(to, columns, s)?;
-    title(to, b"# nodes (kind first second value): ", s.nodes)?;
-    write_words(to, nodes, 0, (s.nodes << 2) as usize, 4)
+pub fn write_out(to: &mut impl Write, built: &Built) -> io::Result<()> {
+    let s = &built.shape;
+    writeln!(to, "# columns, words to each: {}", s.rows)?;
+    write_columns(to, built.columns, s)?;
+    writeln!(to, "# nodes (kind first second value): {}", s.nodes)?;
+    match built.nodes.get(..(s.nodes << 2) as usize) {
+        Some(nodes) => write_words(to, nodes, 4),
+        None => Err(unwritten()),
+    }
 }

@@ -3,5 +3,6 @@
 
 pub mod files;
 mod lines;
+mod parts;
 pub mod say;
 mod token;

@@ -1,128 +1,111 @@
 // The token of a text that is no word: found by reading the text once more, and shown.
-use crate::say;
-use decimal::{Scan, take_bytes};
+use crate::parts::find_in;
+use arrayvec::ArrayVec;
+use decimal::{Fault, Scan, Stands, start, take_bytes};
 use std::io;
-use std::io::Stderr;
+use std::io::{Print, Read, Stderr};
 
 // How many bytes of a token are shown.
 const SHOWN: usize = 40;
 
-// A Scan stands in a number.
-const NUMBER: u64 = 1;
+// One more than are shown.
+const KEPT: usize = 41;
 
-// How far the reading has come, how many bytes the token has, and whether it goes on.
-#[derive(Clone, Copy)]
-pub struct Look {
-    pub scan: Scan,
-    pub count: usize,
-    pub more: bool,
-}
+// The first bytes of a token.
+type Token = ArrayVec<u8, KEPT>;
 
 // Is the byte one that ends a token: white space, or a comment's begin?
 pub fn ends(byte: u8) -> bool {
-    (byte == b'#') | (byte == b' ') | ((9 <= byte) & (byte <= 13))
+    matches!(byte, b'#' | b' ' | b'\t'..=b'\r')
 }
 
-// Puts a byte at a place, if there is room.
-fn put(kept: &mut [u8], at: usize, byte: u8) {
-    if at >= kept.len() {
-        return;
-    }
-    kept[at] = byte;
+// How far the reading has come, until the token that is no word ends it, and the token that it stands in.
+#[derive(Drop)]
+struct Look {
+    scan: Result<Scan, Fault>,
+    token: Token,
 }
 
-// Keeps a byte of the token.
-fn keep(scan: Scan, count: usize, byte: u8, kept: &mut [u8]) -> Look {
-    put(kept, count, byte);
-    Look {
-        scan: scan,
-        count: std::num::wrapping_add_usize(count, 1),
-        more: true,
-    }
-}
-
-// Takes a byte. Once the reading has stopped the token goes on to its end, or to one byte more than are shown.
-fn look_at(look: Look, byte: u8, kept: &mut [u8], words: &mut [u64]) -> Look {
-    let scan = look.scan;
-    if !scan.more {
-        if ends(byte) | (SHOWN < look.count) {
-            return Look {
-                scan: scan,
-                count: look.count,
-                more: false,
-            };
+impl Look {
+    // Keeps a byte of the token, if it is not past those that are told.
+    fn keep(&mut self, byte: u8) {
+        if !self.token.is_full() {
+            self.token.push(byte);
         }
-        return keep(scan, look.count, byte, kept);
     }
-    let one = [byte];
-    let next = take_bytes(scan, &one, words);
-    if !next.more | (next.stands == NUMBER) {
-        return keep(next, look.count, byte, kept);
+
+    // Takes a byte; answers whether the token is over. Once the reading has ended the token goes on to its end, or to one byte
+    // more than are shown.
+    fn is_over(&mut self, byte: u8, words: &mut [u64]) -> bool {
+        let Ok(scan) = self.scan else {
+            if ends(byte) || self.token.is_full() {
+                return true;
+            }
+            self.keep(byte);
+            return false;
+        };
+        self.scan = take_bytes(scan, &[byte], words);
+        match self.scan {
+            Ok(
+                Scan {
+                    stands: Stands::Between | Stands::Comment,
+                    ..
+                },
+            ) => self.token.clear(),
+            _ => self.keep(byte),
+        }
+        false
     }
-    Look {
-        scan: next,
-        count: 0,
-        more: true,
+
+    // Takes the bytes of a part of the text; answers something once the token is over.
+    fn find(&mut self, bytes: &[u8], words: &mut [u64]) -> Option<()> {
+        for byte in bytes {
+            if self.is_over(*byte, words) {
+                return Some(());
+            }
+        }
+        None
     }
 }
 
-// Takes the bytes of a part of the text.
-pub fn look_on(look: Look, bytes: &[u8], kept: &mut [u8], words: &mut [u64]) -> Look {
-    let mut come = look;
-    let mut i: usize = 0;
-    while i < bytes.len() {
-        if !come.more {
-            return come;
-        }
-        come = look_at(come, bytes[i], kept, words);
-        i += 1;
-    }
-    come
+// The token of an open file that is no word: its first bytes.
+pub fn token_of(file: &mut impl Read, words: &mut [u64]) -> Token {
+    let mut look = Look {
+        scan: Ok(start()),
+        token: Token::new(),
+    };
+    let _ = find_in(file, |part| look.find(part, words));
+    look.token
 }
 
 // Shows a byte: as it is where that can be seen and is no quote or backslash, else by its number.
 fn show_byte(to: Stderr, byte: u8) -> io::Result<()> {
-    let plain = (33 <= byte) & (byte <= 126) & (byte != b'"') & (byte != 92);
-    if plain {
-        let one = [byte];
-        return say::error(to, &one);
+    if byte.is_ascii_graphic() && byte != b'"' && byte != b'\\' {
+        return Print::write_all(&to, &[byte]);
     }
     print!(to; "\\x{byte:02x}")
 }
 
-// Shows the first bytes.
-fn show_bytes(to: Stderr, kept: &[u8; 40], count: usize) -> io::Result<()> {
-    let mut i: usize = 0;
-    while i < 40 {
-        if i < count {
-            show_byte(to, kept[i])?;
-        }
-        i += 1;
-    }
-    Ok(())
-}
-
 // Says what the first bytes are, where they are a mark that editors put before a text.
-fn mark(to: Stderr, kept: &[u8; 40]) -> io::Result<()> {
-    if (kept[0] == 239) & (kept[1] == 187) & (kept[2] == 191) {
-        say::error(to, b" (a byte-order mark: save the file without it)")?;
+fn mark(to: Stderr, token: &[u8]) -> io::Result<()> {
+    if token.starts_with(&[0xef, 0xbb, 0xbf]) {
+        print!(to; " (a byte-order mark: save the file without it)")?;
     }
-    if ((kept[0] == 255) & (kept[1] == 254)) | ((kept[0] == 254) & (kept[1] == 255)) {
-        say::error(
-            to,
-            b" (a byte-order mark of UTF-16: save the file as plain text)",
-        )?;
+    if token.starts_with(&[0xff, 0xfe]) || token.starts_with(&[0xfe, 0xff]) {
+        print!(to; " (a byte-order mark of UTF-16: save the file as plain text)")?;
     }
     Ok(())
 }
 
 // Shows the token in quotes.
-pub fn show(to: Stderr, kept: &[u8; 40], count: usize) -> io::Result<()> {
-    say::error(to, b": \"")?;
-    show_bytes(to, kept, count)?;
-    say::error(to, b"\"")?;
-    if SHOWN < count {
-        say::error(to, b"...")?;
+pub fn show(to: Stderr, token: &[u8]) -> io::Result<()> {
+    print!(to; ": \"")?;
+    for byte in token.iter().take(SHOWN) {
+        show_byte(to, *byte)?;
     }
-    mark(to, kept)
+    print!(to; "\"")?;
+    if token.len() > SHOWN {
+        print!(to; "...")?;
+    }
+    mark(to, token)
 }

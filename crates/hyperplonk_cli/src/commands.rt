@@ -1,153 +1,107 @@
-// build and check over files, of circuit words that were read and accepted. Each function reads one file and hands its words on.
-ghost use Rattle.std.specs.Prelude.{◌≤◌, length};
-
+// build and check over files, of circuit words that were read and accepted.
 use crate::Host;
 use crate::found::tell;
+use cli_messages::question;
 use cli_messages::values::{Needed, build_values, sum_values};
-use cli_messages::{question, say};
-use cli_report::cuts::cuts_of;
 use cli_report::output;
+use cli_report::output::Built;
 use cli_report::shape::Shape;
 use cli_report::verdict::{notes, verdict};
 use cli_texts::files::read;
 use std::io;
 use std::rt::{Env, Files};
 
-// Writes what was built to the file that argument 6 names.
-fn keep<'a>(
-    rt: &(impl Files + Env),
-    host: Host,
+// The words that build is lent.
+#[derive(Clone, Copy)]
+pub struct Log<'a> {
+    pub circuit: &'a [u64],
+    pub instance: &'a [u64],
+    pub witness: &'a [u64],
+    pub challenges: &'a [u64],
+}
+
+// The words that check is lent.
+#[derive(Clone, Copy)]
+struct Sum<'a> {
+    circuit: &'a [u64],
+    witness: &'a [u64],
     columns: &'a [u64],
     nodes: &'a [u64],
-    s: Shape,
-) -> io::Result<()> {
-    let out = host.out;
-    say::out(out, b"writing\n")?;
-    if !output::write(rt, host.process, host.err, 6, columns, nodes, s)? {
+    challenges: &'a [u64],
+    y: &'a [u64],
+}
+
+// The rooms that build reads the log into, and writes into.
+#[derive(Drop)]
+pub struct BuildRooms<'a> {
+    pub instance: &'a mut [u64],
+    pub witness: &'a mut [u64],
+    pub columns: &'a mut [u64],
+    pub nodes: &'a mut [u64],
+}
+
+// Writes what was built to the file that argument 6 names.
+fn keep(rt: &(impl Files + Env), host: Host, built: &Built) -> io::Result<()> {
+    let s = &built.shape;
+    println!(host.out; "writing")?;
+    if !output::write(rt, host.process, host.err, 6, built)? {
         return Ok(());
     }
-    say::out(out, b"built: column words ")?;
-    say::number(out, s.column_words as u64)?;
-    say::out(out, b", nodes ")?;
-    say::number(out, s.nodes)?;
-    say::line(out, b", z columns ", s.parts as u64)
+    println!(host.out;
+        "built: column words {}, nodes {}, z columns {}",
+        s.column_words, s.nodes, s.parts
+    )
 }
 
 // Says what was refused.
-fn refused<'a>(
+fn refused(
     rt: &(impl Files + Env),
     host: Host,
-    circuit: &'a [u64],
-    instance: &[u64],
-    witness: &'a [u64],
-    challenges: &'a [u64],
-    user: usize,
+    log: &Log,
+    s: Shape,
+    columns: &mut [u64],
     number: u64,
 ) -> io::Result<()> {
     question::answered_no(host.err, number)?;
     build_values(
         rt,
         host.err,
-        circuit,
-        instance,
-        witness,
-        challenges,
-        user as u64,
+        log.circuit,
+        log.instance,
+        log.witness,
+        log.challenges,
+        s.user as u64,
         number,
-    )
+    )?;
+    tell(&host.err, log, columns, number)
 }
 
-fn build_words<'a>(
+fn build_words(
     rt: &(impl Files + Env),
     host: Host,
-    circuit: &'a [u64],
+    log: &Log,
     s: Shape,
-    instance: &[u64],
-    witness: &'a [u64],
-    challenges: &'a [u64],
     columns: &mut [u64],
     nodes: &mut [u64],
 ) -> io::Result<()> {
-    say::out(host.out, b"building\n")?;
-    let built = hyperplonk::build(circuit, instance, witness, challenges, columns, nodes);
+    println!(host.out; "building")?;
+    let built = hyperplonk::build(
+        log.circuit,
+        log.instance,
+        log.witness,
+        log.challenges,
+        columns,
+        nodes,
+    );
     if built.number != 0 {
-        refused(
-            rt,
-            host,
-            circuit,
-            instance,
-            witness,
-            challenges,
-            s.user,
-            built.number,
-        )?;
-        return tell(
-            &host.err,
-            circuit,
-            instance,
-            witness,
-            challenges,
-            columns,
-            built.number,
-        );
+        return refused(rt, host, log, s, columns, built.number);
     }
-    keep(rt, host, columns, nodes, s)
-}
-
-fn build_challenges<'a>(
-    rt: &(impl Files + Env),
-    host: Host,
-    circuit: &'a [u64],
-    s: Shape,
-    instance: &[u64],
-    witness: &'a [u64],
-    columns: &mut [u64],
-    nodes: &mut [u64],
-) -> io::Result<()> {
-    let mut challenges = [0u64; 64];
-    let got = read(rt, host.err, 5, &mut challenges)?;
-    let n = got.count;
-    if got.good {
-        build_words(
-            rt,
-            host,
-            circuit,
-            s,
-            instance,
-            witness,
-            &challenges[0..n],
-            columns,
-            nodes,
-        )?;
-    }
-    Ok(())
-}
-
-fn build_witness(
-    rt: &(impl Files + Env),
-    host: Host,
-    circuit: &[u64],
-    s: Shape,
-    instance: &[u64],
-    witness: &mut [u64],
-    columns: &mut [u64],
-    nodes: &mut [u64],
-) -> io::Result<()> {
-    let got = read(rt, host.err, 4, witness)?;
-    let n = got.count;
-    if got.good {
-        build_challenges(
-            rt,
-            host,
-            circuit,
-            s,
-            instance,
-            &witness[0..n],
-            columns,
-            nodes,
-        )?;
-    }
-    Ok(())
+    let built = Built {
+        columns: columns,
+        nodes: nodes,
+        shape: s,
+    };
+    keep(rt, host, &built)
 }
 
 // build CIRCUIT INSTANCE WITNESS CHALLENGES OUT
@@ -156,57 +110,47 @@ pub fn build(
     host: Host,
     circuit: &[u64],
     s: Shape,
-    instance: &mut [u64],
-    witness: &mut [u64],
-    columns: &mut [u64],
-    nodes: &mut [u64],
+    rooms: BuildRooms,
 ) -> io::Result<()> {
-    let got = read(rt, host.err, 3, instance)?;
-    let n = got.count;
-    if got.good {
-        build_witness(
-            rt,
-            host,
-            circuit,
-            s,
-            &instance[0..n],
-            witness,
-            columns,
-            nodes,
-        )?;
-    }
-    Ok(())
+    let BuildRooms {
+        instance,
+        witness,
+        columns,
+        nodes,
+    } = rooms;
+    let Some(instances) = read(rt, host.err, 3, instance)? else {
+        return Ok(());
+    };
+    let Some(witnesses) = read(rt, host.err, 4, witness)? else {
+        return Ok(());
+    };
+    let mut challenges = [0u64; 64];
+    let Some(n) = read(rt, host.err, 5, &mut challenges)? else {
+        return Ok(());
+    };
+    let log = Log {
+        circuit: circuit,
+        instance: &instance[..instances],
+        witness: &witness[..witnesses],
+        challenges: &challenges[..n],
+    };
+    build_words(rt, host, &log, s, columns, nodes)
 }
 
-// Where the columns end in what was built: after the column words, or at the end.
-fn columns_end(words: usize, built: &[u64]) -> usize
-    ensures { result ≤ length built.now }
-{
-    if words < built.len() {
-        return words;
-    }
-    built.len()
-}
-
-fn check_words<'a>(
-    rt: &(impl Files + Env),
-    host: Host,
-    circuit: &'a [u64],
-    s: Shape,
-    witness: &'a [u64],
-    columns: &'a [u64],
-    nodes: &'a [u64],
-    challenges: &'a [u64],
-    y: &'a [u64],
-) -> io::Result<()> {
-    let out = host.out;
-    say::out(out, b"summing\n")?;
-    let sum = hyperplonk::row_sum(circuit, witness, columns, nodes, challenges, y);
-    say::line(out, b"number ", sum.number)?;
-    say::line(out, b"sum ", sum.sum)?;
+fn check_words(rt: &(impl Files + Env), host: Host, lent: &Sum, s: Shape) -> io::Result<()> {
+    println!(host.out; "summing")?;
+    let sum = hyperplonk::row_sum(
+        lent.circuit,
+        lent.witness,
+        lent.columns,
+        lent.nodes,
+        lent.challenges,
+        lent.y,
+    );
+    println!(host.out; "number {}\nsum {}", sum.number, sum.sum)?;
     if sum.number == 0 {
-        notes(out, challenges, y, s.user)?;
-        return verdict(out, &host.err, sum.sum, cuts_of(s));
+        notes(host.out, lent.challenges, lent.y, s.user)?;
+        return verdict(host.out, &host.err, sum.sum, s.cuts());
     }
     question::answered_no(host.err, sum.number)?;
     let needed = Needed {
@@ -215,84 +159,16 @@ fn check_words<'a>(
         user: s.user,
     };
     sum_values(
-        rt, host.err, circuit, witness, columns, nodes, challenges, y, needed,
-    )
-}
-
-fn check_parts<'a>(
-    rt: &(impl Files + Env),
-    host: Host,
-    circuit: &'a [u64],
-    s: Shape,
-    witness: &'a [u64],
-    built: &'a [u64],
-    challenges: &'a [u64],
-    y: &'a [u64],
-) -> io::Result<()> {
-    let at = columns_end(s.column_words, built);
-    let end = built.len();
-    check_words(
         rt,
-        host,
-        circuit,
-        s,
-        witness,
-        &built[0..at],
-        &built[at..end],
-        challenges,
-        y,
+        host.err,
+        lent.circuit,
+        lent.witness,
+        lent.columns,
+        lent.nodes,
+        lent.challenges,
+        lent.y,
+        needed,
     )
-}
-
-fn check_y<'a>(
-    rt: &(impl Files + Env),
-    host: Host,
-    circuit: &'a [u64],
-    s: Shape,
-    witness: &'a [u64],
-    built: &'a [u64],
-    challenges: &'a [u64],
-) -> io::Result<()> {
-    let mut y = [0u64; 64];
-    let got = read(rt, host.err, 5, &mut y)?;
-    let n = got.count;
-    if got.good {
-        check_parts(rt, host, circuit, s, witness, built, challenges, &y[0..n])?;
-    }
-    Ok(())
-}
-
-fn check_challenges<'a>(
-    rt: &(impl Files + Env),
-    host: Host,
-    circuit: &'a [u64],
-    s: Shape,
-    witness: &'a [u64],
-    built: &'a [u64],
-) -> io::Result<()> {
-    let mut challenges = [0u64; 64];
-    let got = read(rt, host.err, 4, &mut challenges)?;
-    let n = got.count;
-    if got.good {
-        check_y(rt, host, circuit, s, witness, built, &challenges[0..n])?;
-    }
-    Ok(())
-}
-
-fn check_built<'a>(
-    rt: &(impl Files + Env),
-    host: Host,
-    circuit: &'a [u64],
-    s: Shape,
-    witness: &'a [u64],
-    built: &mut [u64],
-) -> io::Result<()> {
-    let got = read(rt, host.err, 6, built)?;
-    let n = got.count;
-    if got.good {
-        check_challenges(rt, host, circuit, s, witness, &built[0..n])?;
-    }
-    Ok(())
 }
 
 // check CIRCUIT WITNESS CHALLENGES Y OUT
@@ -304,10 +180,28 @@ pub fn check(
     witness: &mut [u64],
     built: &mut [u64],
 ) -> io::Result<()> {
-    let got = read(rt, host.err, 3, witness)?;
-    let n = got.count;
-    if got.good {
-        check_built(rt, host, circuit, s, &witness[0..n], built)?;
-    }
-    Ok(())
+    let Some(witnesses) = read(rt, host.err, 3, witness)? else {
+        return Ok(());
+    };
+    let Some(builts) = read(rt, host.err, 6, built)? else {
+        return Ok(());
+    };
+    let mut challenges = [0u64; 64];
+    let Some(n) = read(rt, host.err, 4, &mut challenges)? else {
+        return Ok(());
+    };
+    let mut y = [0u64; 64];
+    let Some(k) = read(rt, host.err, 5, &mut y)? else {
+        return Ok(());
+    };
+    let (columns, nodes) = built[..builts].split_at(s.column_words.min(builts));
+    let lent = Sum {
+        circuit: circuit,
+        witness: &witness[..witnesses],
+        columns: columns,
+        nodes: nodes,
+        challenges: &challenges[..n],
+        y: &y[..k],
+    };
+    check_words(rt, host, &lent, s)
 }

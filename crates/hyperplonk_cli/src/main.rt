@@ -9,7 +9,7 @@ mod found;
 mod rooms;
 mod usage;
 
-use rooms::{BUILD, CHECK, EXPLAIN, REGROUP, over_files};
+use rooms::{Task, over_files};
 use std::env::FillError;
 use std::io;
 use std::io::{Stderr, Stdout};
@@ -25,53 +25,35 @@ pub struct Host {
     pub err: Stderr,
 }
 
-// What is no command over files.
-const HELP: u64 = 5;
-
-const VERSION: u64 = 6;
-
-const UNKNOWN: u64 = 0;
-
-// Are these the same bytes?
-fn same(a: &[u8], b: &[u8]) -> bool {
-    a == b
+// What the program is asked for.
+#[derive(Clone, Copy, PartialEq, Eq)]
+enum Command {
+    Help,
+    Version,
+    Files(Task),
 }
 
-fn is_help(name: &[u8]) -> bool {
-    same(name, b"--help") | same(name, b"-h") | same(name, b"help")
-}
+impl Command {
+    // The command of this name.
+    fn of(name: &[u8]) -> Option<Command> {
+        match name {
+            b"explain" => Some(Command::Files(Task::Explain)),
+            b"build" => Some(Command::Files(Task::Build)),
+            b"check" => Some(Command::Files(Task::Check)),
+            b"regroup" => Some(Command::Files(Task::Regroup)),
+            b"--version" => Some(Command::Version),
+            b"--help" | b"-h" | b"help" => Some(Command::Help),
+            _ => None,
+        }
+    }
 
-// The command of this name.
-fn command_of(name: &[u8]) -> u64 {
-    if same(name, b"explain") {
-        return EXPLAIN;
-    }
-    if same(name, b"build") {
-        return BUILD;
-    }
-    if same(name, b"check") {
-        return CHECK;
-    }
-    if same(name, b"regroup") {
-        return REGROUP;
-    }
-    if same(name, b"--version") {
-        return VERSION;
-    }
-    if is_help(name) {
-        return HELP;
-    }
-    UNKNOWN
-}
-
-// How many arguments a command takes.
-fn wanted(command: u64) -> usize {
-    match command {
-        EXPLAIN => 1,
-        BUILD => 5,
-        CHECK => 5,
-        REGROUP => 1,
-        _ => 0,
+    // How many arguments it takes.
+    fn wanted(self) -> usize {
+        match self {
+            Command::Files(Task::Build | Task::Check) => 5,
+            Command::Files(Task::Explain | Task::Regroup) => 1,
+            Command::Help | Command::Version => 0,
+        }
     }
 }
 
@@ -90,27 +72,27 @@ fn arguments(rt: &impl Env) -> usize {
 fn asks_help(rt: &impl Env) -> bool {
     let mut name = [0u8; 8];
     match rt.arg(2, &mut name) {
-        Ok(n) => same(&name[..n], b"--help") | same(&name[..n], b"-h"),
+        Ok(n) => matches!(&name[..n], b"--help" | b"-h"),
         Err(_) => false,
     }
 }
 
 // Runs the command of this name, which so many arguments follow.
 fn run(rt: &(impl Files + Env), host: Host, name: &[u8], given: usize) -> io::Result<()> {
-    let command = command_of(name);
-    if command == UNKNOWN {
+    let Some(command) = Command::of(name) else {
         return usage::unknown(host.err, name);
-    }
-    if (command == HELP) | asks_help(rt) {
+    };
+    if command == Command::Help || asks_help(rt) {
         return usage::help(host.out);
     }
-    if given != wanted(command) {
-        return usage::miscounted(host.err, name, given, wanted(command));
+    if given != command.wanted() {
+        return usage::miscounted(host.err, name, given, command.wanted());
     }
-    if command == VERSION {
-        return usage::version(host.out);
+    match command {
+        Command::Files(task) => over_files(rt, host, task),
+        Command::Version => usage::version(host.out),
+        Command::Help => usage::help(host.out),
     }
-    over_files(rt, host, command)
 }
 
 fn main(rt: HostRuntime) -> io::Result<()> {

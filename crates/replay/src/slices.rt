@@ -1,92 +1,65 @@
-// Slices among the words of a block, each with its length first.
+// The words of a block, and its slices, each with its length first.
 ghost use Rattle.std.specs.Prelude.{◌≤◌, length};
 
-// The words of a slice, from `start` to `end`, without the length that stands before them.
+use crate::text::LINES;
+
+// The words of a block, and where its lines start among them.
 #[derive(Clone, Copy)]
-pub struct Part {
-    pub start: usize,
-    pub end: usize,
+pub struct Block<'a> {
+    pub words: &'a [u64],
+    pub starts: [usize; LINES],
 }
 
-// The slice at a place. Empty where the words end before it.
-pub fn part_at(words: &[u64], at: usize) -> Part
-    ensures { (result.start ≤ result.end) × (result.end ≤ length words.now) }
-{
-    if at >= words.len() {
-        return Part { start: 0, end: 0 };
-    }
-    let n = words[at];
-    let left = words.len() - at - 1;
-    if n > left as u64 {
-        return Part { start: 0, end: 0 };
-    }
-    Part {
-        start: at + 1,
-        end: at + 1 + n as usize,
+// The slice at the front of words that have its length first. Empty where the words end before it.
+fn first_slice(words: &[u64]) -> &[u64] {
+    match words.split_first() {
+        Some((count, rest)) => rest.get(..*count as usize).unwrap_or(&[]),
+        None => words,
     }
 }
 
-// The words of the slice at a place.
-pub fn slice_at<'a>(words: &'a [u64], at: usize) -> &'a [u64] {
-    let part = part_at(words, at);
-    let start = part.start;
-    let end = part.end;
-    &words[start..end]
+impl<'a> Block<'a> {
+    // The slice of a line.
+    pub fn slice(&self, line: usize) -> &'a [u64] {
+        match self.starts.get(line) {
+            Some(start) => first_slice(self.words.get(*start..).unwrap_or(&[])),
+            None => &[],
+        }
+    }
+
+    // The number in a line, a slice of one word.
+    pub fn number(&self, line: usize) -> u64 {
+        word(self.slice(line), 0)
+    }
 }
 
 // A word of a slice, 0 past the last.
 pub fn word(slice: &[u64], i: usize) -> u64 {
-    if i < slice.len() {
-        return slice[i];
-    }
-    0
-}
-
-// The number at a place, a slice of one word.
-pub fn number_at(words: &[u64], at: usize) -> u64 {
-    word(slice_at(words, at), 0)
+    slice.get(i).copied().unwrap_or(0)
 }
 
 // Have two slices the same length, and the same words after the first `skip`?
 pub fn kept(before: &[u64], after: &[u64], skip: u64) -> bool {
-    if before.len() != after.len() {
-        return false;
-    }
-    let mut i: usize = 0;
-    while i < after.len() {
-        if (skip <= i as u64) & (word(before, i) != after[i]) {
-            return false;
-        }
-        i += 1;
-    }
-    true
+    before.len() == after.len()
+        && before
+            .iter()
+            .zip(after)
+            .skip(skip as usize)
+            .all(|(old, new)| *old == *new)
 }
 
 // Have two slices the same length, and is each word of the second 0 or that of the first?
 pub fn zeroed(before: &[u64], after: &[u64]) -> bool {
-    if before.len() != after.len() {
-        return false;
-    }
-    let mut i: usize = 0;
-    while i < after.len() {
-        if (after[i] != 0) & (word(before, i) != after[i]) {
-            return false;
-        }
-        i += 1;
-    }
-    true
+    before.len() == after.len()
+        && before
+            .iter()
+            .zip(after)
+            .all(|(old, new)| *new == 0 || *old == *new)
 }
 
 // Are all words of a slice but the first 0?
 pub fn number_then_zeros(slice: &[u64]) -> bool {
-    let mut i: usize = 1;
-    while i < slice.len() {
-        if slice[i] != 0 {
-            return false;
-        }
-        i += 1;
-    }
-    true
+    slice.iter().skip(1).all(|word| *word == 0)
 }
 
 // Copies a slice to the front of a buffer, and answers its length; 0 where it does not fit.
@@ -97,10 +70,6 @@ pub fn fill(slice: &[u64], room: &mut [u64]) -> usize
     if n > room.len() {
         return 0;
     }
-    let mut i: usize = 0;
-    while i < n {
-        room[i] = slice[i];
-        i += 1;
-    }
+    room[..n].copy_from_slice(slice);
     n
 }

@@ -1,113 +1,42 @@
 // The text of stored answers: lines and blocks.
 
-// A line of words, and where it left off in the text and in the words.
-#[derive(Clone, Copy)]
-pub struct Line {
-    pub next: usize,
-    pub end: usize,
-    pub good: bool,
-}
+// How many lines of words a block has at most.
+pub const LINES: usize = 9;
 
-pub fn bad_line() -> Line {
-    Line {
-        next: 0,
-        end: 0,
-        good: false,
+// The first line of a text, with its end, and what follows.
+pub fn first_line(text: &[u8]) -> (&[u8], &[u8]) {
+    match text.iter().position(|byte| *byte == b'\n') {
+        Some(end) => text.split_at(end + 1),
+        None => text.split_at(text.len()),
     }
 }
 
-// Reads the words of the line at a place into the words from a place on.
-pub fn read_line(text: &[u8], at: usize, words: &mut [u64], from: usize) -> Line {
-    let next = after_line(text, at);
-    if next < at {
-        return bad_line();
+// Reads the words of a line to the front of the words, their number first, as the line has it; answers how many there are in all,
+// if it is so.
+fn read_line(line: &[u8], words: &mut [u64]) -> Option<usize> {
+    let count = decimal::read(line, words).ok()?;
+    let number = *words.first()?;
+    if number.checked_add(1) != Some(count as u64) {
+        return None;
     }
-    if next > text.len() {
-        return bad_line();
-    }
-    if from > words.len() {
-        return bad_line();
-    }
-    let read = decimal::read(&text[at..next], &mut words[from..]);
-    if read.wrong != decimal::NOTHING {
-        return bad_line();
-    }
-    Line {
-        next: next,
-        end: std::num::wrapping_add_usize(from, read.count),
-        good: true,
-    }
+    Some(count)
 }
 
-// Reads the lines of a block: the words of line j stand from starts[j] on, their number first, as the line has it.
-pub fn read_block(
-    text: &[u8],
-    at: usize,
+// Reads the lines of a block: the words of line j stand from starts[j] on, their number first; answers what follows the block.
+pub fn read_block<'a>(
+    text: &'a [u8],
     lines: usize,
     words: &mut [u64],
-    starts: &mut [usize; 9],
-) -> Line {
-    let mut i = at;
+    starts: &mut [usize; LINES],
+) -> Option<&'a [u8]> {
+    let mut rest = text;
     let mut from: usize = 0;
-    let mut j: usize = 0;
-    while j < lines {
-        let read = read_line(text, i, words, from);
-        let end = read.end;
-        if !read.good {
-            return bad_line();
-        }
-        if end <= from {
-            return bad_line();
-        }
-        if end > words.len() {
-            return bad_line();
-        }
-        if words[from] != (end - from - 1) as u64 {
-            return bad_line();
-        }
-        if j >= 9 {
-            return bad_line();
-        }
-        starts[j] = from;
-        from = end;
-        i = read.next;
-        j += 1;
+    for start in starts.iter_mut().take(lines) {
+        let (line, after) = first_line(rest);
+        let count = read_line(line, words.get_mut(from..)?)?;
+        *start = from;
+        from = from.checked_add(count)?;
+        rest = after;
     }
-    Line {
-        next: i,
-        end: from,
-        good: true,
-    }
-}
-
-// Does the text have this line at a place?
-pub fn is_line(text: &[u8], at: usize, name: &[u8]) -> bool {
-    let mut i = at;
-    let mut j: usize = 0;
-    while j < name.len() {
-        if i >= text.len() {
-            return false;
-        }
-        if text[i] != name[j] {
-            return false;
-        }
-        i += 1;
-        j += 1;
-    }
-    if i >= text.len() {
-        return false;
-    }
-    text[i] == b'\n'
-}
-
-// The place after the next line end.
-pub fn after_line(text: &[u8], at: usize) -> usize {
-    let mut i = at;
-    while i < text.len() {
-        if text[i] == b'\n' {
-            return i + 1;
-        }
-        i += 1;
-    }
-    i
+    Some(rest)
 }
