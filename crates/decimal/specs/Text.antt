@@ -2,6 +2,8 @@
 -- space; a token is a decimal number below 2 ^ 64. Bytes are numbers.
 use Rattle.std.specs.Prelude.{ℕ, ◌+◌, ◌-◌, ◌*◌, ◌%◌, ◌^◌, Bool, true, false, cond, not, ◌||◌, List, [], ◌∷◌, ◌++◌, map, length, ◌==◌, nat_lt}
 use Rattle.lists.specs.Lists.{all_of, filter, within}
+use Rattle.decimal.specs.declared.Wrong.{Wrong}
+use Rattle.decimal.specs.declared.Wrong.TheVariants.{NoNumber, TooLarge, TooMany}
 
 -- ---- bytes
 
@@ -59,14 +61,14 @@ is_token (b ∷ t) = true
 -- ---- words
 
 -- what is wrong with a text
-abbrev pub no_number : ℕ
-no_number = 1
+abbrev pub no_number : Wrong
+no_number = NoNumber
 
-abbrev pub too_large : ℕ
-too_large = 2
+abbrev pub too_large : Wrong
+too_large = TooLarge
 
-abbrev pub too_many : ℕ
-too_many = 3
+abbrev pub too_many : Wrong
+too_many = TooMany
 
 -- the number that v and digits after it make
 unfoldable pub number : ℕ → List ℕ → ℕ
@@ -76,7 +78,7 @@ number v (d ∷ ds) = number (v * 10 + (d - 48)) ds
 -- a token's number, or what is wrong with it
 pub data Word : Type 0 where
   word : ℕ → Word
-  wrong : ℕ → Word
+  wrong : Wrong → Word
 
 -- the word that v and a token after it make: the digits that it begins with pass 64 bits, or another byte follows them, or it is a number
 unfoldable pub word_after : ℕ → List ℕ → Word
@@ -107,7 +109,7 @@ in_lines n (l ∷ ls) = placed_at n (line_words (every (pieces l))) ++ in_lines 
 -- the words that a text says, or what is wrong with it first, and in which line
 pub data Said : Type 0 where
   words : List ℕ → Said
-  fault : ℕ → ℕ → Said
+  fault : Wrong → ℕ → Said
 
 -- words put after those there are, while there is room
 unfoldable pub kept_words : ℕ → List ℕ → List LineWord → Said

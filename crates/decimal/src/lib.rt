@@ -6,32 +6,35 @@ ghost use Rattle.std.specs.Prelude.{◌≡◌, ℕ, true, false, List, [], ◌�
 ghost use Rattle.decimal.specs.Text.{is_blank, is_digit, says};
 ghost use Rattle.decimal.specs.Reading.{in_comment, value_begun, heard, ahead, Takes, Stopped, Ended};
 
-// What is wrong with a text; the program that reads it may have numbers from 4 on of its own.
-pub const NOTHING: u64 = 0;
+// What is wrong with a text.
+#[derive(Clone, Copy, PartialEq, Eq, Debug)]
+pub enum Wrong {
+    NoNumber,
+    TooLarge,
+    TooMany,
+}
 
-pub const NO_NUMBER: u64 = 1;
+// What is wrong with a text first, and in which line.
+#[derive(Clone, Copy, PartialEq, Eq, Debug)]
+pub struct Fault {
+    pub wrong: Wrong,
+    pub line: u64,
+}
 
-pub const TOO_LARGE: u64 = 2;
+// Where the next byte stands: between numbers, in a number with the value so far, in a comment.
+#[derive(Clone, Copy, PartialEq, Eq, Debug)]
+pub enum Stands {
+    Between,
+    Number(u64),
+    Comment,
+}
 
-pub const TOO_MANY: u64 = 3;
-
-// Where the next byte stands: between numbers, in a number, in a comment.
-const BETWEEN: u64 = 0;
-
-const NUMBER: u64 = 1;
-
-const COMMENT: u64 = 2;
-
-// How far the reading has come: the words so far, the number begun, where the next byte stands, its line, what is wrong, and
-// whether to go on.
-#[derive(Clone, Copy)]
+// How far the reading has come: the words so far, where the next byte stands, and its line.
+#[derive(Clone, Copy, PartialEq, Eq, Debug)]
 pub struct Scan {
     pub count: usize,
-    pub value: u64,
-    pub stands: u64,
+    pub stands: Stands,
     pub line: u64,
-    pub wrong: u64,
-    pub more: bool,
 }
 
 // A reading that has taken nothing.
@@ -40,151 +43,123 @@ pub fn start() -> Scan
 {
     Scan {
         count: 0,
-        value: 0,
-        stands: BETWEEN,
+        stands: Stands::Between,
         line: 1,
-        wrong: NOTHING,
-        more: true,
     }
 }
 
-// The reading ended, by what is wrong or by NOTHING.
-pub fn stop(scan: Scan, wrong: u64) -> Scan
+// The reading ended by what is wrong.
+pub fn stop(scan: Scan, wrong: Wrong) -> Result<Scan, Fault>
     ensures { Stopped scan wrong result }
 {
-    Scan {
-        count: scan.count,
-        value: 0,
-        stands: BETWEEN,
-        line: scan.line,
+    let fault = Fault {
         wrong: wrong,
-        more: false,
-    }
+        line: scan.line,
+    };
+    Err(fault)
 }
 
 // Keeps the number begun, if one is, and stands so in this line.
-fn end_number(scan: Scan, words: &mut [u64], stands: u64, line: u64) -> Scan
-    requires { scan.more ≡ true }
+fn end_number(scan: Scan, words: &mut [u64], stands: Stands, line: u64) -> Result<Scan, Fault>
     ensures { Ended scan words.old stands line result words.new }
 {
     let mut count = scan.count;
-    if scan.stands == NUMBER {
+    if let Stands::Number(value) = scan.stands {
         if count >= words.len() {
-            return stop(scan, TOO_MANY);
+            return stop(scan, Wrong::TooMany);
         }
-        words[count] = scan.value;
+        words[count] = value;
         count += 1;
     }
-    Scan {
+    Ok(Scan {
         count: count,
-        value: 0,
         stands: stands,
         line: line,
-        wrong: NOTHING,
-        more: true,
-    }
-}
-
-fn is_blank(byte: u8) -> bool
-    ensures { result ≡ is_blank byte }
-{
-    (byte == b' ') | (byte == 9) | ((11 <= byte) & (byte <= 13))
-}
-
-fn is_digit(byte: u8) -> bool
-    ensures { result ≡ is_digit byte }
-{
-    (b'0' <= byte) & (byte <= b'9')
+    })
 }
 
 // The number begun, 0 where none is.
 fn value_begun(scan: Scan) -> u64
     ensures { result ≡ value_begun scan }
 {
-    if scan.stands == NUMBER {
-        return scan.value;
+    match scan.stands {
+        Stands::Number(value) => value,
+        Stands::Between | Stands::Comment => 0,
     }
-    0
 }
 
 // Takes a digit.
-fn take_digit(scan: Scan, byte: u8) -> Scan
-    requires { (scan.more ≡ true) × (in_comment scan ≡ false) × (is_digit byte ≡ true) }
+fn take_digit(scan: Scan, byte: u8) -> Result<Scan, Fault>
+    requires comment { in_comment scan ≡ false }
+    requires digit { is_digit byte ≡ true }
     ensures { (ws : List ℕ) → Takes scan ws (byte ∷ []) result ws }
 {
-    let digit = (byte - b'0') as u64;
-    let value = value_begun(scan);
-    if value > (18446744073709551615 - digit) / 10 {
-        return stop(scan, TOO_LARGE);
-    }
-    Scan {
+    let digit = u64::from(byte - b'0');
+    let Some(tens) = value_begun(scan).checked_mul(10) else {
+        return stop(scan, Wrong::TooLarge);
+    };
+    let Some(value) = tens.checked_add(digit) else {
+        return stop(scan, Wrong::TooLarge);
+    };
+    Ok(Scan {
         count: scan.count,
-        value: value * 10 + digit,
-        stands: NUMBER,
+        stands: Stands::Number(value),
         line: scan.line,
-        wrong: NOTHING,
-        more: true,
-    }
+    })
+}
+
+// White space other than newline.
+fn is_blank(byte: u8) -> bool
+    ensures { result ≡ is_blank byte }
+{
+    matches!(byte, b' ' | b'\t' | 0x0b..=b'\r')
 }
 
 // Takes one byte.
-fn take_byte(scan: Scan, byte: u8, words: &mut [u64]) -> Scan
-    requires { scan.more ≡ true }
+fn take_byte(scan: Scan, byte: u8, words: &mut [u64]) -> Result<Scan, Fault>
     ensures { Takes scan words.old (byte ∷ []) result words.new }
 {
     if byte == b'\n' {
-        let next = std::num::wrapping_add_u64(scan.line, 1);
-        return end_number(scan, words, BETWEEN, next);
+        return end_number(scan, words, Stands::Between, scan.line.wrapping_add(1));
     }
-    if scan.stands == COMMENT {
-        return scan;
+    if scan.stands == Stands::Comment {
+        return Ok(scan);
     }
     if byte == b'#' {
-        return end_number(scan, words, COMMENT, scan.line);
+        return end_number(scan, words, Stands::Comment, scan.line);
     }
     if is_blank(byte) {
-        return end_number(scan, words, BETWEEN, scan.line);
+        return end_number(scan, words, Stands::Between, scan.line);
     }
-    if is_digit(byte) {
+    if byte.is_ascii_digit() {
         return take_digit(scan, byte);
     }
-    stop(scan, NO_NUMBER)
+    stop(scan, Wrong::NoNumber)
 }
 
 // Takes the bytes of a part of the text, up to the first that is wrong.
-pub fn take_bytes(scan: Scan, bytes: &[u8], words: &mut [u64]) -> Scan
+pub fn take_bytes(scan: Scan, bytes: &[u8], words: &mut [u64]) -> Result<Scan, Fault>
     ensures { Takes scan words.old bytes.now result words.new }
 {
     let mut come = scan;
-    let mut i: usize = 0;
-    while i < bytes.len() {
-        if !come.more {
-            return come;
-        }
-        come = take_byte(come, bytes[i], words);
-        i += 1;
+    for byte in bytes {
+        come = take_byte(come, *byte, words)?;
     }
-    come
+    Ok(come)
 }
 
-// Takes the end of the text.
-pub fn take_end(scan: Scan, words: &mut [u64]) -> Scan
+// Takes the end of the text, and answers how many words it has.
+pub fn take_end(scan: Scan, words: &mut [u64]) -> Result<usize, Fault>
     ensures { heard result words.new ≡ ahead scan words.old [] }
 {
-    if !scan.more {
-        return scan;
-    }
-    let ended = end_number(scan, words, BETWEEN, scan.line);
-    if !ended.more {
-        return ended;
-    }
-    stop(ended, NOTHING)
+    let ended = end_number(scan, words, Stands::Between, scan.line)?;
+    Ok(ended.count)
 }
 
-// Reads a whole text.
-pub fn read(text: &[u8], words: &mut [u64]) -> Scan
+// Reads a whole text, and answers how many words it has.
+pub fn read(text: &[u8], words: &mut [u64]) -> Result<usize, Fault>
     ensures { heard result words.new ≡ says (length words.old) text.now }
 {
-    let scan = take_bytes(start(), text, words);
+    let scan = take_bytes(start(), text, words)?;
     take_end(scan, words)
 }
