@@ -6,8 +6,8 @@ use backend_sections::contents::{
 };
 use lists::word_at;
 
-// The place after the last section's.
-pub const NO_SECTION: usize = 10;
+// How many sections there are.
+pub const SECTIONS: usize = 10;
 
 // The words, starts and counts, and the sums that questions 7 to 11 and 18 go by.
 #[derive(Clone, Copy)]

@@ -1,5 +1,5 @@
 // Where the first offending word of refused circuit words stands.
-use crate::bounds::{Bounds, NO_SECTION, at_most_all, bounds_of, sum_of};
+use crate::bounds::{Bounds, SECTIONS, at_most_all, bounds_of, sum_of};
 use crate::cells::cell_fault;
 use crate::degrees::{degree_fault, group_fault};
 use crate::groups::{number_fault, table_fault};
@@ -140,7 +140,7 @@ pub fn begins(circuit: &[u64], s: usize) -> u64 {
 // The first start that is not where the section before it ends.
 fn start_fault(b: Bounds) -> Option<usize> {
     let mut at = FIRST_START;
-    for s in 0..NO_SECTION {
+    for s in 0..SECTIONS {
         if b.word(at) != begins(b.words, s) {
             return Some(at);
         }
@@ -176,7 +176,7 @@ fn fault_4(b: Bounds) -> Option<usize> {
     if contents.is_some() {
         return contents;
     }
-    if begins(b.words, NO_SECTION) != b.words.len() as u64 {
+    if begins(b.words, SECTIONS) != b.words.len() as u64 {
         return None;
     }
     if widths_sum(b.words) != b.word(PAIR_COUNT) {

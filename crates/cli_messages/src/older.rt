@@ -2,7 +2,7 @@
 use crate::refusal::stands;
 use backend_sections::contents::FIRST_START;
 use cli_faults::older::{OLDER_CONTENTS, older_fault};
-use cli_texts::{files, say};
+use cli_texts::files;
 use lists::word_at;
 use std::io;
 use std::io::Stderr;
@@ -13,16 +13,12 @@ const CIRCUIT: usize = 2;
 
 // Where the layout is left.
 fn leaves(rt: &(impl Files + Env), err: Stderr, circuit: &[u64], place: usize) -> io::Result<()> {
-    say::error(
-        err,
-        b" (contents of 20 words, then nine sections without gaps that end the words): ",
-    )?;
+    print!(err; " (contents of 20 words, then nine sections without gaps that end the words): ")?;
     if place < circuit.len() {
         stands(rt, err, place)?;
-        say::error_count(err, b", its value ", word_at(circuit, place))?;
-        say::error(err, b", does not fit")?;
+        print!(err; ", its value {}, does not fit", word_at(circuit, place))?;
     } else {
-        say::error(err, b"words follow the last section")?;
+        print!(err; "words follow the last section")?;
     }
     Ok(())
 }
@@ -31,18 +27,19 @@ fn leaves(rt: &(impl Files + Env), err: Stderr, circuit: &[u64], place: usize) -
 pub fn not_older(rt: &(impl Files + Env), err: Stderr, circuit: &[u64]) -> io::Result<()> {
     files::name(rt, err, CIRCUIT)?;
     if circuit.len() < OLDER_CONTENTS {
-        say::error_count(err, b": there are ", circuit.len() as u64)?;
-        say::error(err, b" words, at least 20 are needed\n")?;
+        println!(err;
+            ": there are {} words, at least 20 are needed",
+            circuit.len()
+        )?;
         return files::line_ends(rt, err, CIRCUIT);
     }
     if word_at(circuit, FIRST_START) == 22 {
-        say::error(err, b": these words have the layout with groups already")?;
+        print!(err; ": these words have the layout with groups already")?;
     } else {
-        say::error(
-            err,
-            b": these words do not have the layout from before groups",
-        )?;
-        leaves(rt, err, circuit, older_fault(circuit))?;
+        print!(err; ": these words do not have the layout from before groups")?;
+        if let Some(place) = older_fault(circuit) {
+            leaves(rt, err, circuit, place)?;
+        }
     }
-    say::error(err, b"; nothing is rewritten\n")
+    println!(err; "; nothing is rewritten")
 }

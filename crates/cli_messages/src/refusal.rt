@@ -1,12 +1,11 @@
 // Which question was answered no, where the first offending word stands, and what is wrong with it.
 use crate::question;
 use backend_sections::contents::{CONSTRAINT_START, NODE_START};
-use cli_faults::bounds::NONE;
 use cli_faults::fault::place_of;
 use cli_faults::older::is_older;
 use cli_reasons::section::{section_name, section_of};
 use cli_reasons::{groups, late, layout, starts};
-use cli_texts::{files, say};
+use cli_texts::files;
 use lists::word_at;
 use std::io;
 use std::io::Stderr;
@@ -18,18 +17,18 @@ const CIRCUIT: usize = 2;
 // Which of a node's words it is.
 fn node_word(err: Stderr, part: u64) -> io::Result<()> {
     match part {
-        0 => say::error(err, b" (its kind)"),
-        1 => say::error(err, b" (its first)"),
-        2 => say::error(err, b" (its second)"),
-        _ => say::error(err, b" (its value)"),
+        0 => print!(err; " (its kind)"),
+        1 => print!(err; " (its first)"),
+        2 => print!(err; " (its second)"),
+        _ => print!(err; " (its value)"),
     }
 }
 
 fn node_of(err: Stderr, circuit: &[u64], at: u64) -> io::Result<()> {
     let start = word_at(circuit, NODE_START);
-    if (start <= at) & (at < word_at(circuit, CONSTRAINT_START)) {
-        let part = std::num::wrapping_sub_u64(at, start);
-        say::error_count(err, b", node ", part / 4)?;
+    if (start..word_at(circuit, CONSTRAINT_START)).contains(&at) {
+        let part = at.wrapping_sub(start);
+        print!(err; ", node {}", part / 4)?;
         node_word(err, part % 4)?;
     }
     Ok(())
@@ -37,10 +36,9 @@ fn node_of(err: Stderr, circuit: &[u64], at: u64) -> io::Result<()> {
 
 // A word's number, and its line where that can be told.
 pub(crate) fn stands(rt: &(impl Files + Env), err: Stderr, place: usize) -> io::Result<()> {
-    say::error_count(err, b"word ", place as u64)?;
-    let line = files::line_of(rt, CIRCUIT, place);
-    if line != 0 {
-        say::error_count(err, b", line ", line)?;
+    print!(err; "word {place}")?;
+    if let Some(line) = files::line_of(rt, CIRCUIT, place) {
+        print!(err; ", line {line}")?;
     }
     Ok(())
 }
@@ -54,24 +52,22 @@ fn offending(
     place: usize,
 ) -> io::Result<()> {
     files::name(rt, err, CIRCUIT)?;
-    say::error(err, b": the first offending word is ")?;
+    print!(err; ": the first offending word is ")?;
     stands(rt, err, place)?;
-    say::error_count(err, b", its value ", word_at(circuit, place))?;
-    say::error(err, b"; it stands in ")?;
+    print!(err; ", its value {}; it stands in ", word_at(circuit, place))?;
     section_name(err, section_of(circuit, place as u64))?;
     if no > 4 {
         node_of(err, circuit, place as u64)?;
     }
-    say::error(err, b"\n")
+    println!(err; "")
 }
 
 // A cell that stood in its cycle before.
 fn again(rt: &(impl Files + Env), err: Stderr, circuit: &[u64], place: usize) -> io::Result<()> {
-    let before = late::stood_before(circuit, place);
-    if before != NONE {
-        say::error(err, b"the same cell stands in its cycle before, at ")?;
+    if let Some(before) = late::stood_before(circuit, place) {
+        print!(err; "the same cell stands in its cycle before, at ")?;
         stands(rt, err, before)?;
-        say::error(err, b"\n")?;
+        println!(err; "")?;
     }
     Ok(())
 }
@@ -107,8 +103,10 @@ fn why(
 fn length(rt: &(impl Files + Env), err: Stderr, circuit: &[u64], no: u64) -> io::Result<()> {
     files::name(rt, err, CIRCUIT)?;
     if no == 1 {
-        say::error_count(err, b": there are ", circuit.len() as u64)?;
-        say::error(err, b" words, at least 22 are needed\n")?;
+        println!(err;
+            ": there are {} words, at least 22 are needed",
+            circuit.len()
+        )?;
     } else {
         starts::length_why(err, circuit)?;
     }
@@ -119,12 +117,9 @@ fn length(rt: &(impl Files + Env), err: Stderr, circuit: &[u64], no: u64) -> io:
 fn hint(rt: &(impl Files + Env), err: Stderr, circuit: &[u64]) -> io::Result<()> {
     if is_older(circuit) {
         files::name(rt, err, CIRCUIT)?;
-        say::error(
-            err,
-            b": these words have the layout from before groups; hyperplonk_cli regroup ",
-        )?;
+        print!(err; ": these words have the layout from before groups; hyperplonk_cli regroup ")?;
         files::name(rt, err, CIRCUIT)?;
-        say::error(err, b" rewrites them\n")?;
+        println!(err; " rewrites them")?;
     }
     Ok(())
 }
@@ -132,12 +127,12 @@ fn hint(rt: &(impl Files + Env), err: Stderr, circuit: &[u64]) -> io::Result<()>
 // Says all of it.
 pub fn refusal(rt: &(impl Files + Env), err: Stderr, circuit: &[u64], no: u64) -> io::Result<()> {
     question::answered_no(err, no)?;
-    let place = place_of(circuit, no);
-    if place == NONE {
-        length(rt, err, circuit, no)?;
-    } else {
-        offending(rt, err, circuit, no, place)?;
-        why(rt, err, circuit, no, place)?;
+    match place_of(circuit, no) {
+        None => length(rt, err, circuit, no)?,
+        Some(place) => {
+            offending(rt, err, circuit, no, place)?;
+            why(rt, err, circuit, no, place)?;
+        }
     }
     hint(rt, err, circuit)
 }

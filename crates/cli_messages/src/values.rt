@@ -1,8 +1,8 @@
 // What questions 12, 13 and 16 found: lengths that are not the exact ones, values that are not below p.
 use backend_sections::contents::{INSTANCE_COUNT, INSTANCE_START, K_WORD};
 use backend_sections::words::is_element;
-use cli_faults::bounds::{NONE, bounds_of, sum_of};
-use cli_texts::{files, say};
+use cli_faults::bounds::{bounds_of, sum_of};
+use cli_texts::files;
 use field::MODULUS;
 use lists::word_at;
 use std::io;
@@ -29,7 +29,7 @@ fn lengths(
     rt: &(impl Files + Env),
     err: Stderr,
     argument: usize,
-    name: &[u8],
+    name: &str,
     given: usize,
     needed: u64,
 ) -> io::Result<bool> {
@@ -37,9 +37,7 @@ fn lengths(
         return Ok(false);
     }
     files::name(rt, err, argument)?;
-    say::error(err, b": ")?;
-    say::error(err, name)?;
-    say::error_two(err, b" words given: ", given as u64, b", needed: ", needed)?;
+    println!(err; ": {name} words given: {given}, needed: {needed}")?;
     if (given as u64) < needed {
         files::line_ends(rt, err, argument)?;
     }
@@ -47,25 +45,17 @@ fn lengths(
 }
 
 // The place of the first word that is p or more.
-fn first_large(words: &[u64]) -> usize {
-    let mut i: usize = 0;
-    while i < words.len() {
-        if !is_element(words[i]) {
-            return i;
-        }
-        i += 1;
-    }
-    NONE
+fn first_large(words: &[u64]) -> Option<usize> {
+    words.iter().position(|word| !is_element(*word))
 }
 
 // The file, and the line of a word where it can be told.
 fn line(rt: &(impl Files + Env), err: Stderr, argument: usize, place: usize) -> io::Result<()> {
     files::name(rt, err, argument)?;
-    let line = files::line_of(rt, argument, place);
-    if line != 0 {
-        say::error_count(err, b", line ", line)?;
+    if let Some(line) = files::line_of(rt, argument, place) {
+        print!(err; ", line {line}")?;
     }
-    say::error(err, b": ")
+    print!(err; ": ")
 }
 
 // Says so and answers true where a word is p or more.
@@ -73,34 +63,25 @@ fn large(
     rt: &(impl Files + Env),
     err: Stderr,
     argument: usize,
-    name: &[u8],
+    name: &str,
     words: &[u64],
 ) -> io::Result<bool> {
-    let at = first_large(words);
-    if at == NONE {
+    let Some(at) = first_large(words) else {
         return Ok(false);
-    }
+    };
     line(rt, err, argument, at)?;
-    say::error(err, name)?;
-    say::error_count(err, b" word ", at as u64)?;
-    say::error_count(err, b" is ", word_at(words, at))?;
-    say::error_count(
-        err,
-        b", at most p - 1, which is ",
-        std::num::wrapping_sub_u64(MODULUS, 1),
+    println!(err;
+        "{name} word {at} is {}, at most p - 1, which is {}",
+        word_at(words, at),
+        MODULUS - 1
     )?;
-    say::error(err, b"\n")?;
     Ok(true)
 }
 
 // The witness words needed.
 fn witness_words(circuit: &[u64]) -> u64 {
     let b = bounds_of(circuit);
-    let k = b.k;
-    if k < 64 {
-        return b.witness << k;
-    }
-    0
+    if b.k < 64 { b.witness << b.k } else { 0 }
 }
 
 fn instance_words(circuit: &[u64]) -> u64 {
@@ -121,12 +102,12 @@ fn build_lengths(
     challenges: usize,
     user: u64,
 ) -> io::Result<()> {
-    let needed = std::num::wrapping_add_u64(user, 2);
+    let needed = user.wrapping_add(2);
     lengths(
         rt,
         err,
         BUILD_INSTANCE,
-        b"instance",
+        "instance",
         instance,
         instance_words(circuit),
     )?;
@@ -134,11 +115,11 @@ fn build_lengths(
         rt,
         err,
         BUILD_WITNESS,
-        b"witness",
+        "witness",
         witness,
         witness_words(circuit),
     )?;
-    lengths(rt, err, BUILD_CHALLENGES, b"challenge", challenges, needed)?;
+    lengths(rt, err, BUILD_CHALLENGES, "challenge", challenges, needed)?;
     Ok(())
 }
 
@@ -165,9 +146,9 @@ pub fn build_values(
         )?;
     }
     if no == 13 {
-        large(rt, err, BUILD_INSTANCE, b"instance", instance)?;
-        large(rt, err, BUILD_WITNESS, b"witness", witness)?;
-        large(rt, err, BUILD_CHALLENGES, b"challenge", challenges)?;
+        large(rt, err, BUILD_INSTANCE, "instance", instance)?;
+        large(rt, err, BUILD_WITNESS, "witness", witness)?;
+        large(rt, err, BUILD_CHALLENGES, "challenge", challenges)?;
     }
     Ok(())
 }
@@ -181,10 +162,10 @@ fn all_small(
     challenges: &[u64],
     y: &[u64],
 ) -> io::Result<bool> {
-    let first = large(rt, err, CHECK_WITNESS, b"witness", witness)?;
-    let second = large(rt, err, CHECK_OUT, b"column", columns)?;
-    let third = large(rt, err, CHECK_CHALLENGES, b"challenge", challenges)?;
-    let fourth = large(rt, err, CHECK_Y, b"y", y)?;
+    let first = large(rt, err, CHECK_WITNESS, "witness", witness)?;
+    let second = large(rt, err, CHECK_OUT, "column", columns)?;
+    let third = large(rt, err, CHECK_CHALLENGES, "challenge", challenges)?;
+    let fourth = large(rt, err, CHECK_Y, "y", y)?;
     Ok(!(first | second | third | fourth))
 }
 
@@ -208,12 +189,12 @@ pub fn sum_values(
     y: &[u64],
     s: Needed,
 ) -> io::Result<()> {
-    let user = std::num::wrapping_add_u64(s.user as u64, 3);
+    let user = (s.user as u64).wrapping_add(3);
     let first = lengths(
         rt,
         err,
         CHECK_WITNESS,
-        b"witness",
+        "witness",
         witness.len(),
         witness_words(circuit),
     )?;
@@ -221,29 +202,26 @@ pub fn sum_values(
         rt,
         err,
         CHECK_OUT,
-        b"column",
+        "column",
         columns.len(),
         s.columns as u64,
     )?;
-    let third = lengths(rt, err, CHECK_OUT, b"node", nodes.len(), s.nodes << 2)?;
+    let third = lengths(rt, err, CHECK_OUT, "node", nodes.len(), s.nodes << 2)?;
     let fourth = lengths(
         rt,
         err,
         CHECK_CHALLENGES,
-        b"challenge",
+        "challenge",
         challenges.len(),
         user,
     )?;
-    let fifth = lengths(rt, err, CHECK_Y, b"y", y.len(), word_at(circuit, K_WORD))?;
+    let fifth = lengths(rt, err, CHECK_Y, "y", y.len(), word_at(circuit, K_WORD))?;
     if first | second | third | fourth | fifth {
         return Ok(());
     }
     if all_small(rt, err, witness, columns, challenges, y)? {
         files::name(rt, err, CHECK_OUT)?;
-        say::error(
-            err,
-            b": the node words are not those that building writes\n",
-        )?;
+        println!(err; ": the node words are not those that building writes")?;
     }
     Ok(())
 }

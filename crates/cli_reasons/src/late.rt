@@ -3,11 +3,10 @@ use crate::groups::lookup_at;
 use backend_sections::contents::{
     CONSTRAINT_COUNT, INSTANCE_START, PREPROCESS_START, ROUND_START, STATED_WORD,
 };
-use cli_faults::bounds::{Bounds, NONE, bounds_of};
+use cli_faults::bounds::{Bounds, bounds_of};
 use cli_faults::cells::stood;
 use cli_faults::degrees::{ABOVE, degree_of, group_degree};
 use cli_faults::groups::lookups_in;
-use cli_texts::say;
 use expression::kind::POLYNOMIAL;
 use expression::node::SIGNED_OFFSET;
 use field::MODULUS;
@@ -17,23 +16,20 @@ use std::io::Stderr;
 
 // One less than a count.
 fn last(count: u64) -> u64 {
-    std::num::wrapping_sub_u64(count, 1)
+    count.wrapping_sub(1)
 }
 
 // How far a place is behind a start.
 fn behind(place: usize, start: u64) -> u64 {
-    std::num::wrapping_sub_u64(place as u64, start)
+    (place as u64).wrapping_sub(start)
 }
 
 fn round_why(err: Stderr, part: u64) -> io::Result<()> {
-    say::error_count(err, b"round ", part / 2)?;
+    print!(err; "round {}", part / 2)?;
     if part % 2 == 0 {
-        say::error(err, b" has no witness column, at least 1 is asked\n")?;
+        println!(err; " has no witness column, at least 1 is asked")?;
     } else {
-        say::error(
-            err,
-            b" has no challenge, every round but the last has at least 1\n",
-        )?;
+        println!(err; " has no challenge, every round but the last has at least 1")?;
     }
     Ok(())
 }
@@ -42,14 +38,12 @@ fn round_why(err: Stderr, part: u64) -> io::Result<()> {
 pub fn columns_why(err: Stderr, circuit: &[u64], place: usize) -> io::Result<()> {
     let b = bounds_of(circuit);
     if (place as u64) < word_at(circuit, PREPROCESS_START) {
-        say::error_count(
-            err,
-            b"instance column ",
+        return println!(err;
+            "instance column {} has {} values, at most {}",
             behind(place, word_at(circuit, INSTANCE_START)),
-        )?;
-        say::error_count(err, b" has ", word_at(circuit, place))?;
-        say::error_count(err, b" values, at most ", last(b.rows))?;
-        return say::error(err, b"\n");
+            word_at(circuit, place),
+            last(b.rows)
+        );
     }
     round_why(err, behind(place, word_at(circuit, ROUND_START)))
 }
@@ -67,58 +61,54 @@ pub fn value_why(err: Stderr, circuit: &[u64], place: usize) -> io::Result<()> {
     let b = bounds_of(circuit);
     if (place as u64) < word_at(circuit, ROUND_START) {
         let part = behind(place, word_at(circuit, PREPROCESS_START));
-        say::error_count(err, b"preprocess column ", column_of(part, b.k))?;
-        say::error_count(err, b", row ", part & last(b.rows))?;
+        print!(err;
+            "preprocess column {}, row {}",
+            column_of(part, b.k),
+            part & last(b.rows)
+        )?;
     } else {
-        say::error(err, b"a Constant or scalar")?;
+        print!(err; "a Constant or scalar")?;
     }
-    say::error_count(err, b": at most p - 1, which is ", last(MODULUS))?;
-    say::error(err, b"\n")
+    println!(err; ": at most p - 1, which is {}", last(MODULUS))
 }
 
 // A polynomial number out of range.
 fn poly_why(err: Stderr, b: Bounds, n: u64) -> io::Result<()> {
-    say::error_range(err, b"polynomial ", n, 0, last(b.polys))
+    println!(err; "polynomial {n}, from 0 to {}", last(b.polys))
 }
 
 // A user challenge number out of range.
 fn user_why(err: Stderr, b: Bounds, n: u64) -> io::Result<()> {
     if b.user == 0 {
-        say::error_count(err, b"user challenge ", n)?;
-        return say::error(err, b", there is none\n");
+        return println!(err; "user challenge {n}, there is none");
     }
-    say::error_range(err, b"user challenge ", n, 0, last(b.user))
+    println!(err; "user challenge {n}, from 0 to {}", last(b.user))
 }
 
 // A kept rotation out of range.
 fn rotation_why(err: Stderr, kept: u64, k: u64) -> io::Result<()> {
     if kept < SIGNED_OFFSET {
-        say::error_count(
-            err,
-            b"rotation -",
-            std::num::wrapping_sub_u64(SIGNED_OFFSET, kept),
+        print!(err;
+            "rotation -{}",
+            SIGNED_OFFSET.wrapping_sub(kept)
         )?;
     } else {
-        say::error_count(
-            err,
-            b"rotation ",
-            std::num::wrapping_sub_u64(kept, SIGNED_OFFSET),
+        print!(err;
+            "rotation {}",
+            kept.wrapping_sub(SIGNED_OFFSET)
         )?;
     }
-    say::error_two(err, b", from -", k, b" to ", k)
+    println!(err; ", from -{k} to {k}")
 }
 
 // Question 8.
 pub fn range_why(err: Stderr, circuit: &[u64], place: usize) -> io::Result<()> {
     let b = bounds_of(circuit);
-    let part = std::num::wrapping_sub_usize(place, b.nodes_start) % 4;
-    let kind = word_at(circuit, std::num::wrapping_sub_usize(place, part));
+    let part = place.wrapping_sub(b.nodes_start) % 4;
+    let kind = word_at(circuit, place.wrapping_sub(part));
     let held = word_at(circuit, place);
     if part == 0 {
-        return say::error(
-            err,
-            b"kind 4, EqXY, stands in the composed expression only\n",
-        );
+        return println!(err; "kind 4, EqXY, stands in the composed expression only");
     }
     if part == 3 {
         return rotation_why(err, held, b.k);
@@ -134,42 +124,41 @@ pub fn range_why(err: Stderr, circuit: &[u64], place: usize) -> io::Result<()> {
 // Question 9.
 pub fn width_why(err: Stderr, circuit: &[u64], place: usize) -> io::Result<()> {
     if place == CONSTRAINT_COUNT {
-        return say::error(
-            err,
-            b"there is no constraint, no lookup and no cycle, at least one is asked\n",
+        return println!(err;
+            "there is no constraint, no lookup and no cycle, at least one is asked"
         );
     }
     let b = bounds_of(circuit);
-    say::error_count(err, b"lookup ", behind(place, b.widths_start as u64))?;
-    say::error(err, b" has width 0, at least 1 is asked\n")
+    println!(err;
+        "lookup {} has width 0, at least 1 is asked",
+        behind(place, b.widths_start as u64)
+    )
 }
 
 // A degree, which is known up to a number.
 fn degree(err: Stderr, n: u64, known: u64) -> io::Result<()> {
     if known < n {
-        say::error(err, b" has a degree above 1024")?;
+        print!(err; " has a degree above 1024")?;
     } else {
-        say::error_count(err, b" has degree ", n)?;
+        print!(err; " has degree {n}")?;
     }
     Ok(())
 }
 
 // A group of too large a degree: a lookup alone, or several.
-fn group_why(err: Stderr, circuit: &[u64], b: Bounds, place: usize) -> io::Result<()> {
-    let first = lookup_at(circuit, b, place);
-    let lookups = lookups_in(circuit, b, first);
+fn group_why(err: Stderr, b: Bounds, place: usize) -> io::Result<()> {
+    let first = lookup_at(b, place);
+    let lookups = lookups_in(b, first);
     if lookups == 1 {
-        say::error_count(err, b"lookup ", first)?;
+        print!(err; "lookup {first}")?;
     } else {
-        say::error_count(err, b"the group of lookups ", first)?;
-        say::error_count(
-            err,
-            b" to ",
-            last(std::num::wrapping_add_u64(first, lookups)),
+        print!(err;
+            "the group of lookups {first} to {}",
+            last(first.wrapping_add(lookups))
         )?;
     }
-    degree(err, group_degree(circuit, b, first), last(ABOVE))?;
-    say::error(err, b", at most 1024\n")
+    degree(err, group_degree(b, first), last(ABOVE))?;
+    println!(err; ", at most 1024")
 }
 
 // Question 10.
@@ -177,26 +166,25 @@ pub fn degree_why(err: Stderr, circuit: &[u64], place: usize) -> io::Result<()> 
     let b = bounds_of(circuit);
     let stated = word_at(circuit, STATED_WORD);
     if b.pairs_start <= place {
-        return group_why(err, circuit, b, place);
+        return group_why(err, b, place);
     }
-    let j = std::num::wrapping_sub_usize(place, b.constraints_start);
-    say::error_count(err, b"constraint ", j as u64)?;
-    degree(err, degree_of(circuit, b, word_at(circuit, place)), 1024)?;
+    let j = place.wrapping_sub(b.constraints_start);
+    print!(err; "constraint {j}")?;
+    degree(err, degree_of(b, b.word(place)), 1024)?;
     if stated == 0 {
-        return say::error(err, b", at most 1024\n");
+        return println!(err; ", at most 1024");
     }
-    say::error_count(err, b", at most ", last(stated))?;
-    say::error(err, b" is stated\n")
+    println!(err; ", at most {} is stated", last(stated))
 }
 
-// Where the cell at a place stood before in its cycle, or NONE.
-pub fn stood_before(circuit: &[u64], place: usize) -> usize {
+// Where the cell at a place stood before in its cycle.
+pub fn stood_before(circuit: &[u64], place: usize) -> Option<usize> {
     let b = bounds_of(circuit);
-    let part = std::num::wrapping_sub_usize(place, b.cells_start);
-    if (place < b.cells_start) | (part % 2 != 0) {
-        return NONE;
+    let part = place.wrapping_sub(b.cells_start);
+    if place < b.cells_start || part % 2 != 0 {
+        return None;
     }
-    stood(circuit, b, place, (part / 2) as u64)
+    stood(b, place, (part / 2) as u64)
 }
 
 // Question 11, but for a cell that stood in its cycle before.
@@ -204,11 +192,13 @@ pub fn cell_why(err: Stderr, circuit: &[u64], place: usize) -> io::Result<()> {
     let b = bounds_of(circuit);
     let held = word_at(circuit, place);
     if place < b.cells_start {
-        say::error_count(err, b"cycle ", behind(place, b.lengths_start as u64))?;
-        return say::error(err, b" has no cell, at least 1 is asked\n");
+        return println!(err;
+            "cycle {} has no cell, at least 1 is asked",
+            behind(place, b.lengths_start as u64)
+        );
     }
-    if std::num::wrapping_sub_usize(place, b.cells_start) % 2 != 0 {
-        return say::error_range(err, b"row ", held, 1, last(b.rows));
+    if place.wrapping_sub(b.cells_start) % 2 != 0 {
+        return println!(err; "row {held}, from 1 to {}", last(b.rows));
     }
     if b.polys <= held {
         poly_why(err, b, held)?;
