@@ -1,4 +1,4 @@
-// The contents of circuit words as they stand, read with no question asked: a word past the last is 0.
+// Circuit words as they stand, with the contents read and no question asked: a word past the last is 0.
 use backend_sections::contents::{
     CELL_COUNT, CELL_START, CONSTRAINT_COUNT, CONSTRAINT_START, GROUP_START, INSTANCE_COUNT,
     K_WORD, LENGTH_COUNT, LENGTH_START, NODE_COUNT, NODE_START, PAIR_COUNT, PAIR_START,
@@ -6,20 +6,13 @@ use backend_sections::contents::{
 };
 use lists::word_at;
 
-// The place after the last section's.
-pub const NO_SECTION: usize = 10;
+// How many sections there are.
+pub const SECTIONS: usize = 10;
 
-// No place.
-pub const NONE: usize = 18446744073709551615;
-
-// A place some words on.
-pub fn after(at: usize, words: usize) -> usize {
-    std::num::wrapping_add_usize(at, words)
-}
-
-// Starts and counts, and the sums that questions 7 to 11 and 18 go by.
+// The words, starts and counts, and the sums that questions 7 to 11 and 18 go by.
 #[derive(Clone, Copy)]
-pub struct Bounds {
+pub struct Bounds<'a> {
+    pub words: &'a [u64],
     pub k: u64,
     pub rows: u64,
     pub polys: u64,
@@ -41,59 +34,56 @@ pub struct Bounds {
     pub groups_start: usize,
 }
 
-// A count, and no more than there are words.
-pub(crate) fn at_most_all(circuit: &[u64], count: u64) -> u64 {
-    let all = circuit.len() as u64;
-    if count < all { count } else { all }
+impl<'a> Bounds<'a> {
+    // The word at a place.
+    pub fn word(self, at: usize) -> u64 {
+        word_at(self.words, at)
+    }
+
+    // The words of the nodes; none where the starts do not say.
+    pub(crate) fn node_words(self) -> &'a [u64] {
+        self.words
+            .get(self.nodes_start..self.constraints_start)
+            .unwrap_or(&[])
+    }
 }
 
-// The sum, 2^64 - 1 where it is more.
-fn plus(a: u64, b: u64) -> u64 {
-    if 18446744073709551615 - b < a {
-        return 18446744073709551615;
-    }
-    a + b
+// A count, and no more than there are words.
+pub(crate) fn at_most_all(circuit: &[u64], count: u64) -> u64 {
+    count.min(circuit.len() as u64)
 }
 
 // The sum of every `step`-th word of `count`, from a place on, 2^64 - 1 where it is more.
 pub fn sum_of(circuit: &[u64], start: usize, step: usize, count: u64) -> u64 {
-    let turns = at_most_all(circuit, count);
     let mut sum: u64 = 0;
     let mut at = start;
-    let mut j: u64 = 0;
-    while j < turns {
-        sum = plus(sum, word_at(circuit, at));
-        at = after(at, step);
-        j += 1;
+    for _ in 0..at_most_all(circuit, count) {
+        sum = sum.saturating_add(word_at(circuit, at));
+        at = at.wrapping_add(step);
     }
     sum
 }
 
 // 2^k, 0 for a k of 64 or more.
 pub(crate) fn rows_of(k: u64) -> u64 {
-    if k < 64 {
-        return 1 << k;
-    }
-    0
+    if k < 64 { 1 << k } else { 0 }
 }
 
-pub fn bounds_of(circuit: &[u64]) -> Bounds {
+pub fn bounds_of(circuit: &[u64]) -> Bounds<'_> {
     let k = word_at(circuit, K_WORD);
     let rounds_start = word_at(circuit, ROUND_START) as usize;
     let rounds = word_at(circuit, ROUND_COUNT);
     let witness = sum_of(circuit, rounds_start, 2, rounds);
-    let user = sum_of(circuit, after(rounds_start, 1), 2, rounds);
-    let given = std::num::wrapping_add_u64(
-        word_at(circuit, INSTANCE_COUNT),
-        word_at(circuit, PREPROCESS_COUNT),
-    );
+    let user = sum_of(circuit, rounds_start.wrapping_add(1), 2, rounds);
+    let given = word_at(circuit, INSTANCE_COUNT).wrapping_add(word_at(circuit, PREPROCESS_COUNT));
     Bounds {
-        k: k,
+        words: circuit,
+        k,
         rows: rows_of(k),
-        polys: std::num::wrapping_add_u64(given, witness),
-        witness: witness,
-        user: user,
-        rounds: rounds,
+        polys: given.wrapping_add(witness),
+        witness,
+        user,
+        rounds,
         nodes_start: word_at(circuit, NODE_START) as usize,
         nodes: word_at(circuit, NODE_COUNT),
         constraints_start: word_at(circuit, CONSTRAINT_START) as usize,

@@ -1,5 +1,5 @@
-// Faults of one node's words, for questions 6, 7 and 8: the place of the first offending word, or NONE; and what is wrong with it.
-use crate::bounds::{Bounds, NONE, after};
+// Faults of one node's words, for questions 6, 7 and 8: the place of the first offending word; and what is wrong with it.
+use crate::bounds::Bounds;
 use backend_sections::words::is_element;
 use expression::kind;
 use expression::kind::{
@@ -7,195 +7,174 @@ use expression::kind::{
     SUM,
 };
 use expression::node::SIGNED_OFFSET;
-use lists::word_at;
 
-// What is wrong with a word of a node: nothing; it is not used, and not 0; it is above the largest value; it names a node that
-// is not lower, an Item, a node that is no Item, the last Item.
-pub const RIGHT: u64 = 0;
-
-pub const UNUSED: u64 = 1;
-
-pub const LARGE: u64 = 2;
-
-pub const HIGH: u64 = 3;
-
-pub const ITEM: u64 = 4;
-
-pub const NO_ITEM: u64 = 5;
-
-pub const LAST_ITEM: u64 = 6;
+// What is wrong with a word of a node: it is not used, and not 0; it is above the largest value; it names a node that is not lower, an
+// Item, a node that is no Item, the last Item.
+#[derive(Clone, Copy)]
+pub enum Wrong {
+    Unused,
+    Large,
+    High,
+    Item,
+    NoItem,
+    LastItem,
+}
 
 // Question 6: Constants and scalars below p.
-pub(crate) fn value_fault(circuit: &[u64], at: usize) -> usize {
-    let kind = word_at(circuit, at);
-    let held = (kind == CONSTANT) | (kind == SCALED);
-    let value = after(at, 3);
-    if held & !is_element(word_at(circuit, value)) {
-        return value;
+pub(crate) fn value_fault(b: Bounds, at: usize) -> Option<usize> {
+    let kind = b.word(at);
+    let value = at.wrapping_add(3);
+    let held = kind == CONSTANT || kind == SCALED;
+    if held && !is_element(b.word(value)) {
+        return Some(value);
     }
-    NONE
+    None
 }
 
 // Is it one of the kinds?
 pub fn is_kind(kind: u64) -> bool {
-    (CONSTANT <= kind) & (kind <= kind::ITEM)
+    (CONSTANT..=kind::ITEM).contains(&kind)
 }
 
 // The words that a kind uses: does it name a node, a polynomial or a challenge first, a node second, and hold a value?
 fn uses_first(kind: u64) -> bool {
-    (POLYNOMIAL <= kind) & (kind <= kind::ITEM)
+    (POLYNOMIAL..=kind::ITEM).contains(&kind)
 }
 
 pub(crate) fn uses_second(kind: u64, value: u64) -> bool {
-    (kind == SUM)
-        | (kind == PRODUCT)
-        | (kind == DISTRIBUTE_POWERS)
-        | ((kind == kind::ITEM) & (value == 1))
+    match kind {
+        SUM | PRODUCT | DISTRIBUTE_POWERS => true,
+        kind::ITEM => value == 1,
+        _ => false,
+    }
 }
 
 fn uses_value(kind: u64) -> bool {
-    (kind == CONSTANT)
-        | (LAGRANGE <= kind) & (kind <= POLYNOMIAL)
-        | (kind == SCALED)
-        | (kind == kind::ITEM)
+    matches!(
+        kind,
+        CONSTANT | LAGRANGE | EQ_XY | POLYNOMIAL | SCALED | kind::ITEM
+    )
 }
 
 // The largest value that a kind may hold.
 pub fn largest(kind: u64) -> u64 {
     match kind {
-        LAGRANGE => 4294967295,
-        POLYNOMIAL => 4294967295,
+        LAGRANGE | POLYNOMIAL => 4294967295,
         kind::ITEM => 1,
-        _ => 18446744073709551615,
+        _ => u64::MAX,
     }
 }
 
 // The place of node n's first word.
-pub(crate) fn node_at(start: usize, n: u64) -> usize {
-    after(start, (n << 2) as usize)
+fn node_at(b: Bounds, n: u64) -> usize {
+    b.nodes_start.wrapping_add((n << 2) as usize)
 }
 
 // What is wrong with n as the number of a node below `limit` that is an Item, or is none, as asked.
-pub fn name_why(circuit: &[u64], start: usize, limit: u64, n: u64, item: bool) -> u64 {
+pub(crate) fn name_wrong(b: Bounds, limit: u64, n: u64, item: bool) -> Option<Wrong> {
     if limit <= n {
-        return HIGH;
+        return Some(Wrong::High);
     }
-    let is_item = word_at(circuit, node_at(start, n)) == kind::ITEM;
-    if is_item == item {
-        return RIGHT;
+    let is_item = b.word(node_at(b, n)) == kind::ITEM;
+    match (is_item, item) {
+        (true, false) => Some(Wrong::Item),
+        (false, true) => Some(Wrong::NoItem),
+        _ => None,
     }
-    if item { NO_ITEM } else { ITEM }
 }
 
 // Does the kind name a node first?
 pub(crate) fn names_first(kind: u64) -> bool {
-    (NEGATED <= kind) & (kind <= kind::ITEM)
+    (NEGATED..=kind::ITEM).contains(&kind)
 }
 
 // What is wrong with the first word of node n, which begins at a place: "an unused word is 0", "A node names lower nodes only",
 // and an Item is "named only as the second of kind 11 or 12".
-pub fn first_why(circuit: &[u64], start: usize, at: usize, n: u64) -> u64 {
-    let kind = word_at(circuit, at);
-    let first = word_at(circuit, after(at, 1));
-    if !uses_first(kind) & (first != 0) {
-        return UNUSED;
+pub fn first_wrong(b: Bounds, at: usize, n: u64) -> Option<Wrong> {
+    let kind = b.word(at);
+    let first = b.word(at.wrapping_add(1));
+    if !uses_first(kind) && first != 0 {
+        return Some(Wrong::Unused);
     }
     if names_first(kind) {
-        return name_why(circuit, start, n, first, false);
+        return name_wrong(b, n, first, false);
     }
-    RIGHT
+    None
 }
 
 // Is the node the last Item, by its value?
-fn is_last(circuit: &[u64], start: usize, n: u64) -> bool {
-    word_at(circuit, after(node_at(start, n), 3)) != 1
+fn is_last(b: Bounds, n: u64) -> bool {
+    b.word(node_at(b, n).wrapping_add(3)) != 1
 }
 
 // What is wrong with the Item that kind 11 or 12 names second: after 11 it is not the last.
-fn item_why(circuit: &[u64], start: usize, limit: u64, kind: u64, n: u64) -> u64 {
-    let why = name_why(circuit, start, limit, n, true);
-    if why != RIGHT {
-        return why;
+fn item_wrong(b: Bounds, limit: u64, kind: u64, n: u64) -> Option<Wrong> {
+    let wrong = name_wrong(b, limit, n, true);
+    if wrong.is_none() && kind == DISTRIBUTE_POWERS && is_last(b, n) {
+        return Some(Wrong::LastItem);
     }
-    if (kind == DISTRIBUTE_POWERS) & is_last(circuit, start, n) {
-        return LAST_ITEM;
-    }
-    RIGHT
+    wrong
 }
 
 // What is wrong with the second word of node n. Of an Item whose value is above 1 it is not known whether it names another.
-pub fn second_why(circuit: &[u64], start: usize, at: usize, n: u64) -> u64 {
-    let kind = word_at(circuit, at);
-    let second = word_at(circuit, after(at, 2));
-    let value = word_at(circuit, after(at, 3));
+pub fn second_wrong(b: Bounds, at: usize, n: u64) -> Option<Wrong> {
+    let kind = b.word(at);
+    let second = b.word(at.wrapping_add(2));
+    let value = b.word(at.wrapping_add(3));
     if !uses_second(kind, value) {
-        let known = (kind != kind::ITEM) | (value == 0);
-        if known & (second != 0) {
-            return UNUSED;
+        let known = kind != kind::ITEM || value == 0;
+        if known && second != 0 {
+            return Some(Wrong::Unused);
         }
-        return RIGHT;
+        return None;
     }
     if kind < DISTRIBUTE_POWERS {
-        return name_why(circuit, start, n, second, false);
+        return name_wrong(b, n, second, false);
     }
-    item_why(circuit, start, n, kind, second)
+    item_wrong(b, n, kind, second)
 }
 
 // What is wrong with the value of a node.
-pub fn value_why(circuit: &[u64], at: usize) -> u64 {
-    let kind = word_at(circuit, at);
-    let value = word_at(circuit, after(at, 3));
-    if !uses_value(kind) & (value != 0) {
-        return UNUSED;
+pub fn value_wrong(b: Bounds, at: usize) -> Option<Wrong> {
+    let kind = b.word(at);
+    let value = b.word(at.wrapping_add(3));
+    if !uses_value(kind) && value != 0 {
+        return Some(Wrong::Unused);
     }
     if largest(kind) < value {
-        return LARGE;
+        return Some(Wrong::Large);
     }
-    RIGHT
+    None
 }
 
 // Question 7, of one node by itself: kind, first, second and value in this order.
-pub(crate) fn layout_fault(circuit: &[u64], start: usize, at: usize, n: u64) -> usize {
-    if !is_kind(word_at(circuit, at)) {
-        return at;
+pub(crate) fn layout_fault(b: Bounds, at: usize, n: u64) -> Option<usize> {
+    if !is_kind(b.word(at)) {
+        return Some(at);
     }
-    if first_why(circuit, start, at, n) != RIGHT {
-        return after(at, 1);
+    if first_wrong(b, at, n).is_some() {
+        return Some(at.wrapping_add(1));
     }
-    if second_why(circuit, start, at, n) != RIGHT {
-        return after(at, 2);
+    if second_wrong(b, at, n).is_some() {
+        return Some(at.wrapping_add(2));
     }
-    if value_why(circuit, at) != RIGHT {
-        return after(at, 3);
-    }
-    NONE
+    value_wrong(b, at).map(|_| at.wrapping_add(3))
 }
 
 // Is a kept rotation from -k to k?
 fn is_near(kept: u64, k: u64) -> bool {
-    if kept < SIGNED_OFFSET {
-        SIGNED_OFFSET - kept <= k
-    } else {
-        kept - SIGNED_OFFSET <= k
-    }
+    kept.abs_diff(SIGNED_OFFSET) <= k
 }
 
 // Question 8.
-pub(crate) fn range_fault(circuit: &[u64], b: Bounds, at: usize) -> usize {
-    let kind = word_at(circuit, at);
-    let first = after(at, 1);
-    let value = after(at, 3);
-    if kind == EQ_XY {
-        return at;
+pub(crate) fn range_fault(b: Bounds, at: usize) -> Option<usize> {
+    let first = at.wrapping_add(1);
+    let value = at.wrapping_add(3);
+    match b.word(at) {
+        EQ_XY => Some(at),
+        POLYNOMIAL if b.polys <= b.word(first) => Some(first),
+        POLYNOMIAL if !is_near(b.word(value), b.k) => Some(value),
+        CHALLENGE if b.user <= b.word(first) => Some(first),
+        _ => None,
     }
-    if (kind == POLYNOMIAL) & (b.polys <= word_at(circuit, first)) {
-        return first;
-    }
-    if (kind == POLYNOMIAL) & !is_near(word_at(circuit, value), b.k) {
-        return value;
-    }
-    if (kind == CHALLENGE) & (b.user <= word_at(circuit, first)) {
-        return first;
-    }
-    NONE
 }

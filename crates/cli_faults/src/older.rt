@@ -1,5 +1,4 @@
 // Circuit words of the layout from before groups: contents of 20 words, then nine sections without gaps that end the words.
-use crate::bounds::{NONE, after};
 use crate::fault::words_in;
 use backend_sections::contents::{FIRST_START, GROUPS, K_WORD};
 use lists::word_at;
@@ -9,48 +8,50 @@ pub const OLDER_CONTENTS: usize = 20;
 
 // The words of section s, whose start stands at a place.
 fn size_at(circuit: &[u64], s: usize, at: usize) -> u64 {
-    words_in(word_at(circuit, K_WORD), s, word_at(circuit, after(at, 1)))
+    words_in(
+        word_at(circuit, K_WORD),
+        s,
+        word_at(circuit, at.wrapping_add(1)),
+    )
 }
 
 // The start of section s, which stands at a place, where it is not where the section before it ends, and its count, where there are
-// fewer words; else NONE.
-fn section_fault(circuit: &[u64], s: usize, at: usize, start: u64) -> usize {
+// fewer words.
+fn section_fault(circuit: &[u64], s: usize, at: usize, start: u64) -> Option<usize> {
     let words = circuit.len() as u64;
     if word_at(circuit, at) != start {
-        return at;
+        return Some(at);
     }
-    let count = after(at, 1);
-    let end = std::num::wrapping_add_u64(start, size_at(circuit, s, at));
-    if (words < word_at(circuit, count)) | (words < end) {
-        return count;
+    let count = at.wrapping_add(1);
+    let end = start.wrapping_add(size_at(circuit, s, at));
+    if words < word_at(circuit, count) || words < end {
+        return Some(count);
     }
-    NONE
+    None
 }
 
-// The first word that is not as in that layout: the place after the last where words follow the last section, NONE where there is none.
-pub fn older_fault(circuit: &[u64]) -> usize {
+// The first word that is not as in that layout: the place after the last where words follow the last section.
+pub fn older_fault(circuit: &[u64]) -> Option<usize> {
     if 10 < word_at(circuit, K_WORD) {
-        return K_WORD;
+        return Some(K_WORD);
     }
     let mut end = OLDER_CONTENTS as u64;
     let mut at = FIRST_START;
-    let mut s: usize = 0;
-    while s < GROUPS {
+    for s in 0..GROUPS {
         let fault = section_fault(circuit, s, at, end);
-        if fault != NONE {
+        if fault.is_some() {
             return fault;
         }
-        end = std::num::wrapping_add_u64(end, size_at(circuit, s, at));
-        at = after(at, 2);
-        s += 1;
+        end = end.wrapping_add(size_at(circuit, s, at));
+        at = at.wrapping_add(2);
     }
     if end == circuit.len() as u64 {
-        return NONE;
+        return None;
     }
-    circuit.len()
+    Some(circuit.len())
 }
 
 // Have the words that layout?
 pub fn is_older(circuit: &[u64]) -> bool {
-    older_fault(circuit) == NONE
+    older_fault(circuit).is_none()
 }

@@ -37,7 +37,9 @@ pub fn not_older(rt: &(impl Files + Env), err: Stderr, circuit: &[u64]) -> io::R
         print!(err; ": these words have the layout with groups already")?;
     } else {
         print!(err; ": these words do not have the layout from before groups")?;
-        leaves(rt, err, circuit, older_fault(circuit))?;
+        if let Some(place) = older_fault(circuit) {
+            leaves(rt, err, circuit, place)?;
+        }
     }
     println!(err; "; nothing is rewritten")
 }

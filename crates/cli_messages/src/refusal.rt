@@ -1,7 +1,6 @@
 // Which question was answered no, where the first offending word stands, and what is wrong with it.
 use crate::question;
 use backend_sections::contents::{CONSTRAINT_START, NODE_START};
-use cli_faults::bounds::NONE;
 use cli_faults::fault::place_of;
 use cli_faults::older::is_older;
 use cli_reasons::section::{section_name, section_of};
@@ -27,8 +26,8 @@ fn node_word(err: Stderr, part: u64) -> io::Result<()> {
 
 fn node_of(err: Stderr, circuit: &[u64], at: u64) -> io::Result<()> {
     let start = word_at(circuit, NODE_START);
-    if (start <= at) & (at < word_at(circuit, CONSTRAINT_START)) {
-        let part = std::num::wrapping_sub_u64(at, start);
+    if (start..word_at(circuit, CONSTRAINT_START)).contains(&at) {
+        let part = at.wrapping_sub(start);
         print!(err; ", node {}", part / 4)?;
         node_word(err, part % 4)?;
     }
@@ -65,8 +64,7 @@ fn offending(
 
 // A cell that stood in its cycle before.
 fn again(rt: &(impl Files + Env), err: Stderr, circuit: &[u64], place: usize) -> io::Result<()> {
-    let before = late::stood_before(circuit, place);
-    if before != NONE {
+    if let Some(before) = late::stood_before(circuit, place) {
         print!(err; "the same cell stands in its cycle before, at ")?;
         stands(rt, err, before)?;
         println!(err; "")?;
@@ -129,12 +127,12 @@ fn hint(rt: &(impl Files + Env), err: Stderr, circuit: &[u64]) -> io::Result<()>
 // Says all of it.
 pub fn refusal(rt: &(impl Files + Env), err: Stderr, circuit: &[u64], no: u64) -> io::Result<()> {
     question::answered_no(err, no)?;
-    let place = place_of(circuit, no);
-    if place == NONE {
-        length(rt, err, circuit, no)?;
-    } else {
-        offending(rt, err, circuit, no, place)?;
-        why(rt, err, circuit, no, place)?;
+    match place_of(circuit, no) {
+        None => length(rt, err, circuit, no)?,
+        Some(place) => {
+            offending(rt, err, circuit, no, place)?;
+            why(rt, err, circuit, no, place)?;
+        }
     }
     hint(rt, err, circuit)
 }

@@ -3,7 +3,6 @@ use backend_sections::contents::{
     INSTANCE_COUNT, INSTANCE_START, PAIR_COUNT, PREPROCESS_COUNT, STATED_WORD, WIDTH_COUNT,
 };
 use cli_faults::bounds::{Bounds, bounds_of, sum_of};
-use lists::word_at;
 use std::io;
 use std::io::Stdout;
 
@@ -12,7 +11,7 @@ fn size(out: Stdout, b: Bounds, stated: u64) -> io::Result<()> {
     if stated == 0 {
         println!(out; "maximum degree: none stated")?;
     } else {
-        println!(out; "maximum degree: {}", std::num::wrapping_sub_u64(stated, 1))?;
+        println!(out; "maximum degree: {}", stated.wrapping_sub(1))?;
     }
     Ok(())
 }
@@ -22,11 +21,11 @@ fn two(out: Stdout, first: &str, n: u64, second: &str, m: u64) -> io::Result<()>
     println!(out; "{first}{n}{second}{m}")
 }
 
-fn columns(out: Stdout, circuit: &[u64], b: Bounds) -> io::Result<()> {
-    let instances = word_at(circuit, INSTANCE_COUNT);
+fn columns(out: Stdout, b: Bounds) -> io::Result<()> {
+    let instances = b.word(INSTANCE_COUNT);
     let values = sum_of(
-        circuit,
-        word_at(circuit, INSTANCE_START) as usize,
+        b.words,
+        b.word(INSTANCE_START) as usize,
         1,
         instances,
     );
@@ -39,7 +38,7 @@ fn columns(out: Stdout, circuit: &[u64], b: Bounds) -> io::Result<()> {
     )?;
     println!(out;
         "preprocess columns: {}",
-        word_at(circuit, PREPROCESS_COUNT)
+        b.word(PREPROCESS_COUNT)
     )?;
     print!(out; "rounds: {}", b.rounds)?;
     two(
@@ -51,15 +50,15 @@ fn columns(out: Stdout, circuit: &[u64], b: Bounds) -> io::Result<()> {
     )
 }
 
-fn expressions(out: Stdout, circuit: &[u64], b: Bounds) -> io::Result<()> {
+fn expressions(out: Stdout, b: Bounds) -> io::Result<()> {
     println!(out; "nodes: {}", b.nodes)?;
     println!(out; "constraints: {}", b.constraints)?;
     two(
         out,
         "lookups: ",
-        word_at(circuit, WIDTH_COUNT),
+        b.word(WIDTH_COUNT),
         ", pairs in all: ",
-        word_at(circuit, PAIR_COUNT),
+        b.word(PAIR_COUNT),
     )?;
     two(out, "cycles: ", b.lengths, ", cells in all: ", b.cells)
 }
@@ -67,7 +66,7 @@ fn expressions(out: Stdout, circuit: &[u64], b: Bounds) -> io::Result<()> {
 // The sections with their counts.
 pub fn sections(out: Stdout, circuit: &[u64]) -> io::Result<()> {
     let b = bounds_of(circuit);
-    size(out, b, word_at(circuit, STATED_WORD))?;
-    columns(out, circuit, b)?;
-    expressions(out, circuit, b)
+    size(out, b, b.word(STATED_WORD))?;
+    columns(out, b)?;
+    expressions(out, b)
 }

@@ -1,7 +1,7 @@
 // What questions 12, 13 and 16 found: lengths that are not the exact ones, values that are not below p.
 use backend_sections::contents::{INSTANCE_COUNT, INSTANCE_START, K_WORD};
 use backend_sections::words::is_element;
-use cli_faults::bounds::{NONE, bounds_of, sum_of};
+use cli_faults::bounds::{bounds_of, sum_of};
 use cli_texts::files;
 use field::MODULUS;
 use lists::word_at;
@@ -45,15 +45,8 @@ fn lengths(
 }
 
 // The place of the first word that is p or more.
-fn first_large(words: &[u64]) -> usize {
-    let mut i: usize = 0;
-    while i < words.len() {
-        if !is_element(words[i]) {
-            return i;
-        }
-        i += 1;
-    }
-    NONE
+fn first_large(words: &[u64]) -> Option<usize> {
+    words.iter().position(|word| !is_element(*word))
 }
 
 // The file, and the line of a word where it can be told.
@@ -73,15 +66,14 @@ fn large(
     name: &str,
     words: &[u64],
 ) -> io::Result<bool> {
-    let at = first_large(words);
-    if at == NONE {
+    let Some(at) = first_large(words) else {
         return Ok(false);
-    }
+    };
     line(rt, err, argument, at)?;
     println!(err;
         "{name} word {at} is {}, at most p - 1, which is {}",
         word_at(words, at),
-        std::num::wrapping_sub_u64(MODULUS, 1)
+        MODULUS - 1
     )?;
     Ok(true)
 }
@@ -89,11 +81,7 @@ fn large(
 // The witness words needed.
 fn witness_words(circuit: &[u64]) -> u64 {
     let b = bounds_of(circuit);
-    let k = b.k;
-    if k < 64 {
-        return b.witness << k;
-    }
-    0
+    if b.k < 64 { b.witness << b.k } else { 0 }
 }
 
 fn instance_words(circuit: &[u64]) -> u64 {
@@ -114,7 +102,7 @@ fn build_lengths(
     challenges: usize,
     user: u64,
 ) -> io::Result<()> {
-    let needed = std::num::wrapping_add_u64(user, 2);
+    let needed = user.wrapping_add(2);
     lengths(
         rt,
         err,
@@ -201,7 +189,7 @@ pub fn sum_values(
     y: &[u64],
     s: Needed,
 ) -> io::Result<()> {
-    let user = std::num::wrapping_add_u64(s.user as u64, 3);
+    let user = (s.user as u64).wrapping_add(3);
     let first = lengths(
         rt,
         err,

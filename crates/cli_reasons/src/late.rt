@@ -3,7 +3,7 @@ use crate::groups::lookup_at;
 use backend_sections::contents::{
     CONSTRAINT_COUNT, INSTANCE_START, PREPROCESS_START, ROUND_START, STATED_WORD,
 };
-use cli_faults::bounds::{Bounds, NONE, bounds_of};
+use cli_faults::bounds::{Bounds, bounds_of};
 use cli_faults::cells::stood;
 use cli_faults::degrees::{ABOVE, degree_of, group_degree};
 use cli_faults::groups::lookups_in;
@@ -16,12 +16,12 @@ use std::io::Stderr;
 
 // One less than a count.
 fn last(count: u64) -> u64 {
-    std::num::wrapping_sub_u64(count, 1)
+    count.wrapping_sub(1)
 }
 
 // How far a place is behind a start.
 fn behind(place: usize, start: u64) -> u64 {
-    std::num::wrapping_sub_u64(place as u64, start)
+    (place as u64).wrapping_sub(start)
 }
 
 fn round_why(err: Stderr, part: u64) -> io::Result<()> {
@@ -90,12 +90,12 @@ fn rotation_why(err: Stderr, kept: u64, k: u64) -> io::Result<()> {
     if kept < SIGNED_OFFSET {
         print!(err;
             "rotation -{}",
-            std::num::wrapping_sub_u64(SIGNED_OFFSET, kept)
+            SIGNED_OFFSET.wrapping_sub(kept)
         )?;
     } else {
         print!(err;
             "rotation {}",
-            std::num::wrapping_sub_u64(kept, SIGNED_OFFSET)
+            kept.wrapping_sub(SIGNED_OFFSET)
         )?;
     }
     println!(err; ", from -{k} to {k}")
@@ -104,8 +104,8 @@ fn rotation_why(err: Stderr, kept: u64, k: u64) -> io::Result<()> {
 // Question 8.
 pub fn range_why(err: Stderr, circuit: &[u64], place: usize) -> io::Result<()> {
     let b = bounds_of(circuit);
-    let part = std::num::wrapping_sub_usize(place, b.nodes_start) % 4;
-    let kind = word_at(circuit, std::num::wrapping_sub_usize(place, part));
+    let part = place.wrapping_sub(b.nodes_start) % 4;
+    let kind = word_at(circuit, place.wrapping_sub(part));
     let held = word_at(circuit, place);
     if part == 0 {
         return println!(err; "kind 4, EqXY, stands in the composed expression only");
@@ -146,18 +146,18 @@ fn degree(err: Stderr, n: u64, known: u64) -> io::Result<()> {
 }
 
 // A group of too large a degree: a lookup alone, or several.
-fn group_why(err: Stderr, circuit: &[u64], b: Bounds, place: usize) -> io::Result<()> {
-    let first = lookup_at(circuit, b, place);
-    let lookups = lookups_in(circuit, b, first);
+fn group_why(err: Stderr, b: Bounds, place: usize) -> io::Result<()> {
+    let first = lookup_at(b, place);
+    let lookups = lookups_in(b, first);
     if lookups == 1 {
         print!(err; "lookup {first}")?;
     } else {
         print!(err;
             "the group of lookups {first} to {}",
-            last(std::num::wrapping_add_u64(first, lookups))
+            last(first.wrapping_add(lookups))
         )?;
     }
-    degree(err, group_degree(circuit, b, first), last(ABOVE))?;
+    degree(err, group_degree(b, first), last(ABOVE))?;
     println!(err; ", at most 1024")
 }
 
@@ -166,25 +166,25 @@ pub fn degree_why(err: Stderr, circuit: &[u64], place: usize) -> io::Result<()> 
     let b = bounds_of(circuit);
     let stated = word_at(circuit, STATED_WORD);
     if b.pairs_start <= place {
-        return group_why(err, circuit, b, place);
+        return group_why(err, b, place);
     }
-    let j = std::num::wrapping_sub_usize(place, b.constraints_start);
+    let j = place.wrapping_sub(b.constraints_start);
     print!(err; "constraint {j}")?;
-    degree(err, degree_of(circuit, b, word_at(circuit, place)), 1024)?;
+    degree(err, degree_of(b, b.word(place)), 1024)?;
     if stated == 0 {
         return println!(err; ", at most 1024");
     }
     println!(err; ", at most {} is stated", last(stated))
 }
 
-// Where the cell at a place stood before in its cycle, or NONE.
-pub fn stood_before(circuit: &[u64], place: usize) -> usize {
+// Where the cell at a place stood before in its cycle.
+pub fn stood_before(circuit: &[u64], place: usize) -> Option<usize> {
     let b = bounds_of(circuit);
-    let part = std::num::wrapping_sub_usize(place, b.cells_start);
-    if (place < b.cells_start) | (part % 2 != 0) {
-        return NONE;
+    let part = place.wrapping_sub(b.cells_start);
+    if place < b.cells_start || part % 2 != 0 {
+        return None;
     }
-    stood(circuit, b, place, (part / 2) as u64)
+    stood(b, place, (part / 2) as u64)
 }
 
 // Question 11, but for a cell that stood in its cycle before.
@@ -197,7 +197,7 @@ pub fn cell_why(err: Stderr, circuit: &[u64], place: usize) -> io::Result<()> {
             behind(place, b.lengths_start as u64)
         );
     }
-    if std::num::wrapping_sub_usize(place, b.cells_start) % 2 != 0 {
+    if place.wrapping_sub(b.cells_start) % 2 != 0 {
         return println!(err; "row {held}, from 1 to {}", last(b.rows));
     }
     if b.polys <= held {

@@ -1,21 +1,18 @@
 // What is said of question 7: a node's word that is not as its kind asks, a root that is none, a node not named exactly once.
-use cli_faults::bounds::{Bounds, after, bounds_of};
+use cli_faults::bounds::{Bounds, bounds_of};
 use cli_faults::names::{next_name, times};
-use cli_faults::nodes::{
-    HIGH, ITEM, LARGE, NO_ITEM, UNUSED, first_why, is_kind, largest, second_why, value_why,
-};
+use cli_faults::nodes::{Wrong, first_wrong, is_kind, largest, second_wrong, value_wrong};
 use expression::kind;
-use lists::word_at;
 use std::io;
 use std::io::Stderr;
 
 // A root, by its place.
 fn root(err: Stderr, b: Bounds, place: usize) -> io::Result<()> {
     if place < b.pairs_start {
-        let j = std::num::wrapping_sub_usize(place, b.constraints_start);
+        let j = place.wrapping_sub(b.constraints_start);
         return print!(err; "constraint root {j}");
     }
-    let part = std::num::wrapping_sub_usize(place, b.pairs_start);
+    let part = place.wrapping_sub(b.pairs_start);
     if part % 2 == 0 {
         print!(err; "the input of lookup pair {}", (part / 2) as u64)?;
     } else {
@@ -25,8 +22,8 @@ fn root(err: Stderr, b: Bounds, place: usize) -> io::Result<()> {
 }
 
 // A root that is no node, or an Item.
-fn root_why(err: Stderr, circuit: &[u64], b: Bounds, place: usize) -> io::Result<()> {
-    let n = word_at(circuit, place);
+fn root_why(err: Stderr, b: Bounds, place: usize) -> io::Result<()> {
+    let n = b.word(place);
     root(err, b, place)?;
     if n < b.nodes {
         return println!(err; " is {n}, an Item");
@@ -36,14 +33,14 @@ fn root_why(err: Stderr, circuit: &[u64], b: Bounds, place: usize) -> io::Result
     }
     println!(err;
         " is {n}, from 0 to {}",
-        std::num::wrapping_sub_u64(b.nodes, 1)
+        b.nodes.wrapping_sub(1)
     )
 }
 
 // By what a node is named, at the place of a word.
 fn by(err: Stderr, b: Bounds, place: usize) -> io::Result<()> {
     if place < b.constraints_start {
-        let part = std::num::wrapping_sub_usize(place, b.nodes_start);
+        let part = place.wrapping_sub(b.nodes_start);
         return print!(err; "by node {}", (part / 4) as u64);
     }
     print!(err; "as ")?;
@@ -51,13 +48,15 @@ fn by(err: Stderr, b: Bounds, place: usize) -> io::Result<()> {
 }
 
 // By what node n is named at first, and then.
-fn by_two(err: Stderr, circuit: &[u64], b: Bounds, n: u64, named: u64) -> io::Result<()> {
-    let first = next_name(circuit, b, b.nodes_start, n);
-    let second = next_name(circuit, b, after(first, 1), n);
-    print!(err; ": ")?;
-    by(err, b, first)?;
-    print!(err; " and ")?;
-    by(err, b, second)?;
+fn by_two(err: Stderr, b: Bounds, n: u64, named: u64) -> io::Result<()> {
+    let mut from = b.nodes_start;
+    for before in [": ", " and "] {
+        if let Some(place) = next_name(b, from, n) {
+            print!(err; "{before}")?;
+            by(err, b, place)?;
+            from = place.wrapping_add(1);
+        }
+    }
     if named > 2 {
         print!(err; ", and more")?;
     }
@@ -65,11 +64,11 @@ fn by_two(err: Stderr, circuit: &[u64], b: Bounds, n: u64, named: u64) -> io::Re
 }
 
 // How often node n is named.
-fn names_why(err: Stderr, circuit: &[u64], b: Bounds, n: u64) -> io::Result<()> {
-    let named = times(circuit, b, n);
+fn names_why(err: Stderr, b: Bounds, n: u64) -> io::Result<()> {
+    let named = times(b, n);
     print!(err; "node {n} is named {named} times")?;
     if named > 1 {
-        by_two(err, circuit, b, n, named)?;
+        by_two(err, b, n, named)?;
     } else {
         print!(err; ", exactly once is asked")?;
     }
@@ -89,31 +88,32 @@ fn unused_why(err: Stderr, kind: u64, part: usize) -> io::Result<()> {
     }
 }
 
-// A name that is not right.
-fn name_why(err: Stderr, n: u64, named: u64, what: u64) -> io::Result<()> {
-    print!(err; "node {n} names node {named}")?;
-    match what {
-        HIGH => println!(err; ", a node names lower nodes only"),
-        ITEM => println!(err; ", an Item, which only the second of kind 11 or 12 names"),
-        NO_ITEM => println!(err; ", which is no Item"),
-        _ => println!(err; ", the last Item, and kind 11 has two Items or more"),
-    }
-}
 
 // What is wrong with a word of node n but its kind.
-fn word_why(err: Stderr, n: u64, part: usize, kind: u64, held: u64, what: u64) -> io::Result<()> {
-    if what == UNUSED {
-        return unused_why(err, kind, part);
-    }
-    if what == LARGE {
-        return println!(err; "a value of kind {kind} is at most {}", largest(kind));
-    }
-    name_why(err, n, held, what)
+fn word_why(
+    err: Stderr,
+    n: u64,
+    part: usize,
+    kind: u64,
+    held: u64,
+    wrong: Wrong,
+) -> io::Result<()> {
+    let name = match wrong {
+        Wrong::Unused => return unused_why(err, kind, part),
+        Wrong::Large => {
+            return println!(err; "a value of kind {kind} is at most {}", largest(kind));
+        }
+        Wrong::High => "a node names lower nodes only",
+        Wrong::Item => "an Item, which only the second of kind 11 or 12 names",
+        Wrong::NoItem => "which is no Item",
+        Wrong::LastItem => "the last Item, and kind 11 has two Items or more",
+    };
+    println!(err; "node {n} names node {held}, {name}")
 }
 
-fn kind_why(err: Stderr, circuit: &[u64], b: Bounds, n: u64, kind: u64) -> io::Result<()> {
+fn kind_why(err: Stderr, b: Bounds, n: u64, kind: u64) -> io::Result<()> {
     if is_kind(kind) {
-        names_why(err, circuit, b, n)?;
+        names_why(err, b, n)?;
     } else {
         println!(err; "kind {kind}, from {} to {}", kind::CONSTANT, kind::ITEM)?;
     }
@@ -121,32 +121,21 @@ fn kind_why(err: Stderr, circuit: &[u64], b: Bounds, n: u64, kind: u64) -> io::R
 }
 
 // Of a word of the nodes.
-fn node_why(err: Stderr, circuit: &[u64], b: Bounds, place: usize) -> io::Result<()> {
-    let offset = std::num::wrapping_sub_usize(place, b.nodes_start);
+fn node_why(err: Stderr, b: Bounds, place: usize) -> io::Result<()> {
+    let offset = place.wrapping_sub(b.nodes_start);
     let part = offset % 4;
     let n = (offset / 4) as u64;
-    let at = std::num::wrapping_sub_usize(place, part);
-    let kind = word_at(circuit, at);
-    let held = word_at(circuit, place);
-    match part {
-        0 => kind_why(err, circuit, b, n, kind),
-        1 => word_why(
-            err,
-            n,
-            part,
-            kind,
-            held,
-            first_why(circuit, b.nodes_start, at, n),
-        ),
-        2 => word_why(
-            err,
-            n,
-            part,
-            kind,
-            held,
-            second_why(circuit, b.nodes_start, at, n),
-        ),
-        _ => word_why(err, n, part, kind, held, value_why(circuit, at)),
+    let at = place.wrapping_sub(part);
+    let kind = b.word(at);
+    let wrong = match part {
+        0 => return kind_why(err, b, n, kind),
+        1 => first_wrong(b, at, n),
+        2 => second_wrong(b, at, n),
+        _ => value_wrong(b, at),
+    };
+    match wrong {
+        Some(wrong) => word_why(err, n, part, kind, b.word(place), wrong),
+        None => Ok(()),
     }
 }
 
@@ -154,9 +143,9 @@ fn node_why(err: Stderr, circuit: &[u64], b: Bounds, place: usize) -> io::Result
 pub fn layout_why(err: Stderr, circuit: &[u64], place: usize) -> io::Result<()> {
     let b = bounds_of(circuit);
     if place < b.constraints_start {
-        node_why(err, circuit, b, place)?;
+        node_why(err, b, place)?;
     } else {
-        root_why(err, circuit, b, place)?;
+        root_why(err, b, place)?;
     }
     Ok(())
 }

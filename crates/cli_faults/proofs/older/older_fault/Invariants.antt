@@ -1,5 +1,0 @@
-use Rattle.std.proofs.Common.{◌-◌}
-use Rattle.cli_faults.proofs.older.older_fault.Given as goal
-
-abbrev pub decreases-loop-s : goal.decreases-loop-s
-decreases-loop-s l = 9 - l.s
