@@ -14,4 +14,4 @@ copied_of-copied-requires c = told-yes _ _ c.sizes-told.ensures.0 c.if-told-ne0.
 
 pub accepted-requires : goal.accepted-requires
 accepted-requires c =
-    (told-yes _ _ c.sizes-told.ensures.0 c.if-told-ne0.false, c.len.ensures.value ∙ ap (λ (xs : List ℕ). length xs) c.copied_of-copied.ensures.columns)
+    (told-yes _ _ c.sizes-told.ensures.0 c.if-told-ne0.false, c.len-2.ensures.value ∙ ap (λ (xs : List ℕ). length xs) c.copied_of-copied.ensures.columns)
