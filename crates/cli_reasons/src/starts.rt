@@ -78,7 +78,7 @@ pub fn limit_why(err: Stderr, circuit: &[u64], place: usize) -> io::Result<()> {
             word_at(circuit, place)
         );
     }
-    let sum = sum_of(b.lengths_start, 1, b.lengths);
+    let sum = sum_of(circuit, b.lengths_start, 1, b.lengths);
     sum_why(err, "cells in all, by the cycle lengths: ", sum, 4096)
 }
 
@@ -101,7 +101,7 @@ pub fn start_why(err: Stderr, circuit: &[u64], place: usize) -> io::Result<()> {
     }
     if place == CELL_COUNT {
         let b = bounds_of(circuit);
-        let sum = sum_of(b.lengths_start, 1, b.lengths);
+        let sum = sum_of(circuit, b.lengths_start, 1, b.lengths);
         return println!(err; "cells: {}, the cycle lengths sum to {sum}", b.cells);
     }
     if place == GROUP_COUNT {
