@@ -37,10 +37,7 @@ fn there(at: usize, so: bool) -> Option<usize> {
 
 fn count_fault(b: Bounds, at: usize) -> Option<usize> {
     let count = b.word(at);
-    there(
-        at,
-        limit_of(at) < count || at == ROUND_COUNT && count == 0,
-    )
+    there(at, limit_of(at) < count || at == ROUND_COUNT && count == 0)
 }
 
 // "every round a witness column, every round but the last a challenge"
@@ -235,11 +232,23 @@ fn fault_9(b: Bounds) -> Option<usize> {
 
 // A group number, else a width or a table of a lookup.
 fn fault_18(b: Bounds) -> Option<usize> {
-    let number = search(b, b.groups_start, 1, b.lookups, |at, i| number_fault(b, at, i));
+    let number = search(
+        b,
+        b.groups_start,
+        1,
+        b.lookups,
+        |at, i| number_fault(b, at, i),
+    );
     if number.is_some() {
         return number;
     }
-    search(b, b.widths_start, 1, b.lookups, |at, i| table_fault(b, at, i))
+    search(
+        b,
+        b.widths_start,
+        1,
+        b.lookups,
+        |at, i| table_fault(b, at, i),
+    )
 }
 
 // A constraint's root, else the first pair of a group.

@@ -23,12 +23,7 @@ fn two(out: Stdout, first: &str, n: u64, second: &str, m: u64) -> io::Result<()>
 
 fn columns(out: Stdout, b: Bounds) -> io::Result<()> {
     let instances = b.word(INSTANCE_COUNT);
-    let values = sum_of(
-        b.words,
-        b.word(INSTANCE_START) as usize,
-        1,
-        instances,
-    );
+    let values = sum_of(b.words, b.word(INSTANCE_START) as usize, 1, instances);
     two(
         out,
         "instance columns: ",
@@ -36,10 +31,7 @@ fn columns(out: Stdout, b: Bounds) -> io::Result<()> {
         ", values in all: ",
         values,
     )?;
-    println!(out;
-        "preprocess columns: {}",
-        b.word(PREPROCESS_COUNT)
-    )?;
+    println!(out; "preprocess columns: {}", b.word(PREPROCESS_COUNT))?;
     print!(out; "rounds: {}", b.rounds)?;
     two(
         out,

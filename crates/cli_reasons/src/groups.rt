@@ -50,10 +50,7 @@ fn width_why(err: Stderr, b: Bounds, i: u64) -> io::Result<()> {
         width_of(b, i)
     )?;
     against(err, b, i)?;
-    println!(err;
-        ", has width {}",
-        width_of(b, first_of(b, i))
-    )
+    println!(err; ", has width {}", width_of(b, first_of(b, i)))
 }
 
 fn tree_why(err: Stderr, b: Bounds, place: usize) -> io::Result<()> {

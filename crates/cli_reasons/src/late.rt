@@ -88,15 +88,9 @@ fn user_why(err: Stderr, b: Bounds, n: u64) -> io::Result<()> {
 // A kept rotation out of range.
 fn rotation_why(err: Stderr, kept: u64, k: u64) -> io::Result<()> {
     if kept < SIGNED_OFFSET {
-        print!(err;
-            "rotation -{}",
-            SIGNED_OFFSET.wrapping_sub(kept)
-        )?;
+        print!(err; "rotation -{}", SIGNED_OFFSET.wrapping_sub(kept))?;
     } else {
-        print!(err;
-            "rotation {}",
-            kept.wrapping_sub(SIGNED_OFFSET)
-        )?;
+        print!(err; "rotation {}", kept.wrapping_sub(SIGNED_OFFSET))?;
     }
     println!(err; ", from -{k} to {k}")
 }

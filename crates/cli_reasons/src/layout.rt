@@ -31,10 +31,7 @@ fn root_why(err: Stderr, b: Bounds, place: usize) -> io::Result<()> {
     if b.nodes == 0 {
         return println!(err; " is {n}, there is no node");
     }
-    println!(err;
-        " is {n}, from 0 to {}",
-        b.nodes.wrapping_sub(1)
-    )
+    println!(err; " is {n}, from 0 to {}", b.nodes.wrapping_sub(1))
 }
 
 // By what a node is named, at the place of a word.
@@ -87,7 +84,6 @@ fn unused_why(err: Stderr, kind: u64, part: usize) -> io::Result<()> {
         _ => println!(err; " does not use its value: expected 0"),
     }
 }
-
 
 // What is wrong with a word of node n but its kind.
 fn word_why(

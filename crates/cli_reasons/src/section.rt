@@ -1,6 +1,7 @@
 // The section that a word of the circuit stands in, and its name.
 use backend_sections::contents::{
-    CELLS, CONSTRAINTS, GROUPS, INSTANCES, LENGTHS, NEXT_START, NODES, PAIRS, PREPROCESS, ROUNDS, WIDTHS,
+    CELLS, CONSTRAINTS, GROUPS, INSTANCES, LENGTHS, NEXT_START, NODES, PAIRS, PREPROCESS, ROUNDS,
+    WIDTHS,
 };
 use lists::word_at;
 use std::io;

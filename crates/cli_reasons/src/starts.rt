@@ -1,9 +1,9 @@
 // What is said of questions 2 to 4: k, counts and sums with their limits, starts and lengths.
 use crate::section::{section_name, section_of};
 use backend_sections::contents::{
-    CELL_COUNT, CONSTRAINT_COUNT, FIRST_START, GROUP_COUNT, INSTANCE_COUNT,
-    K_WORD, LENGTH_COUNT, NODE_COUNT, PAIR_COUNT, PREPROCESS_COUNT, ROUND_COUNT, ROUND_START, ROUNDS,
-    STATED_WORD, WIDTH_COUNT, WIDTH_START, WIDTHS,
+    CELL_COUNT, CONSTRAINT_COUNT, FIRST_START, GROUP_COUNT, INSTANCE_COUNT, K_WORD, LENGTH_COUNT,
+    NODE_COUNT, PAIR_COUNT, PREPROCESS_COUNT, ROUND_COUNT, ROUND_START, ROUNDS, STATED_WORD,
+    WIDTH_COUNT, WIDTH_START, WIDTHS,
 };
 use cli_faults::bounds::{Bounds, SECTIONS, bounds_of, sum_of};
 use cli_faults::fault::{begins, limit_of, widths_sum};
