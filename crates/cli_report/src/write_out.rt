@@ -43,10 +43,17 @@ fn column_title(to: &mut impl Write, c: usize, s: &Shape) -> io::Result<()> {
 
 // Writes each column with its title.
 fn write_columns(to: &mut impl Write, columns: &[u64], s: &Shape) -> io::Result<()> {
-    if s.rows == 0 || columns.len() < s.column_words {
+    let words = columns.get(..s.column_words).unwrap_or(columns);
+    if words.is_empty() {
+        return Ok(());
+    }
+    if s.rows == 0 {
         return Err(unwritten());
     }
-    for (c, column) in columns[..s.column_words].chunks(s.rows).enumerate() {
+    for (c, column) in words.chunks(s.rows).enumerate() {
+        if column.len() < s.rows {
+            return Err(unwritten());
+        }
         column_title(to, c, s)?;
         write_words(to, column, 8)?;
     }
@@ -59,8 +66,6 @@ pub fn write_out(to: &mut impl Write, built: &Built) -> io::Result<()> {
     writeln!(to, "# columns, words to each: {}", s.rows)?;
     write_columns(to, built.columns, s)?;
     writeln!(to, "# nodes (kind first second value): {}", s.nodes)?;
-    match built.nodes.get(..(s.nodes << 2) as usize) {
-        Some(nodes) => write_words(to, nodes, 4),
-        None => Err(unwritten()),
-    }
+    let words = (s.nodes << 2) as usize;
+    write_words(to, built.nodes.get(..words).unwrap_or(built.nodes), 4)
 }
