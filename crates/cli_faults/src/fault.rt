@@ -82,7 +82,10 @@ fn passes(b: Bounds, start: usize, step: usize, count: u64, limit: u64) -> Optio
     let mut left = limit;
     let mut at = start;
     for _ in 0..at_most_all(b.words, count) {
-        left = left.checked_sub(b.word(at))?;
+        let Some(rest) = left.checked_sub(b.word(at)) else {
+            return Some(at);
+        };
+        left = rest;
         at = at.wrapping_add(step);
     }
     None
