@@ -5,27 +5,27 @@ ghost use Rattle.lists.specs.Lists.{all_of, tabulate, concat};
 ghost use Rattle.backend.specs.Layout as def;
 ghost use Rattle.backend_nodes.specs.Tally.{Room, Tally};
 
-use expression::kind;
+use expression::kind::{Kind, NoKind};
 use expression::node::SIGNED_OFFSET;
 
 // "an unused word is 0": has a node of this kind the words that it may have?
 fn shaped(kind: u64, first: u64, second: u64, value: u64) -> bool
     ensures { result ≡ def.shaped (kind_of kind) first second value }
 {
-    match kind {
-        kind::CONSTANT => (first == 0) & (second == 0),
-        kind::IDENTITY => (first == 0) & (second == 0) & (value == 0),
-        kind::LAGRANGE => (first == 0) & (second == 0) & (value < 4294967296),
-        kind::EQ_XY => (first == 0) & (second == 0),
-        kind::POLYNOMIAL => (second == 0) & (value < 4294967296),
-        kind::CHALLENGE => (second == 0) & (value == 0),
-        kind::NEGATED => (second == 0) & (value == 0),
-        kind::SUM => value == 0,
-        kind::PRODUCT => value == 0,
-        kind::SCALED => second == 0,
-        kind::DISTRIBUTE_POWERS => value == 0,
-        kind::ITEM => (value == 1) | (value == 0) & (second == 0),
-        _ => false,
+    match Kind::try_from(kind) {
+        Ok(Kind::Constant) => (first == 0) & (second == 0),
+        Ok(Kind::Identity) => (first == 0) & (second == 0) & (value == 0),
+        Ok(Kind::Lagrange) => (first == 0) & (second == 0) & (value < 4294967296),
+        Ok(Kind::EqXy) => (first == 0) & (second == 0),
+        Ok(Kind::Polynomial) => (second == 0) & (value < 4294967296),
+        Ok(Kind::Challenge) => (second == 0) & (value == 0),
+        Ok(Kind::Negated) => (second == 0) & (value == 0),
+        Ok(Kind::Sum) => value == 0,
+        Ok(Kind::Product) => value == 0,
+        Ok(Kind::Scaled) => second == 0,
+        Ok(Kind::DistributePowers) => value == 0,
+        Ok(Kind::Item) => (value == 1) | (value == 0) & (second == 0),
+        Err(NoKind) => false,
     }
 }
 
@@ -34,7 +34,7 @@ fn plain(nodes: &[u64], limit: usize, node: u64) -> bool
     requires { limit ≤ def.node_count nodes.now }
     ensures { result ≡ def.right nodes.now limit (def.plain node) }
 {
-    node < limit as u64 && nodes[node as usize * 4] != kind::ITEM
+    node < limit as u64 && nodes[node as usize * 4] != Kind::Item as u64
 }
 
 // A node that another names as an Item: lower than `limit`, and an Item.
@@ -42,7 +42,7 @@ fn item(nodes: &[u64], limit: usize, node: u64) -> bool
     requires { limit ≤ def.node_count nodes.now }
     ensures { result ≡ def.right nodes.now limit (def.as_item node) }
 {
-    node < limit as u64 && nodes[node as usize * 4] == kind::ITEM
+    node < limit as u64 && nodes[node as usize * 4] == Kind::Item as u64
 }
 
 // The first Item of a list: an Item, and not the last.
@@ -66,14 +66,20 @@ fn in_place(nodes: &[u64], n: usize) -> bool
     if !shaped(kind, first, second, value) {
         return false;
     }
-    match kind {
-        kind::NEGATED => plain(nodes, n, first),
-        kind::SUM => plain(nodes, n, first) & plain(nodes, n, second),
-        kind::PRODUCT => plain(nodes, n, first) & plain(nodes, n, second),
-        kind::SCALED => plain(nodes, n, first),
-        kind::DISTRIBUTE_POWERS => plain(nodes, n, first) & first_item(nodes, n, second),
-        kind::ITEM => plain(nodes, n, first) & ((value == 0) | item(nodes, n, second)),
-        _ => true,
+    match Kind::try_from(kind) {
+        Ok(Kind::Negated) => plain(nodes, n, first),
+        Ok(Kind::Sum) => plain(nodes, n, first) & plain(nodes, n, second),
+        Ok(Kind::Product) => plain(nodes, n, first) & plain(nodes, n, second),
+        Ok(Kind::Scaled) => plain(nodes, n, first),
+        Ok(Kind::DistributePowers) => plain(nodes, n, first) & first_item(nodes, n, second),
+        Ok(Kind::Item) => plain(nodes, n, first) & ((value == 0) | item(nodes, n, second)),
+        Ok(Kind::Constant) => true,
+        Ok(Kind::Identity) => true,
+        Ok(Kind::Lagrange) => true,
+        Ok(Kind::EqXy) => true,
+        Ok(Kind::Polynomial) => true,
+        Ok(Kind::Challenge) => true,
+        Err(NoKind) => true,
     }
 }
 
@@ -114,32 +120,38 @@ fn count_named(counts: &mut [u64; 1024], kind: u64, first: u64, second: u64, val
     requires { Room counts.old 2 }
     ensures { Tally counts.old (def.named (kind_of kind) first second value) counts.new }
 {
-    match kind {
-        kind::NEGATED => {
+    match Kind::try_from(kind) {
+        Ok(Kind::Negated) => {
             count_name(counts, first);
         }
-        kind::SUM => {
-            count_name(counts, first);
-            count_name(counts, second);
-        }
-        kind::PRODUCT => {
+        Ok(Kind::Sum) => {
             count_name(counts, first);
             count_name(counts, second);
         }
-        kind::SCALED => {
-            count_name(counts, first);
-        }
-        kind::DISTRIBUTE_POWERS => {
+        Ok(Kind::Product) => {
             count_name(counts, first);
             count_name(counts, second);
         }
-        kind::ITEM => {
+        Ok(Kind::Scaled) => {
+            count_name(counts, first);
+        }
+        Ok(Kind::DistributePowers) => {
+            count_name(counts, first);
+            count_name(counts, second);
+        }
+        Ok(Kind::Item) => {
             count_name(counts, first);
             if value != 0 {
                 count_name(counts, second);
             }
         }
-        _ => {}
+        Ok(Kind::Constant) => {}
+        Ok(Kind::Identity) => {}
+        Ok(Kind::Lagrange) => {}
+        Ok(Kind::EqXy) => {}
+        Ok(Kind::Polynomial) => {}
+        Ok(Kind::Challenge) => {}
+        Err(NoKind) => {}
     }
 }
 
@@ -223,10 +235,10 @@ fn in_range(nodes: &[u64], n: usize, polys: u64, user: u64, k: u64) -> bool
     ensures { result ≡ def.by_words (def.in_range polys user k) nodes.now n }
 {
     let at = n * 4;
-    match nodes[at] {
-        kind::EQ_XY => false,
-        kind::POLYNOMIAL => (nodes[at + 1] < polys) & rotation_in_range(nodes[at + 3], k),
-        kind::CHALLENGE => nodes[at + 1] < user,
+    match Kind::try_from(nodes[at]) {
+        Ok(Kind::EqXy) => false,
+        Ok(Kind::Polynomial) => (nodes[at + 1] < polys) & rotation_in_range(nodes[at + 3], k),
+        Ok(Kind::Challenge) => nodes[at + 1] < user,
         _ => true,
     }
 }

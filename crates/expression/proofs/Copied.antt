@@ -8,12 +8,12 @@ use lib.Dec.{eqb}
 use borrow.Author.Tests.{eqb-true, eqb-false}
 use Rattle.expression.specs.declared.node.Node.{Node}
 use Rattle.expression.specs.Expr.{Expr, Exprs}
-use Rattle.expression.specs.Nodes.{kind_of, node_of, no_expr, no_exprs, expr_of, items_of}
+use Rattle.expression.specs.Nodes.{Kind, kind_of, node_of, no_expr, no_exprs, expr_of, items_of}
 use Rattle.expression.specs.Read.{node_at}
 use Rattle.expression.specs.Flat.{body, sizes, extra, size}
 use Rattle.expression.specs.Written.{Pushed, ExprWritten, WrittenOne, WrittenPair, WrittenBase, WrittenList}
 use Rattle.expression.proofs.Signed.{kept_signed}
-use Rattle.expression.proofs.Step.{under_yes, under_no, by_kind, low, low_items, node_read, of_kind, items_last, items_more}
+use Rattle.expression.proofs.Step.{under_yes, under_no, low, low_items, node_read, of_kind, items_last, items_more}
 use Rattle.expression.proofs.Written.{
   written_as,
   written_constant,
@@ -60,31 +60,16 @@ module _ (ws : List ℕ) (n : ℕ) (d : Node) (read : d ≡ node_at ws n) {from 
   unfolding kind_of node_of
   challenge_copied k p = written_as (of_kind ws n d read 6 k) (written_challenge p)
 
-  -- no kind, or an Item's: Constant 0
-  pub other_copied : (d.kind ≡ 1 → ⊥) → (d.kind ≡ 2 → ⊥) → (d.kind ≡ 3 → ⊥) → (d.kind ≡ 4 → ⊥) → (d.kind ≡ 5 → ⊥)
-      → (d.kind ≡ 6 → ⊥)
-      → (d.kind ≡ 7 → ⊥)
-      → (d.kind ≡ 8 → ⊥)
-      → (d.kind ≡ 9 → ⊥)
-      → (d.kind ≡ 10 → ⊥)
-      → (d.kind ≡ 11 → ⊥)
-      → Pushed from at 1 0 0 0 b a next
-      → ExprWritten from (expr_of ws n) at b a next
-  other_copied h1 h2 h3 h4 h5 h6 h7 h8 h9 h10 h11 p =
+  -- an Item, and a node of no kind: Constant 0
+  pub item_copied : d.kind ≡ 12 → Pushed from at 1 0 0 0 b a next → ExprWritten from (expr_of ws n) at b a next
+  unfolding kind_of node_of
+  item_copied k p = written_as (of_kind ws n d read 12 k) (written_constant p)
+
+  pub no_kind_copied : kind_of d.kind ≡ Kind.is_none → Pushed from at 1 0 0 0 b a next → ExprWritten from (expr_of ws n) at b a next
+  unfolding node_of
+  no_kind_copied k p =
       written_as
-      (node_read ws n d read
-      ∙ by_kind (λ (e : Expr). e ≡ no_expr) (low ws n) (low_items ws n) d.first d.second d.value d.kind (λ z. absurd (h1 z))
-      (λ z. absurd (h2 z))
-      (λ z. absurd (h3 z))
-      (λ z. absurd (h4 z))
-      (λ z. absurd (h5 z))
-      (λ z. absurd (h6 z))
-      (λ z. absurd (h7 z))
-      (λ z. absurd (h8 z))
-      (λ z. absurd (h9 z))
-      (λ z. absurd (h10 z))
-      (λ z. absurd (h11 z))
-      refl)
+      (node_read ws n d read ∙ ap (λ (x : Kind). node_of x (low ws n) (low_items ws n) d.first d.second d.value) k)
       (written_constant p)
 
   -- ---- parts

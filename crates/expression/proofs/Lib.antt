@@ -17,3 +17,4 @@ pub mod Queries
 pub mod Written
 pub mod Copied
 pub mod Same
+pub mod NumberedKinds

@@ -5,12 +5,15 @@ use mathlib.Core.List.{List}
 use Prim.Native.Nat.{ℕ, ◌+◌, ◌≤◌, ◌<◌, min}
 use native.Mathlib.Omega.{arith}
 use Rattle.expression.specs.declared.node.Node.{Node}
+use Rattle.expression.specs.declared.kind.Kind as Numbered
+use Rattle.expression.specs.declared.kind.Kind.TheVariants.{Constant, Identity, Lagrange, EqXy, Polynomial, Challenge, Negated, Sum, Product, Scaled, DistributePowers, Item}
 use Rattle.expression.specs.Expr.{Expr, Exprs}
-use Rattle.expression.specs.Nodes.{node_of, kind_of, under, no_expr, no_exprs, expr_of, items_of}
+use Rattle.expression.specs.Kinds as kinds
+use Rattle.expression.specs.Nodes.{Kind, node_of, kind_of, under, no_expr, no_exprs, expr_of, items_of}
 use Rattle.expression.specs.Read.{node_at}
 use Rattle.expression.specs.Flat.{largest_size}
 use Rattle.expression.specs.Walks.{weight, weights}
-use Rattle.expression.proofs.Step.{under_yes, under_no, by_kind, low, low_items, node_read, of_kind, items_last, items_more}
+use Rattle.expression.proofs.Step.{under_yes, under_no, low, low_items, node_read, of_kind, items_last, items_more}
 
 abbrev cap : ℕ → ℕ
 cap x = min largest_size x
@@ -46,23 +49,39 @@ module _ (item : ℕ) (ws : List ℕ) (n a b : ℕ) where
       ∙ ap (λ (x : ℕ). cap (weights item (low_items ws n x))) q
 
 module _ (item : ℕ) (ws : List ℕ) (n : ℕ) (d : Node) (read : d ≡ node_at ws n) where
-  pub size_other : (d.kind ≡ 7 → ⊥) → (d.kind ≡ 8 → ⊥) → (d.kind ≡ 9 → ⊥) → (d.kind ≡ 10 → ⊥) → (d.kind ≡ 11 → ⊥)
+  of_read : (j : Kind) → kind_of d.kind ≡ j
+      → 1 ≡ cap (weight item (node_of j (low ws n) (low_items ws n) d.first d.second d.value))
       → 1 ≡ cap (weight item (expr_of ws n))
-  unfolding weight
-  size_other h7 h8 h9 h10 h11 =
-      by_kind (λ (e : Expr). 1 ≡ cap (weight item e)) (low ws n) (low_items ws n) d.first d.second d.value d.kind (λ z. refl)
-      (λ z. refl)
-      (λ z. refl)
-      (λ z. refl)
-      (λ z. refl)
-      (λ z. refl)
-      (λ z. absurd (h7 z))
-      (λ z. absurd (h8 z))
-      (λ z. absurd (h9 z))
-      (λ z. absurd (h10 z))
-      (λ z. absurd (h11 z))
-      refl
-      ∙ sym (ap (λ (e : Expr). cap (weight item e)) (node_read ws n d read))
+  of_read j k h =
+      h
+      ∙ sym
+      (ap (λ (e : Expr). cap (weight item e))
+      (node_read ws n d read ∙ ap (λ (x : Kind). node_of x (low ws n) (low_items ws n) d.first d.second d.value) k))
+
+  -- a node that names none
+  pub size_leaf : {kind : Numbered.Kind} → (kinds.number kind ≡ d.kind) × (kind_of d.kind ≡ kinds.read_as kind) → (kind ≡ Negated → ⊥)
+      → (kind ≡ Sum → ⊥)
+      → (kind ≡ Product → ⊥)
+      → (kind ≡ Scaled → ⊥)
+      → (kind ≡ DistributePowers → ⊥)
+      → 1 ≡ cap (weight item (expr_of ws n))
+  unfolding node_of weight
+  size_leaf {kind = Constant} e h7 h8 h9 h10 h11 = of_read Kind.is_constant e.1 refl
+  size_leaf {kind = Identity} e h7 h8 h9 h10 h11 = of_read Kind.is_identity e.1 refl
+  size_leaf {kind = Lagrange} e h7 h8 h9 h10 h11 = of_read Kind.is_lagrange e.1 refl
+  size_leaf {kind = EqXy} e h7 h8 h9 h10 h11 = of_read Kind.is_eq_xy e.1 refl
+  size_leaf {kind = Polynomial} e h7 h8 h9 h10 h11 = of_read Kind.is_polynomial e.1 refl
+  size_leaf {kind = Challenge} e h7 h8 h9 h10 h11 = of_read Kind.is_challenge e.1 refl
+  size_leaf {kind = Negated} e h7 h8 h9 h10 h11 = absurd (h7 refl)
+  size_leaf {kind = Sum} e h7 h8 h9 h10 h11 = absurd (h8 refl)
+  size_leaf {kind = Product} e h7 h8 h9 h10 h11 = absurd (h9 refl)
+  size_leaf {kind = Scaled} e h7 h8 h9 h10 h11 = absurd (h10 refl)
+  size_leaf {kind = DistributePowers} e h7 h8 h9 h10 h11 = absurd (h11 refl)
+  size_leaf {kind = Item} e h7 h8 h9 h10 h11 = of_read Kind.is_item e.1 refl
+
+  pub size_none : kind_of d.kind ≡ Kind.is_none → 1 ≡ cap (weight item (expr_of ws n))
+  unfolding node_of weight
+  size_none k = of_read Kind.is_none k refl
 
   module _ (x : ℕ) (hx : x ≡ cap (weight item (low ws n d.first))) where
     module _ (r : ℕ) (hr : r ≡ cap (1 + x)) where

@@ -8,8 +8,8 @@ ghost use Rattle.expression.specs.Nodes.{expr_of, items_of, under, no_expr, no_e
 ghost use Rattle.expression.specs.Flat.{largest_size};
 ghost use Rattle.expression.specs.Walks.{cap_ops, weight, weights};
 
-use expression::kind;
-use expression_nodes::{index, read_node};
+use expression::kind::Kind;
+use expression_nodes::read_node;
 use expression_walk::{Operations, node};
 
 // No more nodes than these are counted: 2^60.
@@ -96,21 +96,20 @@ pub fn size_of(ws: &[u64], n: usize, item: u64) -> u64
     ensures { result ≡ min largest_size (weight item (expr_of ws.now n)) }
 {
     let d = read_node(ws, n);
-    let kind = d.kind;
-    match kind {
-        kind::NEGATED => add_sizes(1, lower_size(ws, n, d.first, item)),
-        kind::SUM => {
+    match Kind::try_from(d.kind) {
+        Ok(Kind::Negated) => add_sizes(1, lower_size(ws, n, d.first, item)),
+        Ok(Kind::Sum) => {
             let x = lower_size(ws, n, d.first, item);
             let y = lower_size(ws, n, d.second, item);
             add_sizes(1, add_sizes(x, y))
         }
-        kind::PRODUCT => {
+        Ok(Kind::Product) => {
             let x = lower_size(ws, n, d.first, item);
             let y = lower_size(ws, n, d.second, item);
             add_sizes(1, add_sizes(x, y))
         }
-        kind::SCALED => add_sizes(1, lower_size(ws, n, d.first, item)),
-        kind::DISTRIBUTE_POWERS => {
+        Ok(Kind::Scaled) => add_sizes(1, lower_size(ws, n, d.first, item)),
+        Ok(Kind::DistributePowers) => {
             let base = lower_size(ws, n, d.first, item);
             let items = lower_items_size(ws, n, d.second, item);
             add_sizes(1, add_sizes(items, base))
@@ -124,7 +123,7 @@ fn lower_size(ws: &[u64], n: usize, a: u64, item: u64) -> u64
     requires { n * 4 + 4 ≤ length ws.now }
     ensures { result ≡ min largest_size (weight item (under n no_expr (expr_of ws.now) a)) }
 {
-    let b = index(a);
+    let b = a as usize;
     if b < n {
         return size_of(ws, b, item);
     }
@@ -151,7 +150,7 @@ fn lower_items_size(ws: &[u64], n: usize, a: u64, item: u64) -> u64
     requires { n * 4 + 4 ≤ length ws.now }
     ensures { result ≡ min largest_size (weights item (under n no_exprs (items_of ws.now) a)) }
 {
-    let b = index(a);
+    let b = a as usize;
     if b < n {
         return items_size(ws, b, item);
     }

@@ -6,7 +6,7 @@ ghost use Rattle.field.specs.Element.{elem};
 ghost use Rattle.expression.specs.Nodes.{decode_signed};
 ghost use Rattle.expression.specs.Point.{PointInOrder};
 
-use crate::{index, rotation_of};
+use crate::rotation_of;
 use bh::rotations::rotate;
 use expression::node::SIGNED_OFFSET;
 use expression::value::Point;
@@ -17,7 +17,7 @@ pub fn lagrange(point: &Point, word: u64) -> Goldilocks
     requires { PointInOrder point.now }
     ensures { elem result ≡ cond (eqb point.now.row (lagrange_row point.now.k (decode_signed word))) 𝔾.one 𝔾.zero }
 {
-    if index(word & ((1 << point.k) - 1)) == point.place {
+    if (word & ((1 << point.k) - 1)) as usize == point.place {
         return Goldilocks::ONE;
     }
     Goldilocks::ZERO

@@ -30,12 +30,6 @@ pub fn read_node(ws: &[u64], n: usize) -> Node
     }
 }
 
-pub fn index(x: u64) -> usize
-    ensures { result ≡ x }
-{
-    x as usize
-}
-
 // d rows on.
 fn forward(d: u64) -> Rotation
     requires { d < 2 ^ 31 }

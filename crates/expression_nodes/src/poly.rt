@@ -4,7 +4,6 @@ ghost use Rattle.field.specs.Field.{𝔾, el};
 ghost use Rattle.expression.specs.Value.{poly_of};
 ghost use Rattle.expression.specs.Reader.{polys_of, LayoutSmall, slice_words};
 
-use crate::index;
 use expression::poly::Layout;
 use lists::word_at;
 
@@ -34,7 +33,7 @@ pub fn poly_at(
     let witnesses = layout.witness;
     let permutations = layout.permutations;
     let rest = layout.rest;
-    let at = index(q);
+    let at = q as usize;
     if at < instances {
         return cell(columns, 0, at, rows, row);
     }
@@ -61,19 +60,4 @@ pub fn poly_at(
         );
     }
     0
-}
-
-// Polynomial q at a row, of those that are given: 0 where there is none.
-pub fn given_at(
-    circuit: &[u64],
-    witness: &[u64],
-    columns: &[u64],
-    layout: Layout,
-    q: u64,
-    row: usize,
-) -> u64
-    requires { LayoutSmall layout × ((layout.permutations ≡ 0) × (layout.rest ≡ 0)) × (row < 1048576) }
-    ensures { el result ≡ poly_of 𝔾 (polys_of layout circuit.now witness.now columns.now) q row }
-{
-    poly_at(circuit, witness, columns, &layout, q, row)
 }

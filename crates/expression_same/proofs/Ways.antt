@@ -14,6 +14,8 @@ use Rattle.expression.specs.Nodes.{Kind, decode_signed, node_of, kind_of, guard,
 use Rattle.expression.specs.Read.{node_at}
 use Rattle.expression.specs.Same.{Tree, Trees, tree_of, trees_of, same_tree, same_trees, same_expr, same_exprs}
 use Rattle.expression.proofs.Step.{under_no, by_kind, low, low_items, node_read, items_last, items_more}
+use Rattle.expression.specs.declared.kind.Kind.TheVariants.{Constant}
+use Rattle.expression.proofs.NumberedKinds.{none_word}
 use Rattle.expression.proofs.Signed.{signed_same}
 use Rattle.expression.proofs.Same.{same_expr_is}
 use Rattle.expression_same.specs.Places.{placed, no_node, alone}
@@ -167,50 +169,17 @@ module _ (f : ℕ → Expr) (g : ℕ → Exprs) (a b v : ℕ) where
   kind_is_is (suc (suc (suc (suc (suc (suc (suc (suc (suc (suc (suc zero))))))))))) l m = refl
   kind_is_is (suc (suc (suc (suc (suc (suc (suc (suc (suc (suc (suc (suc k)))))))))))) l m = absurd (omega arith)
 
-  -- the kinds that keep their value alone
-  valued : (b' v' k : ℕ) → 1 ≤ k → k ≤ 11 → (k ≡ 2 → ⊥) → (k ≡ 5 → ⊥) → (k ≡ 6 → ⊥) → (k ≡ 7 → ⊥) → (k ≡ 8 → ⊥) → (k ≡ 9 → ⊥)
-      → (k ≡ 11 → ⊥)
-      → (a' : ℕ)
-      → same_expr (node_of (kind_of k) (λ c. no_expr) (λ c. no_exprs) a b v) (node_of (kind_of k) (λ c. no_expr) (λ c. no_exprs) a' b' v') ≡ eqb v v'
-  unfolding same_expr same_tree tree_of node_of kind_of
-  valued b' v' zero l m h2 h5 h6 h7 h8 h9 h11 a' = absurd (omega arith)
-  valued b' v' (suc zero) l m h2 h5 h6 h7 h8 h9 h11 a' = and-true (eqb v v')
-  valued b' v' (suc (suc zero)) l m h2 h5 h6 h7 h8 h9 h11 a' = absurd (h2 refl)
-  valued b' v' (suc (suc (suc zero))) l m h2 h5 h6 h7 h8 h9 h11 a' = and-true (sameℤ (decode_signed v) (decode_signed v')) ∙ signed_same v v'
-  valued b' v' (suc (suc (suc (suc zero)))) l m h2 h5 h6 h7 h8 h9 h11 a' = and-true (eqb v v')
-  valued b' v' (suc (suc (suc (suc (suc zero))))) l m h2 h5 h6 h7 h8 h9 h11 a' = absurd (h5 refl)
-  valued b' v' (suc (suc (suc (suc (suc (suc zero)))))) l m h2 h5 h6 h7 h8 h9 h11 a' = absurd (h6 refl)
-  valued b' v' (suc (suc (suc (suc (suc (suc (suc zero))))))) l m h2 h5 h6 h7 h8 h9 h11 a' = absurd (h7 refl)
-  valued b' v' (suc (suc (suc (suc (suc (suc (suc (suc zero)))))))) l m h2 h5 h6 h7 h8 h9 h11 a' = absurd (h8 refl)
-  valued b' v' (suc (suc (suc (suc (suc (suc (suc (suc (suc zero))))))))) l m h2 h5 h6 h7 h8 h9 h11 a' = absurd (h9 refl)
-  valued b' v' (suc (suc (suc (suc (suc (suc (suc (suc (suc (suc zero)))))))))) l m h2 h5 h6 h7 h8 h9 h11 a' = and-true (eqb v v')
-  valued b' v' (suc (suc (suc (suc (suc (suc (suc (suc (suc (suc (suc zero))))))))))) l m h2 h5 h6 h7 h8 h9 h11 a' = absurd (h11 refl)
-  valued b' v' (suc (suc (suc (suc (suc (suc (suc (suc (suc (suc (suc (suc k)))))))))))) l m h2 h5 h6 h7 h8 h9 h11 a' = absurd (omega arith)
-
--- a kind that no expression has
+-- a node that is no expression's
 none_of : Kind → Node → Type 0
 none_of k d = no_expr ≡ node_of k (λ a. no_expr) (λ a. no_exprs) d.first d.second d.value
 
-pub none_zero : (d : Node) → d.kind ≡ 0 → no_expr ≡ alone d
+pub alone_item : (d : Node) → d.kind ≡ 12 → no_expr ≡ alone d
 unfolding alone none_of node_of kind_of
-none_zero d h = subst (λ (k : ℕ). none_of (kind_of k) d) (sym h) refl
+alone_item d h = subst (λ (k : ℕ). none_of (kind_of k) d) (sym h) refl
 
-pub none_past : (d : Node) → 11 < d.kind → no_expr ≡ alone d
-unfolding alone
-none_past d h =
-    by_kind (λ (x : Expr). no_expr ≡ x) (λ a. no_expr) (λ a. no_exprs) d.first d.second d.value d.kind
-    (λ z. absurd (omega arith))
-    (λ z. absurd (omega arith))
-    (λ z. absurd (omega arith))
-    (λ z. absurd (omega arith))
-    (λ z. absurd (omega arith))
-    (λ z. absurd (omega arith))
-    (λ z. absurd (omega arith))
-    (λ z. absurd (omega arith))
-    (λ z. absurd (omega arith))
-    (λ z. absurd (omega arith))
-    (λ z. absurd (omega arith))
-    refl
+pub alone_none : (d : Node) → kind_of d.kind ≡ Kind.is_none → no_expr ≡ alone d
+unfolding alone none_of node_of
+alone_none d h = subst (λ (k : Kind). none_of k d) (sym h) refl
 
 -- two nodes, each as an expression's: x for d, y for e
 module _ (d e x y : Node) (hx : (1 ≤ x.kind) × ((x.kind ≤ 11) × (alone x ≡ alone d))) (hy : (1 ≤ y.kind) × ((y.kind ≤ 11) × (alone y ≡ alone e))) where
@@ -276,20 +245,31 @@ module _ (d e x y : Node) (hx : (1 ≤ x.kind) × ((x.kind ≤ 11) × (alone x �
     unfolding of same_expr same_tree tree_of node_of kind_of
     top_powers k = at true 11 k refl
 
-    pub top_value : (x.kind ≡ 2 → ⊥) → (x.kind ≡ 5 → ⊥) → (x.kind ≡ 6 → ⊥) → (x.kind ≡ 7 → ⊥) → (x.kind ≡ 8 → ⊥)
-        → (x.kind ≡ 9 → ⊥)
-        → (x.kind ≡ 11 → ⊥)
-        → eqb x.value y.value ≡ same_expr (alone d) (alone e)
-    unfolding of
-    top_value h2 h5 h6 h7 h8 h9 h11 =
-        sym
-        (valued (λ a. no_expr) (λ a. no_exprs) x.first x.second x.value y.second y.value x.kind hx.0 hx.1.0 h2 h5 h6
-        h7
-        h8
-        h9
-        h11
-        y.first)
-        ∙ of_is
+    pub top_constant : x.kind ≡ 1 → eqb x.value y.value ≡ same_expr (alone d) (alone e)
+    unfolding of same_expr same_tree tree_of node_of kind_of
+    top_constant k = at (eqb x.value y.value) 1 k (sym (and-true (eqb x.value y.value)))
+
+    pub top_lagrange : x.kind ≡ 3 → eqb x.value y.value ≡ same_expr (alone d) (alone e)
+    unfolding of same_expr same_tree tree_of node_of kind_of
+    top_lagrange k = at (eqb x.value y.value) 3 k (sym (and-true (sameℤ (decode_signed x.value) (decode_signed y.value)) ∙ signed_same x.value y.value))
+
+    pub top_eq_xy : x.kind ≡ 4 → eqb x.value y.value ≡ same_expr (alone d) (alone e)
+    unfolding of same_expr same_tree tree_of node_of kind_of
+    top_eq_xy k = at (eqb x.value y.value) 4 k (sym (and-true (eqb x.value y.value)))
+
+    pub top_scaled : x.kind ≡ 10 → eqb x.value y.value ≡ same_expr (alone d) (alone e)
+    unfolding of same_expr same_tree tree_of node_of kind_of
+    top_scaled k = at (eqb x.value y.value) 10 k (sym (and-true (eqb x.value y.value)))
+
+    pub top_no_item : x.kind ≡ 12 → ⊥
+    top_no_item k = let l = hx.1.0 in omega arith
+
+    pub top_some : kind_of x.kind ≡ Kind.is_none → ⊥
+    unfolding node_of tree_of kind_in
+    top_some k =
+        none_word k Constant
+        (sym (kind_is_is (λ a. no_expr) (λ a. no_exprs) x.first x.second x.value x.kind hx.0 hx.1.0)
+        ∙ ap (λ (j : Kind). kind_in (tree_of (node_of j (λ a. no_expr) (λ a. no_exprs) x.first x.second x.value))) k)
 
 -- ---- two places: t tells whether the tops are the same
 module _ (ws : List ℕ) (p q : ℕ) (d e : Node) (rd : d ≡ placed no_node (node_at ws) p) (re : e ≡ placed no_node (node_at ws) q) (t : Bool)

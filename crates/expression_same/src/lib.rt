@@ -8,9 +8,9 @@ ghost use Rattle.expression.specs.Read.{node_at};
 ghost use Rattle.expression.specs.Same.{same_expr, same_exprs};
 ghost use Rattle.expression_same.specs.Places.{placed, no_node, alone};
 
-use expression::kind;
+use expression::kind::{Kind, NoKind};
 use expression::node::Node;
-use expression_nodes::{index, read_node};
+use expression_nodes::read_node;
 
 // Are the trees of nodes a and b the same?
 pub fn same_tree(ws: &[u64], a: usize, b: usize) -> bool
@@ -31,21 +31,20 @@ fn same_at(ws: &[u64], p: usize, q: usize) -> bool
     if !same_top(d, e) {
         return false;
     }
-    let kind = d.kind;
-    match kind {
-        kind::NEGATED => same_lower(ws, p, q, d.first, e.first),
-        kind::SUM => {
+    match Kind::try_from(d.kind) {
+        Ok(Kind::Negated) => same_lower(ws, p, q, d.first, e.first),
+        Ok(Kind::Sum) => {
             let x = same_lower(ws, p, q, d.first, e.first);
             let y = same_lower(ws, p, q, d.second, e.second);
             x & y
         }
-        kind::PRODUCT => {
+        Ok(Kind::Product) => {
             let x = same_lower(ws, p, q, d.first, e.first);
             let y = same_lower(ws, p, q, d.second, e.second);
             x & y
         }
-        kind::SCALED => same_lower(ws, p, q, d.first, e.first),
-        kind::DISTRIBUTE_POWERS => {
+        Ok(Kind::Scaled) => same_lower(ws, p, q, d.first, e.first),
+        Ok(Kind::DistributePowers) => {
             let x = same_lower(ws, p, q, d.first, e.first);
             let y = lower_items(ws, p, q, d.second, e.second);
             x & y
@@ -120,7 +119,7 @@ fn place(p: usize, a: u64) -> usize
     if p == 0 {
         return 0;
     }
-    let b = index(a);
+    let b = a as usize;
     if b < p - 1 {
         return b + 1;
     }
@@ -136,16 +135,21 @@ fn same_top(d: Node, e: Node) -> bool
     if x.kind != y.kind {
         return false;
     }
-    let kind = x.kind;
-    match kind {
-        kind::IDENTITY => true,
-        kind::POLYNOMIAL => (x.first == y.first) & (x.value == y.value),
-        kind::CHALLENGE => x.first == y.first,
-        kind::NEGATED => true,
-        kind::SUM => true,
-        kind::PRODUCT => true,
-        kind::DISTRIBUTE_POWERS => true,
-        _ => x.value == y.value,
+    match Kind::try_from(x.kind) {
+        Ok(Kind::Identity) => true,
+        Ok(Kind::Polynomial) => (x.first == y.first) & (x.value == y.value),
+        Ok(Kind::Challenge) => x.first == y.first,
+        Ok(Kind::Negated) => true,
+        Ok(Kind::Sum) => true,
+        Ok(Kind::Product) => true,
+        Ok(Kind::DistributePowers) => true,
+        Ok(Kind::Constant) => x.value == y.value,
+        Ok(Kind::Lagrange) => x.value == y.value,
+        Ok(Kind::EqXy) => x.value == y.value,
+        Ok(Kind::Scaled) => x.value == y.value,
+        // `as_expression` leaves neither.
+        Ok(Kind::Item) => false,
+        Err(NoKind) => false,
     }
 }
 
@@ -153,22 +157,15 @@ fn same_top(d: Node, e: Node) -> bool
 fn as_expression(d: Node) -> Node
     ensures { (1 ≤ result.kind) × ((result.kind ≤ 11) × (alone result ≡ alone d)) }
 {
-    let kind = d.kind;
-    if kind == 0 {
-        return Node {
-            kind: kind::CONSTANT,
-            first: 0,
-            second: 0,
-            value: 0,
-        };
+    let zero = Node {
+        kind: Kind::Constant as u64,
+        first: 0,
+        second: 0,
+        value: 0,
+    };
+    match Kind::try_from(d.kind) {
+        Ok(Kind::Item) => zero,
+        Err(NoKind) => zero,
+        _ => d,
     }
-    if kind::DISTRIBUTE_POWERS < kind {
-        return Node {
-            kind: kind::CONSTANT,
-            first: 0,
-            second: 0,
-            value: 0,
-        };
-    }
-    d
 }

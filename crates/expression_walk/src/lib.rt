@@ -2,13 +2,12 @@
 // only, and the walk goes down by their numbers.
 #![tactic(auto)]
 
-ghost use Rattle.std.specs.Prelude.{◌≡◌, ◌≢◌, ℕ, ◌+◌, ◌*◌, ◌≤◌, length};
+ghost use Rattle.std.specs.Prelude.{◌≡◌, ◌+◌, ◌*◌, ◌≤◌, length};
 ghost use Rattle.expression.specs.Expr.{Ops, evaluate, powers_first, powers_rest};
 ghost use Rattle.expression.specs.Nodes.{expr_of, items_of, under, no_expr, decode_signed};
-ghost use Rattle.expression.specs.Read.{node_at};
 
-use expression::kind;
-use expression_nodes::{index, read_node};
+use expression::kind::{Kind, NoKind};
+use expression_nodes::read_node;
 
 // What is computed at each node (the functions that Rust's `evaluate` takes), over values of one type. `ops` are the operations
 // that they meet, over what the values stand for. A signed number comes as the word that keeps it.
@@ -60,68 +59,67 @@ pub fn node<O: Operations>(ops: &O, nodes: &[u64], n: usize) -> O::Value
     lower(ops, nodes, nodes.len() / 4, n as u64)
 }
 
-// What node a computes where it is below n, and else what the constant 0 does. A query and a challenge are read at once.
+// What node a computes where it is below n, and else what the constant 0 does. A query and a challenge are read here at once, which
+// keeps the tests of these two kinds before the jump by kind.
 #[cycle(walk)]
 pub fn lower<O: Operations>(ops: &O, nodes: &[u64], n: usize, a: u64) -> O::Value
     requires { n * 4 ≤ length nodes.now }
     ensures { O.meaning result ≡ evaluate (O.ops ops.now) (under n no_expr (expr_of nodes.now) a) }
 {
-    let b = index(a);
-    if b < n {
-        let d = read_node(nodes, b);
-        let kind = d.kind;
-        if kind == kind::POLYNOMIAL {
-            return ops.poly(d.first, d.value);
-        }
-        if kind == kind::CHALLENGE {
-            return ops.challenge(d.first);
-        }
-        return inner(ops, nodes, b);
+    let b = a as usize;
+    if n <= b {
+        return ops.constant(0);
     }
-    ops.constant(0)
+    let named = read_node(nodes, b);
+    match Kind::try_from(named.kind) {
+        Ok(Kind::Polynomial) => ops.poly(named.first, named.value),
+        Ok(Kind::Challenge) => ops.challenge(named.first),
+        _ => inner(ops, nodes, b),
+    }
 }
 
-// What node n computes. `lower` reads a query and a challenge itself, and calls this for the other kinds; the node is read once
-// more here, which keeps the tests of those two kinds before the jump by kind.
+// What node n computes. An Item is no expression.
 #[cycle(walk)]
 fn inner<O: Operations>(ops: &O, nodes: &[u64], n: usize) -> O::Value
-    requires { (n * 4 + 4 ≤ length nodes.now) × ((node_at nodes.now n).kind ≢ 5) × ((node_at nodes.now n).kind ≢ 6) }
+    requires { n * 4 + 4 ≤ length nodes.now }
     ensures { O.meaning result ≡ evaluate (O.ops ops.now) (expr_of nodes.now n) }
 {
     let d = read_node(nodes, n);
-    let kind = d.kind;
-    match kind {
-        kind::CONSTANT => ops.constant(d.value),
-        kind::IDENTITY => ops.identity(),
-        kind::LAGRANGE => ops.lagrange(d.value),
-        kind::EQ_XY => ops.eq_xy(d.value),
-        kind::NEGATED => {
+    match Kind::try_from(d.kind) {
+        Ok(Kind::Constant) => ops.constant(d.value),
+        Ok(Kind::Identity) => ops.identity(),
+        Ok(Kind::Lagrange) => ops.lagrange(d.value),
+        Ok(Kind::EqXy) => ops.eq_xy(d.value),
+        Ok(Kind::Polynomial) => ops.poly(d.first, d.value),
+        Ok(Kind::Challenge) => ops.challenge(d.first),
+        Ok(Kind::Negated) => {
             let x = lower(ops, nodes, n, d.first);
             ops.negated(x)
         }
-        kind::SUM => {
+        Ok(Kind::Sum) => {
             let x = lower(ops, nodes, n, d.first);
             let y = lower(ops, nodes, n, d.second);
             ops.sum(x, y)
         }
-        kind::PRODUCT => {
+        Ok(Kind::Product) => {
             let x = lower(ops, nodes, n, d.first);
             let y = lower(ops, nodes, n, d.second);
             ops.product(x, y)
         }
-        kind::SCALED => {
+        Ok(Kind::Scaled) => {
             let x = lower(ops, nodes, n, d.first);
             ops.scaled(x, d.value)
         }
-        kind::DISTRIBUTE_POWERS => {
+        Ok(Kind::DistributePowers) => {
             let base = lower(ops, nodes, n, d.first);
-            let item = index(d.second);
+            let item = d.second as usize;
             if item < n {
                 return chain(ops, nodes, item, base);
             }
             ops.constant(0)
         }
-        _ => ops.constant(0),
+        Ok(Kind::Item) => ops.constant(0),
+        Err(NoKind) => ops.constant(0),
     }
 }
 
@@ -136,7 +134,7 @@ fn chain<O: Operations>(ops: &O, nodes: &[u64], n: usize, base: O::Value) -> O::
     if d.value == 0 {
         return x;
     }
-    let item = index(d.second);
+    let item = d.second as usize;
     if item < n {
         return items(ops, nodes, item, base, base, x);
     }
@@ -166,7 +164,7 @@ fn items<O: Operations>(
         return sum;
     }
     let p = ops.product(power, base);
-    let item = index(d.second);
+    let item = d.second as usize;
     if item < n {
         return items(ops, nodes, item, base, p, sum);
     }

@@ -7,12 +7,13 @@ pub mod operations;
 ghost use Rattle.std.specs.Prelude.{◌≡◌, ◌+◌, ◌*◌, ◌≤◌, ◌<◌, [], ◌∷◌, length};
 ghost use Rattle.lists.specs.Lists.{write_window};
 ghost use Rattle.expression.specs.Expr.{Expr};
+ghost use Rattle.expression.specs.Kinds.{number};
 ghost use Rattle.expression.specs.Nodes.{expr_of, items_of, under, no_expr, no_exprs};
 ghost use Rattle.expression.specs.Flat.{size, sizes, extra};
 ghost use Rattle.expression.specs.Written.{most_words, Pushed, ExprWritten, WrittenOne, WrittenPair, WrittenBase, WrittenList};
 
-use expression::kind;
-use expression_nodes::{index, read_node};
+use expression::kind::{Kind, NoKind};
+use expression_nodes::read_node;
 
 // What writing a list returns: the next node's number, and the base's.
 #[derive(Clone, Copy)]
@@ -55,6 +56,22 @@ pub fn push(
     at + 1
 }
 
+// Writes a node of a kind, and returns the next node's number.
+pub fn push_node(
+    nodes: &mut [u64],
+    from: usize,
+    at: usize,
+    kind: Kind,
+    first: u64,
+    second: u64,
+    value: u64,
+) -> usize
+    requires { at * 4 + 4 ≤ most_words }
+    ensures { Pushed from at (number kind) first second value nodes.old nodes.new result }
+{
+    push(nodes, from, at, u64::from(kind), first, second, value)
+}
+
 // Writes the expression at node n of ws from node `at` on, and returns the next node's number.
 #[cycle(copy_base_copy_expr_copy_items_copy_low_copy_one_copy_pair_copy_powers)]
 pub fn copy_expr(ws: &[u64], nodes: &mut [u64], from: usize, n: usize, at: usize) -> usize
@@ -62,20 +79,20 @@ pub fn copy_expr(ws: &[u64], nodes: &mut [u64], from: usize, n: usize, at: usize
     ensures { ExprWritten from (expr_of ws.now n) at nodes.old nodes.new result }
 {
     let d = read_node(ws, n);
-    let k = d.kind;
-    match k {
-        kind::CONSTANT => push(nodes, from, at, kind::CONSTANT, 0, 0, d.value),
-        kind::IDENTITY => push(nodes, from, at, kind::IDENTITY, 0, 0, 0),
-        kind::LAGRANGE => push(nodes, from, at, kind::LAGRANGE, 0, 0, d.value),
-        kind::EQ_XY => push(nodes, from, at, kind::EQ_XY, 0, 0, d.value),
-        kind::POLYNOMIAL => push(nodes, from, at, kind::POLYNOMIAL, d.first, 0, d.value),
-        kind::CHALLENGE => push(nodes, from, at, kind::CHALLENGE, d.first, 0, 0),
-        kind::NEGATED => copy_one(ws, nodes, from, n, at, kind::NEGATED, d.first, 0),
-        kind::SUM => copy_pair(ws, nodes, from, n, at, kind::SUM, d.first, d.second),
-        kind::PRODUCT => copy_pair(ws, nodes, from, n, at, kind::PRODUCT, d.first, d.second),
-        kind::SCALED => copy_one(ws, nodes, from, n, at, kind::SCALED, d.first, d.value),
-        kind::DISTRIBUTE_POWERS => copy_powers(ws, nodes, from, n, at, d.first, d.second),
-        _ => push(nodes, from, at, kind::CONSTANT, 0, 0, 0),
+    match Kind::try_from(d.kind) {
+        Ok(Kind::Constant) => push_node(nodes, from, at, Kind::Constant, 0, 0, d.value),
+        Ok(Kind::Identity) => push_node(nodes, from, at, Kind::Identity, 0, 0, 0),
+        Ok(Kind::Lagrange) => push_node(nodes, from, at, Kind::Lagrange, 0, 0, d.value),
+        Ok(Kind::EqXy) => push_node(nodes, from, at, Kind::EqXy, 0, 0, d.value),
+        Ok(Kind::Polynomial) => push_node(nodes, from, at, Kind::Polynomial, d.first, 0, d.value),
+        Ok(Kind::Challenge) => push_node(nodes, from, at, Kind::Challenge, d.first, 0, 0),
+        Ok(Kind::Negated) => copy_one(ws, nodes, from, n, at, Kind::Negated, d.first, 0),
+        Ok(Kind::Sum) => copy_pair(ws, nodes, from, n, at, Kind::Sum, d.first, d.second),
+        Ok(Kind::Product) => copy_pair(ws, nodes, from, n, at, Kind::Product, d.first, d.second),
+        Ok(Kind::Scaled) => copy_one(ws, nodes, from, n, at, Kind::Scaled, d.first, d.value),
+        Ok(Kind::DistributePowers) => copy_powers(ws, nodes, from, n, at, d.first, d.second),
+        Ok(Kind::Item) => push_node(nodes, from, at, Kind::Constant, 0, 0, 0),
+        Err(NoKind) => push_node(nodes, from, at, Kind::Constant, 0, 0, 0),
     }
 }
 
@@ -85,11 +102,11 @@ fn copy_low(ws: &[u64], nodes: &mut [u64], from: usize, n: usize, at: usize, a: 
     requires { (n * 4 + 4 ≤ length ws.now) × ((at + size (under n no_expr (expr_of ws.now) a)) * 4 ≤ most_words) }
     ensures { ExprWritten from (under n no_expr (expr_of ws.now) a) at nodes.old nodes.new result }
 {
-    let c = index(a);
+    let c = a as usize;
     if c < n {
         return copy_expr(ws, nodes, from, c, at);
     }
-    push(nodes, from, at, kind::CONSTANT, 0, 0, 0)
+    push_node(nodes, from, at, Kind::Constant, 0, 0, 0)
 }
 
 // A node of a kind with one part.
@@ -100,15 +117,15 @@ fn copy_one(
     from: usize,
     n: usize,
     at: usize,
-    kind: u64,
+    kind: Kind,
     a: u64,
     value: u64,
 ) -> usize
     requires { (n * 4 + 4 ≤ length ws.now) × ((at + size (under n no_expr (expr_of ws.now) a) + 1) * 4 ≤ most_words) }
-    ensures { WrittenOne from kind (under n no_expr (expr_of ws.now) a) value at nodes.old nodes.new result }
+    ensures { WrittenOne from (number kind) (under n no_expr (expr_of ws.now) a) value at nodes.old nodes.new result }
 {
     let x = copy_low(ws, nodes, from, n, at, a);
-    push(nodes, from, x, kind, (x - 1) as u64, 0, value)
+    push_node(nodes, from, x, kind, (x - 1) as u64, 0, value)
 }
 
 // A node of a kind with two parts.
@@ -119,16 +136,16 @@ fn copy_pair(
     from: usize,
     n: usize,
     at: usize,
-    kind: u64,
+    kind: Kind,
     a: u64,
     b: u64,
 ) -> usize
     requires { (n * 4 + 4 ≤ length ws.now) × ((at + size (under n no_expr (expr_of ws.now) a) + size (under n no_expr (expr_of ws.now) b) + 1) * 4 ≤ most_words) }
-    ensures { WrittenPair from kind (under n no_expr (expr_of ws.now) a) (under n no_expr (expr_of ws.now) b) at nodes.old nodes.new result }
+    ensures { WrittenPair from (number kind) (under n no_expr (expr_of ws.now) a) (under n no_expr (expr_of ws.now) b) at nodes.old nodes.new result }
 {
     let x = copy_low(ws, nodes, from, n, at, a);
     let y = copy_low(ws, nodes, from, n, x, b);
-    push(nodes, from, y, kind, (x - 1) as u64, (y - 1) as u64, 0)
+    push_node(nodes, from, y, kind, (x - 1) as u64, (y - 1) as u64, 0)
 }
 
 // A DistributePowers with its base and its first Item.
@@ -146,11 +163,11 @@ fn copy_powers(
     ensures { ExprWritten from (Expr.powers (under n no_exprs (items_of ws.now) item) (under n no_expr (expr_of ws.now) base)) at nodes.old nodes.new result }
 {
     let l = copy_items(ws, nodes, from, n, at, base, n, item);
-    push(
+    push_node(
         nodes,
         from,
         l.next,
-        kind::DISTRIBUTE_POWERS,
+        Kind::DistributePowers,
         l.base as u64,
         (l.next - 1) as u64,
         0,
@@ -172,7 +189,7 @@ fn copy_items(
     requires { (n * 4 + 4 ≤ length ws.now) × ((bound ≤ n) × ((at + sizes (under bound no_exprs (items_of ws.now) item) + size (under n no_expr (expr_of ws.now) base) + extra (under bound no_exprs (items_of ws.now) item) + 1) * 4 ≤ most_words)) }
     ensures { WrittenList from (under bound no_exprs (items_of ws.now) item) (under n no_expr (expr_of ws.now) base) at nodes.old nodes.new result.next result.base }
 {
-    let i = index(item);
+    let i = item as usize;
     if i < bound {
         let d = read_node(ws, i);
         let x = copy_low(ws, nodes, from, i, at, d.first);
@@ -180,18 +197,18 @@ fn copy_items(
             return copy_base(ws, nodes, from, n, x, base);
         }
         let l = copy_items(ws, nodes, from, n, x, base, i, d.second);
-        let next = push(
+        let next = push_node(
             nodes,
             from,
             l.next,
-            kind::ITEM,
+            Kind::Item,
             (x - 1) as u64,
             (l.next - 1) as u64,
             1,
         );
         return Listed { next, base: l.base };
     }
-    let x = push(nodes, from, at, kind::CONSTANT, 0, 0, 0);
+    let x = push_node(nodes, from, at, Kind::Constant, 0, 0, 0);
     copy_base(ws, nodes, from, n, x, base)
 }
 
@@ -202,6 +219,6 @@ fn copy_base(ws: &[u64], nodes: &mut [u64], from: usize, n: usize, at: usize, ba
     ensures { WrittenBase from (under n no_expr (expr_of ws.now) base) at nodes.old nodes.new result.next result.base }
 {
     let y = copy_low(ws, nodes, from, n, at, base);
-    let next = push(nodes, from, y, kind::ITEM, (at - 1) as u64, 0, 0);
+    let next = push_node(nodes, from, y, Kind::Item, (at - 1) as u64, 0, 0);
     Listed { next, base: y - 1 }
 }

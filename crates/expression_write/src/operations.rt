@@ -1,11 +1,11 @@
 // "Operations become nodes": the queries, challenges, sums, products, negations and lists of the composed expression, each written by
-// `push` into a lent buffer.
+// `push_node` into a lent buffer.
 ghost use Rattle.std.specs.Prelude.{◌+◌, ◌-◌, ◌*◌, ◌≤◌, ◌<◌, pos};
 ghost use Rattle.expression.specs.Expr.{Expr};
 ghost use Rattle.expression.specs.Written.{most_words, Pushed, ExprWritten, WrittenBase};
 
-use crate::{Listed, push};
-use expression::kind;
+use crate::{Listed, push_node};
+use expression::kind::Kind;
 use expression::node::SIGNED_OFFSET;
 
 // ---- leaves, pairs
@@ -15,14 +15,14 @@ pub fn query(out: &mut [u64], from: usize, at: usize, q: u64) -> usize
     requires { at * 4 + 4 ≤ most_words }
     ensures { ExprWritten from (Expr.poly q (pos 0)) at out.old out.new result }
 {
-    push(out, from, at, kind::POLYNOMIAL, q, 0, SIGNED_OFFSET)
+    push_node(out, from, at, Kind::Polynomial, q, 0, SIGNED_OFFSET)
 }
 
 pub fn challenge(out: &mut [u64], from: usize, at: usize, i: u64) -> usize
     requires { at * 4 + 4 ≤ most_words }
     ensures { ExprWritten from (Expr.challenge i) at out.old out.new result }
 {
-    push(out, from, at, kind::CHALLENGE, i, 0, 0)
+    push_node(out, from, at, Kind::Challenge, i, 0, 0)
 }
 
 // The sum of the expression that ends before node x and the one that ends before node y.
@@ -30,18 +30,18 @@ pub fn sum(out: &mut [u64], from: usize, x: usize, y: usize) -> usize
     requires { (0 < x) × ((0 < y) × (y * 4 + 4 ≤ most_words)) }
     ensures { Pushed from y 8 (x - 1) (y - 1) 0 out.old out.new result }
 {
-    push(out, from, y, kind::SUM, (x - 1) as u64, (y - 1) as u64, 0)
+    push_node(out, from, y, Kind::Sum, (x - 1) as u64, (y - 1) as u64, 0)
 }
 
 pub fn product(out: &mut [u64], from: usize, x: usize, y: usize) -> usize
     requires { (0 < x) × ((0 < y) × (y * 4 + 4 ≤ most_words)) }
     ensures { Pushed from y 9 (x - 1) (y - 1) 0 out.old out.new result }
 {
-    push(
+    push_node(
         out,
         from,
         y,
-        kind::PRODUCT,
+        Kind::Product,
         (x - 1) as u64,
         (y - 1) as u64,
         0,
@@ -52,7 +52,7 @@ pub fn negated(out: &mut [u64], from: usize, x: usize) -> usize
     requires { (0 < x) × (x * 4 + 4 ≤ most_words) }
     ensures { Pushed from x 7 (x - 1) 0 0 out.old out.new result }
 {
-    push(out, from, x, kind::NEGATED, (x - 1) as u64, 0, 0)
+    push_node(out, from, x, Kind::Negated, (x - 1) as u64, 0, 0)
 }
 
 // ---- lists
@@ -63,7 +63,7 @@ pub fn list_end(out: &mut [u64], from: usize, x: usize, base: usize) -> Listed
     ensures { WrittenBase from (Expr.challenge base) x out.old out.new result.next result.base }
 {
     let y = challenge(out, from, x, base as u64);
-    let next = push(out, from, y, kind::ITEM, (x - 1) as u64, 0, 0);
+    let next = push_node(out, from, y, Kind::Item, (x - 1) as u64, 0, 0);
     Listed { next, base: y - 1 }
 }
 
@@ -72,11 +72,11 @@ pub fn item(out: &mut [u64], from: usize, x: usize, next: usize) -> usize
     requires { (0 < x) × ((0 < next) × (next * 4 + 4 ≤ most_words)) }
     ensures { Pushed from next 12 (x - 1) (next - 1) 1 out.old out.new result }
 {
-    push(
+    push_node(
         out,
         from,
         next,
-        kind::ITEM,
+        Kind::Item,
         (x - 1) as u64,
         (next - 1) as u64,
         1,
@@ -88,11 +88,11 @@ pub fn list_head(out: &mut [u64], from: usize, l: Listed) -> usize
     requires { (0 < l.next) × (l.next * 4 + 4 ≤ most_words) }
     ensures { Pushed from l.next 11 l.base (l.next - 1) 0 out.old out.new result }
 {
-    push(
+    push_node(
         out,
         from,
         l.next,
-        kind::DISTRIBUTE_POWERS,
+        Kind::DistributePowers,
         l.base as u64,
         (l.next - 1) as u64,
         0,

@@ -1,5 +1,8 @@
 -- The walk for the size: each way through the code is the size, capped.
-use Rattle.expression.proofs.Sizes.{size_lower, size_not_lower, listed_lower, listed_not_lower, listed_last, listed_more, size_negated, size_sum, size_product, size_scaled, size_powers, size_other}
+use mathlib.Core.Path.{refl}
+use Rattle.expression.specs.declared.kind.Kind.{Kind}
+use Rattle.expression.proofs.NumberedKinds.{kind_word, no_kind}
+use Rattle.expression.proofs.Sizes.{size_lower, size_not_lower, listed_lower, listed_not_lower, listed_last, listed_more, size_negated, size_sum, size_product, size_scaled, size_powers, size_leaf, size_none}
 use Rattle.expression_degree.proofs.+items_size_lower_items_size_lower_size_size_of.Goals as goal
 
 pub items_size-returns-then-d-eq0 : goal.items_size-returns-then-d-eq0
@@ -17,56 +20,62 @@ items_size-returns t c =
 pub lower_items_size-returns-then-b-n : goal.lower_items_size-returns-then-b-n
 lower_items_size-returns-then-b-n t c =
     let a = c.args in
-    listed_lower a.item a.ws.now a.n a.a c.index-b.result c.items_size.result c.index-b.ensures c.if-b-n.true c.items_size.ensures
+    listed_lower a.item a.ws.now a.n a.a a.a c.items_size.result refl c.if-b-n.true c.items_size.ensures
 
 pub lower_items_size-returns : goal.lower_items_size-returns
 lower_items_size-returns t c =
     let a = c.args in
-    listed_not_lower a.item a.ws.now a.n a.a c.index-b.result c.add_sizes.result c.index-b.ensures c.if-b-n.false c.add_sizes.ensures
+    listed_not_lower a.item a.ws.now a.n a.a a.a c.add_sizes.result refl c.if-b-n.false c.add_sizes.ensures
 
 pub lower_size-returns-then-b-n : goal.lower_size-returns-then-b-n
 lower_size-returns-then-b-n t c =
     let a = c.args in
-    size_lower a.item a.ws.now a.n a.a c.index-b.result c.size_of.result c.index-b.ensures c.if-b-n.true c.size_of.ensures
+    size_lower a.item a.ws.now a.n a.a a.a c.size_of.result refl c.if-b-n.true c.size_of.ensures
 
 pub lower_size-returns : goal.lower_size-returns
 lower_size-returns t c =
     let a = c.args in
-    size_not_lower a.item a.ws.now a.n a.a c.index-b.result c.index-b.ensures c.if-b-n.false
+    size_not_lower a.item a.ws.now a.n a.a a.a refl c.if-b-n.false
 
-pub size_of-returns-in-7 : goal.size_of-returns-in-7
-size_of-returns-in-7 t c =
+pub size_of-returns-in-Ok-Negated : goal.size_of-returns-in-Ok-Negated
+size_of-returns-in-Ok-Negated t c =
     let a = c.args in
     let d = c.read_node-d in
-    size_negated a.item a.ws.now a.n d.result d.ensures c.lower_size.result c.lower_size.ensures c.add_sizes.result c.add_sizes.ensures c.in-7.is
+    size_negated a.item a.ws.now a.n d.result d.ensures c.lower_size.result c.lower_size.ensures c.add_sizes.result c.add_sizes.ensures (kind_word Kind.Negated c.in-Ok-Negated.ensures c.in-Ok-Negated.field-0-is)
 
-pub size_of-returns-in-8 : goal.size_of-returns-in-8
-size_of-returns-in-8 t c =
+pub size_of-returns-in-Ok-Sum : goal.size_of-returns-in-Ok-Sum
+size_of-returns-in-Ok-Sum t c =
     let a = c.args in
     let d = c.read_node-d in
-    size_sum a.item a.ws.now a.n d.result d.ensures c.lower_size-x.result c.lower_size-x.ensures c.lower_size-y.result c.lower_size-y.ensures c.add_sizes-in-8.result c.add_sizes-in-8.ensures c.add_sizes-in-8-2.result c.add_sizes-in-8-2.ensures c.in-8.is
+    size_sum a.item a.ws.now a.n d.result d.ensures c.lower_size-x.result c.lower_size-x.ensures c.lower_size-y.result c.lower_size-y.ensures c.add_sizes-in-Ok-Sum.result c.add_sizes-in-Ok-Sum.ensures c.add_sizes-in-Ok-Sum-2.result c.add_sizes-in-Ok-Sum-2.ensures (kind_word Kind.Sum c.in-Ok-Sum.ensures c.in-Ok-Sum.field-0-is)
 
-pub size_of-returns-in-9 : goal.size_of-returns-in-9
-size_of-returns-in-9 t c =
+pub size_of-returns-in-Ok-Product : goal.size_of-returns-in-Ok-Product
+size_of-returns-in-Ok-Product t c =
     let a = c.args in
     let d = c.read_node-d in
-    size_product a.item a.ws.now a.n d.result d.ensures c.lower_size-x-in-9.result c.lower_size-x-in-9.ensures c.lower_size-y-in-9.result c.lower_size-y-in-9.ensures c.add_sizes-in-9.result c.add_sizes-in-9.ensures c.add_sizes-in-9-2.result c.add_sizes-in-9-2.ensures c.in-9.is
+    size_product a.item a.ws.now a.n d.result d.ensures c.lower_size-x-in-Ok-Product.result c.lower_size-x-in-Ok-Product.ensures c.lower_size-y-in-Ok-Product.result c.lower_size-y-in-Ok-Product.ensures c.add_sizes-in-Ok-Product.result c.add_sizes-in-Ok-Product.ensures c.add_sizes-in-Ok-Product-2.result c.add_sizes-in-Ok-Product-2.ensures (kind_word Kind.Product c.in-Ok-Product.ensures c.in-Ok-Product.field-0-is)
 
-pub size_of-returns-in-10 : goal.size_of-returns-in-10
-size_of-returns-in-10 t c =
+pub size_of-returns-in-Ok-Scaled : goal.size_of-returns-in-Ok-Scaled
+size_of-returns-in-Ok-Scaled t c =
     let a = c.args in
     let d = c.read_node-d in
-    size_scaled a.item a.ws.now a.n d.result d.ensures c.lower_size-in-10.result c.lower_size-in-10.ensures c.add_sizes-in-10.result c.add_sizes-in-10.ensures c.in-10.is
+    size_scaled a.item a.ws.now a.n d.result d.ensures c.lower_size-in-Ok-Scaled.result c.lower_size-in-Ok-Scaled.ensures c.add_sizes-in-Ok-Scaled.result c.add_sizes-in-Ok-Scaled.ensures (kind_word Kind.Scaled c.in-Ok-Scaled.ensures c.in-Ok-Scaled.field-0-is)
 
-pub size_of-returns-in-11 : goal.size_of-returns-in-11
-size_of-returns-in-11 t c =
+pub size_of-returns-in-Ok-DistributePowers : goal.size_of-returns-in-Ok-DistributePowers
+size_of-returns-in-Ok-DistributePowers t c =
     let a = c.args in
     let d = c.read_node-d in
-    size_powers a.item a.ws.now a.n d.result d.ensures c.lower_size-base.result c.lower_size-base.ensures c.lower_items_size-items.result c.lower_items_size-items.ensures c.add_sizes-in-11.result c.add_sizes-in-11.ensures c.add_sizes-in-11-2.result c.add_sizes-in-11-2.ensures c.in-11.is
+    size_powers a.item a.ws.now a.n d.result d.ensures c.lower_size-base.result c.lower_size-base.ensures c.lower_items_size-items.result c.lower_items_size-items.ensures c.add_sizes-in-Ok-DistributePowers.result c.add_sizes-in-Ok-DistributePowers.ensures c.add_sizes-in-Ok-DistributePowers-2.result c.add_sizes-in-Ok-DistributePowers-2.ensures (kind_word Kind.DistributePowers c.in-Ok-DistributePowers.ensures c.in-Ok-DistributePowers.field-0-is)
 
 pub size_of-returns-in_default : goal.size_of-returns-in_default
 size_of-returns-in_default t c =
     let a = c.args in
     let d = c.read_node-d in
-    let r = c.in_default.in_default-own.rest in
-    size_other a.item a.ws.now a.n d.result d.ensures r.0.0.0.0.1 r.0.0.0.1 r.0.0.1 r.0.1 r.1
+    let h = c.in_default.in_default-own.refused-1 in
+    size_leaf a.item a.ws.now a.n d.result d.ensures c.in_default.ensures (λ z. h.1 (rw z)) (λ z. h.2 (rw z)) (λ z. h.3 (rw z)) (λ z. h.4 (rw z)) (λ z. h.5 (rw z))
+
+pub size_of-returns-in_default-2 : goal.size_of-returns-in_default-2
+size_of-returns-in_default-2 t c =
+    let a = c.args in
+    let d = c.read_node-d in
+    size_none a.item a.ws.now a.n d.result d.ensures (no_kind d.result.kind c.try_from.result c.try_from.ensures c.in_default.is)

@@ -1,3 +1,4 @@
+use mathlib.Core.Path.{refl}
 use native.Mathlib.Omega.{arith}
 use Rattle.expression_same.proofs.Ways.{place_low, place_none}
 use Rattle.expression_same.proofs.place.Goals as goal
@@ -12,9 +13,9 @@ pub returns-then-b-p : goal.returns-then-b-p
 returns-then-b-p c =
     let a = c.args in
     let h = c.if-b-p.true in
-    (place_low a.p a.a c.index-b.result _ c.index-b.ensures h (omega arith), omega arith)
+    (place_low a.p a.a a.a _ refl h (omega arith), omega arith)
 
 pub returns : goal.returns
 returns c =
     let a = c.args in
-    (place_none a.p a.a c.index-b.result c.index-b.ensures c.if-b-p.false, omega arith)
+    (place_none a.p a.a a.a refl c.if-b-p.false, omega arith)

@@ -1,4 +1,4 @@
-use mathlib.Core.Path.{◌∙◌}
+use mathlib.Core.Path.{◌∙◌, refl}
 use Rattle.expression.specs.Value.{value_ops}
 use Rattle.expression.specs.Point.{environment_of}
 use Rattle.expression.proofs.Leaves.{challenge_is}
@@ -7,5 +7,5 @@ use Rattle.expression_evaluate.proofs.EvaluationOperations.challenge.Goals as go
 pub returns : goal.returns
 unfolding value_ops environment_of
 returns c =
-    c.from_u64.ensures
-    ∙ challenge_is c.args.self.now.challenges.now c.args.number c.index.result c.index.ensures _ c.word_at.ensures
+    c.from.ensures
+    ∙ challenge_is c.args.self.now.challenges.now c.args.number c.args.number refl _ c.word_at.ensures

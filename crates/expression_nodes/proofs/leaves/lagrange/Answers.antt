@@ -1,5 +1,5 @@
 -- `lagrange` meets its contract: the place that the word names.
-use mathlib.Core.Path.{subst⁻¹}
+use mathlib.Core.Path.{refl, subst⁻¹}
 use Prim.Native.Nat.{ℕ, ◌≤◌}
 use lib.Pow.{pow_pos}
 use Rattle.expression.proofs.Signed.{one_shifted}
@@ -11,20 +11,20 @@ overflow_sub-point c =
     let p = c.args.point.now in
     subst⁻¹ (λ (x : ℕ). 1 ≤ x) (one_shifted p.k c.requires.small) (pow_pos p.k)
 
-pub returns-then-index-point : goal.returns-then-index-point
-returns-then-index-point c =
+pub returns-then-word-point : goal.returns-then-word-point
+returns-then-word-point c =
     let p = c.args.point.now in
     let q = c.requires in
     lagrange_one p.k q.positive q.small p.row p.place c.args.word q.inside q.placed
-    c.index.result
-    c.index.ensures
-    c.if-index-point.true
+    _
+    refl
+    c.if-word-point.true
 
 pub returns : goal.returns
 returns c =
     let p = c.args.point.now in
     let q = c.requires in
     lagrange_zero p.k q.positive q.small p.row p.place c.args.word q.inside q.placed
-    c.index.result
-    c.index.ensures
-    c.if-index-point.false
+    _
+    refl
+    c.if-word-point.false

@@ -3,9 +3,9 @@ use Rattle.expression.specs.Flat.{body}
 use native.Mathlib.Omega.{arith}
 use Rattle.expression_write.proofs.operations.list_end.Goals as goal
 
-pub push-next-requires : goal.push-next-requires
+pub push_node-next-requires : goal.push_node-next-requires
 unfolding body
-push-next-requires c = omega (arith, c.requires)
+push_node-next-requires c = omega (arith, c.requires)
 
 pub returns : goal.returns
-returns c = written.written_base c.requires.0 c.challenge-y.ensures c.push-next.ensures
+returns c = written.written_base c.requires.0 c.challenge-y.ensures c.push_node-next.ensures
