@@ -34,11 +34,11 @@ impl<'a> Operations for Evaluation<'a> {
     ghost ops = { λ s. value_ops 𝔾 (environment s) s.point.row };
 
     fn constant(&self, value: u64) -> Goldilocks {
-        Goldilocks::from_u64(value)
+        Goldilocks::from(value)
     }
 
     fn identity(&self) -> Goldilocks {
-        Goldilocks::from_u64(self.point.row as u64)
+        Goldilocks::from(self.point.row as u64)
     }
 
     fn lagrange(&self, number: u64) -> Goldilocks {
@@ -46,7 +46,7 @@ impl<'a> Operations for Evaluation<'a> {
     }
 
     fn eq_xy(&self, _number: u64) -> Goldilocks {
-        Goldilocks::from_u64(self.point.eq)
+        Goldilocks::from(self.point.eq)
     }
 
     // A query of a polynomial, 0 where there is none.
@@ -60,28 +60,28 @@ impl<'a> Operations for Evaluation<'a> {
             polynomial,
             row,
         );
-        Goldilocks::from_u64(word)
+        Goldilocks::from(word)
     }
 
     // A challenge, 0 where there is none.
     fn challenge(&self, number: u64) -> Goldilocks {
-        Goldilocks::from_u64(word_at(self.challenges, index(number)))
+        Goldilocks::from(word_at(self.challenges, index(number)))
     }
 
     fn negated(&self, x: Goldilocks) -> Goldilocks {
-        x.neg()
+        -x
     }
 
     fn sum(&self, x: Goldilocks, y: Goldilocks) -> Goldilocks {
-        x.add(y)
+        x + y
     }
 
     fn product(&self, x: Goldilocks, y: Goldilocks) -> Goldilocks {
-        x.mul(y)
+        x * y
     }
 
     fn scaled(&self, x: Goldilocks, scalar: u64) -> Goldilocks {
-        x.mul(Goldilocks::from_u64(scalar))
+        x * Goldilocks::from(scalar)
     }
 }
 

@@ -7,5 +7,5 @@ use Rattle.expression_evaluate.proofs.EvaluationOperations.challenge.Goals as go
 pub returns : goal.returns
 unfolding value_ops environment_of
 returns c =
-    c.from_u64.ensures
+    c.from.ensures
     ∙ challenge_is c.args.self.now.challenges.now c.args.number c.index.result c.index.ensures _ c.word_at.ensures
