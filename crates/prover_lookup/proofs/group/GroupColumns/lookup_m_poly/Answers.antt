@@ -7,11 +7,11 @@ use lib.ListN.{replicate}
 use Rattle.lists.specs.Lists.{write_at}
 use Rattle.prover_lookup.proofs.m.Group.{input_is, table_is, asked, group_start, group_done, group_more, group_stop, member_room}
 use Rattle.prover_lookup.proofs.m.Searches.{by_searches}
-use Rattle.prover_lookup.proofs.m.lookup_m_poly.Goals as goal
+use Rattle.prover_lookup.proofs.group.GroupColumns.lookup_m_poly.Goals as goal
 
 pub loop-i-init : goal.loop-i-init
 loop-i-init c =
-    group_start _ _ _ _ _ c.requires.1 _ (c.clear.ensures ∙ ap (λ (x : List ℕ). write_at x 0 (replicate c.args.rows 0)) c.split_at_mut-given.ensures.back)
+    group_start _ _ _ _ _ c.requires.1 _ (c.clear.ensures ∙ ap (λ (x : List ℕ). write_at x 0 (replicate c.args.self.now.rows 0)) c.split_at_mut-given.ensures.back)
 
 pub count_inputs-requires : goal.count_inputs-requires
 count_inputs-requires c =
