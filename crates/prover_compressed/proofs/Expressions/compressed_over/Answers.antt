@@ -1,7 +1,7 @@
 -- `compressed_over` meets its contract: a running power and a running sum.
 use native.Mathlib.Omega.{arith}
 use Rattle.prover.proofs.PowerSums.{sum_start, sum_more, sum_end}
-use Rattle.prover_compressed.proofs.compressed_over.Goals as goal
+use Rattle.prover_compressed.proofs.Expressions.compressed_over.Goals as goal
 
 pub loop-i-init : goal.loop-i-init
 loop-i-init c = (omega arith, sum_start _ _)
