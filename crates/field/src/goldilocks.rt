@@ -1,6 +1,6 @@
-// The field type. A field value is held as a word, any word that is its number modulo p: `from_u64` takes the word as it is, each
-// operation reduces what it must, and `to_u64` gives the number below p. `word` promises no more than some word of the element.
-ghost use Rattle.std.specs.Prelude.{◌≡◌, ◌<◌, length, slice_index};
+// The field type. A field value is held as a word, any word that is its number modulo p: `Goldilocks::from` takes the word as it is, each
+// operator reduces what it must, and `u64::from` gives the number below p. `word` promises no more than some word of the element.
+ghost use Rattle.std.specs.Prelude.{◌≡◌, ◌<◌, cond, length, slice_index};
 ghost use Rattle.field.specs.Field.{𝔾, el, val};
 ghost use Rattle.field.specs.Parse.{parsed};
 ghost use Rattle.field.specs.Element.{elem, is_zero};
@@ -17,20 +17,6 @@ impl Goldilocks {
 
     pub const ONE: Goldilocks = Goldilocks(1);
 
-    // 0, by the constant.
-    pub fn zero() -> Goldilocks
-        ensures { elem result ≡ 𝔾.zero }
-    {
-        Goldilocks::ZERO
-    }
-
-    // 1, by the constant.
-    pub fn one() -> Goldilocks
-        ensures { elem result ≡ 𝔾.one }
-    {
-        Goldilocks::ONE
-    }
-
     // The element of a number below p, or `None`: it is too large.
     pub fn new(x: u64) -> Option<Goldilocks>
         ensures { result ≡ parsed x }
@@ -42,26 +28,12 @@ impl Goldilocks {
         }
     }
 
-    // The element of any word.
-    pub fn from_u64(x: u64) -> Goldilocks
-        ensures { elem result ≡ el x }
-    {
-        Goldilocks(x)
-    }
-
     // The element of a word of a slice.
     pub fn at(words: &[u64], i: usize) -> Goldilocks
         requires { i < length words.now }
         ensures { elem result ≡ el (slice_index words.now i) }
     {
         Goldilocks(words[i])
-    }
-
-    // The element's number, below p.
-    pub fn to_u64(self) -> u64
-        ensures { result ≡ val (elem self) }
-    {
-        reduce_u64(self.0)
     }
 
     // A word of the element, not always below p.
@@ -74,35 +46,7 @@ impl Goldilocks {
     pub fn is_zero(self) -> bool
         ensures { result ≡ is_zero (elem self) }
     {
-        self.to_u64() == 0
-    }
-
-    // self + b.
-    pub fn add(self, b: Goldilocks) -> Goldilocks
-        ensures { elem result ≡ 𝔾.add (elem self) (elem b) }
-    {
-        Goldilocks(sum_word(self.0, b.0))
-    }
-
-    // self - b.
-    pub fn sub(self, b: Goldilocks) -> Goldilocks
-        ensures { elem result ≡ 𝔾.add (elem self) (𝔾.neg (elem b)) }
-    {
-        Goldilocks(sub_u64(self.0, b.0))
-    }
-
-    // -self.
-    pub fn neg(self) -> Goldilocks
-        ensures { elem result ≡ 𝔾.neg (elem self) }
-    {
-        Goldilocks(neg_u64(self.0))
-    }
-
-    // self * b.
-    pub fn mul(self, b: Goldilocks) -> Goldilocks
-        ensures { elem result ≡ 𝔾.mul (elem self) (elem b) }
-    {
-        Goldilocks(product_word(self.0, b.0))
+        u64::from(self) == 0
     }
 
     // The inverse, or `None` for 0.
@@ -113,12 +57,21 @@ impl Goldilocks {
     }
 }
 
+// 1 for true and 0 for false, by the constants.
+impl From<bool> for Goldilocks {
+    ghost from_gives = { λ b e. elem e ≡ cond b 𝔾.one 𝔾.zero };
+
+    fn from(b: bool) -> Goldilocks {
+        if b { Goldilocks::ONE } else { Goldilocks::ZERO }
+    }
+}
+
 // The element of any word.
 impl From<u64> for Goldilocks {
     ghost from_gives = { λ x e. elem e ≡ el x };
 
     fn from(x: u64) -> Goldilocks {
-        Goldilocks::from_u64(x)
+        Goldilocks(x)
     }
 }
 
@@ -127,18 +80,17 @@ impl From<Goldilocks> for u64 {
     ghost from_gives = { λ e x. x ≡ val (elem e) };
 
     fn from(e: Goldilocks) -> u64 {
-        e.to_u64()
+        reduce_u64(e.0)
     }
 }
 
-// The operators are the methods above.
 impl Add for Goldilocks {
     type Output = Goldilocks;
 
     ghost add_gives = { λ a b r. elem r ≡ 𝔾.add (elem a) (elem b) };
 
     fn add(self, b: Goldilocks) -> Goldilocks {
-        Goldilocks::add(self, b)
+        Goldilocks(sum_word(self.0, b.0))
     }
 }
 
@@ -148,7 +100,7 @@ impl Sub for Goldilocks {
     ghost sub_gives = { λ a b r. elem r ≡ 𝔾.add (elem a) (𝔾.neg (elem b)) };
 
     fn sub(self, b: Goldilocks) -> Goldilocks {
-        Goldilocks::sub(self, b)
+        Goldilocks(sub_u64(self.0, b.0))
     }
 }
 
@@ -158,7 +110,7 @@ impl Neg for Goldilocks {
     ghost neg_gives = { λ a r. elem r ≡ 𝔾.neg (elem a) };
 
     fn neg(self) -> Goldilocks {
-        Goldilocks::neg(self)
+        Goldilocks(neg_u64(self.0))
     }
 }
 
@@ -168,6 +120,6 @@ impl Mul for Goldilocks {
     ghost mul_gives = { λ a b r. elem r ≡ 𝔾.mul (elem a) (elem b) };
 
     fn mul(self, b: Goldilocks) -> Goldilocks {
-        Goldilocks::mul(self, b)
+        Goldilocks(product_word(self.0, b.0))
     }
 }

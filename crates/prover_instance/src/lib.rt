@@ -21,7 +21,7 @@ fn instance_column(k: usize, values: &[u64], columns: &mut [u64], at: usize)
     clear(columns, at, rows_of(k));
     let mut row: usize = 1;
     for value in values {
-        columns[at + row] = Goldilocks::from_u64(*value).to_u64();
+        columns[at + row] = u64::from(Goldilocks::from(*value));
         row = bh::next(row, k);
     }
 }

@@ -1,2 +1,3 @@
 pub mod Product
 pub mod Lookups
+pub mod Unique

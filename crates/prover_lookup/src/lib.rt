@@ -3,6 +3,7 @@
 // h + j * rows.
 #![tactic(auto)]
 
+pub mod group;
 pub mod h;
 pub mod m;
 
@@ -11,58 +12,76 @@ ghost use Rattle.field.specs.Element.{elem};
 ghost use Rattle.lists.specs.Lists.{All, total};
 ghost use Rattle.prover.specs.Words.{Small};
 ghost use Rattle.prover_lookup.specs.Lookups.{CountsWritten, HsWritten};
+ghost use Rattle.prover_lookup.specs.Unique.{filled-prop};
 
-use crate::h::lookup_h_poly;
-use crate::m::lookup_m_poly;
+use crate::group::GroupColumns;
 use field::goldilocks::Goldilocks;
 use prover::ZeroDenominator;
 
-// The counts of all groups, none of them empty. Stops, and answers false, at the first group with an input that no table row equals.
-pub fn lookup_m_polys(
-    columns: &mut [u64],
-    sizes: &[u64],
-    compressed: usize,
-    m: usize,
-    rows: usize,
-) -> bool
-    requires { All (λ s. 0 < s) sizes.now × (compressed + total sizes.now * 2 * rows ≤ m) × (m + length sizes.now * rows ≤ length columns.old) × Small (total sizes.now * 2 * rows) (λ b. get_or columns.old (compressed + b) 0) }
-    ensures { CountsWritten columns.old sizes.now compressed m rows result columns.new }
-{
-    let mut input = compressed;
-    let mut to = m;
-    for size in sizes {
-        let members = *size as usize;
-        if !lookup_m_poly(columns, input, members, to, rows) {
-            return false;
-        }
-        input += members * rows * 2;
-        to += rows;
-    }
-    true
+// All groups, none of them empty: how many lookups each has, and the words of the column buffer at which the compressed columns, the
+// counts and h start. h stands behind the others.
+#[derive(Clone, Copy)]
+pub struct Groups<'a> {
+    pub sizes: &'a [u64],
+    pub compressed: usize,
+    pub counts: usize,
+    pub hs: usize,
+    pub rows: usize,
+    pub ghost filled: { All (λ s. 0 < s) sizes.now } by { filled-prop sizes.now },
+    pub ghost inputs_before: { compressed + total sizes.now * 2 * rows ≤ hs },
+    pub ghost counts_before: { counts + length sizes.now * rows ≤ hs },
 }
 
-// h of all groups, none of them empty. Stops at the first group that has a denominator that is zero.
-pub fn lookup_h_polys(
-    columns: &mut [u64],
-    sizes: &[u64],
-    compressed: usize,
-    m: usize,
-    h: usize,
-    gamma: Goldilocks,
-    rows: usize,
-) -> Result<(), ZeroDenominator>
-    requires { All (λ s. 0 < s) sizes.now × (compressed + total sizes.now * 2 * rows ≤ h) × (m + length sizes.now * rows ≤ h) × (h + length sizes.now * rows ≤ length columns.old) }
-    ensures { HsWritten columns.old sizes.now compressed m h rows (elem gamma) result columns.new }
-{
-    let mut input = compressed;
-    let mut counts = m;
-    let mut to = h;
-    for size in sizes {
-        let members = *size as usize;
-        lookup_h_poly(columns, input, members, counts, to, gamma, rows)?;
-        input += members * rows * 2;
-        counts += rows;
-        to += rows;
+impl Groups<'_> {
+    // The counts of all groups. Stops, and answers false, at the first group with an input that no table row equals.
+    pub fn lookup_m_polys(&self, columns: &mut [u64]) -> bool
+        requires { (self.now.compressed + total self.now.sizes.now * 2 * self.now.rows ≤ self.now.counts) × (self.now.counts + length self.now.sizes.now * self.now.rows ≤ length columns.old) × Small (total self.now.sizes.now * 2 * self.now.rows) (λ b. get_or columns.old (self.now.compressed + b) 0) }
+        ensures { CountsWritten columns.old self.now.sizes.now self.now.compressed self.now.counts self.now.rows result columns.new }
+    {
+        let rows = self.rows;
+        let mut input = self.compressed;
+        let mut to = self.counts;
+        for size in self.sizes {
+            let members = *size as usize;
+            let group = GroupColumns {
+                input,
+                members,
+                rows,
+            };
+            if !group.lookup_m_poly(columns, to) {
+                return false;
+            }
+            input += members * rows * 2;
+            to += rows;
+        }
+        true
     }
-    Ok(())
+
+    // h of all groups. Stops at the first group that has a denominator that is zero.
+    pub fn lookup_h_polys(
+        &self,
+        columns: &mut [u64],
+        gamma: Goldilocks,
+    ) -> Result<(), ZeroDenominator>
+        requires { self.now.hs + length self.now.sizes.now * self.now.rows ≤ length columns.old }
+        ensures { HsWritten columns.old self.now.sizes.now self.now.compressed self.now.counts self.now.hs self.now.rows (elem gamma) result columns.new }
+    {
+        let rows = self.rows;
+        let mut input = self.compressed;
+        let mut counts = self.counts;
+        let mut to = self.hs;
+        for size in self.sizes {
+            let members = *size as usize;
+            let group = GroupColumns {
+                input,
+                members,
+                rows,
+            };
+            group.lookup_h_poly(columns, counts, to, gamma)?;
+            input += members * rows * 2;
+            counts += rows;
+            to += rows;
+        }
+        Ok(())
+    }
 }

@@ -8,6 +8,7 @@ ghost use Rattle.prover.specs.Answers.{searches, first_number, m_words};
 ghost use Rattle.prover.specs.Words.{elements, elements_from, Small, count_words};
 ghost use Rattle.prover_lookup.specs.Lookups.{inputs_from, Room, added_words, group_words, group_searches};
 
+use crate::group::GroupColumns;
 use prover_instance::blank_column::clear;
 
 // Adds the counts of one input to the column m, each at the last equal table row. False, and a column of zeros, where an input has none.
@@ -45,31 +46,27 @@ pub fn m_column(rows: usize, input: &[u64], table: &[u64], m: &mut [u64]) -> boo
     count_inputs(rows, input, table, m)
 }
 
-// The counts of a group, in the column buffer: its first input starts at word input, each further one 2 * rows behind the one before,
-// its table at word input + rows and, behind all of them, the counts at word m. False, and a column of zeros, where an input has no equal
-// table row. Both are also said by the answers of the searches for all inputs, one lookup after another.
-pub fn lookup_m_poly(
-    columns: &mut [u64],
-    input: usize,
-    members: usize,
-    m: usize,
-    rows: usize,
-) -> bool
-    requires { (input + members * 2 * rows ≤ m) × (m + rows ≤ length columns.old) × Small (members * 2 * rows) (λ b. get_or columns.old (input + b) 0) }
-    ensures counts { (result ≡ group_covered 𝔾 rows (inputs_from columns.old input rows members) (elements_from columns.old (input + rows))) × (columns.new ≡ write_at columns.old m (group_words rows (inputs_from columns.old input rows members) (elements_from columns.old (input + rows)))) }
-    ensures found { (cond result 0 15 ≡ first_number (group_searches rows (inputs_from columns.old input rows members) (elements_from columns.old (input + rows)))) × (columns.new ≡ write_at columns.old m (m_words rows (group_searches rows (inputs_from columns.old input rows members) (elements_from columns.old (input + rows))))) }
-{
-    let (given, counts) = columns.split_at_mut(m);
-    clear(counts, 0, rows);
-    for i in 0..members {
-        if !count_inputs(
-            rows,
-            &given[input + i * (2 * rows)..],
-            &given[input + rows..],
-            counts,
-        ) {
-            return false;
+impl GroupColumns {
+    // The counts of the group, from word m of the column buffer on, behind the columns of the group. False, and a column of zeros, where an
+    // input has no equal table row. Both are also said by the answers of the searches for all inputs, one lookup after another.
+    pub fn lookup_m_poly(&self, columns: &mut [u64], m: usize) -> bool
+        requires { (self.now.input + self.now.members * 2 * self.now.rows ≤ m) × (m + self.now.rows ≤ length columns.old) × Small (self.now.members * 2 * self.now.rows) (λ b. get_or columns.old (self.now.input + b) 0) }
+        ensures counts { (result ≡ group_covered 𝔾 self.now.rows (inputs_from columns.old self.now.input self.now.rows self.now.members) (elements_from columns.old (self.now.input + self.now.rows))) × (columns.new ≡ write_at columns.old m (group_words self.now.rows (inputs_from columns.old self.now.input self.now.rows self.now.members) (elements_from columns.old (self.now.input + self.now.rows)))) }
+        ensures found { (cond result 0 15 ≡ first_number (group_searches self.now.rows (inputs_from columns.old self.now.input self.now.rows self.now.members) (elements_from columns.old (self.now.input + self.now.rows)))) × (columns.new ≡ write_at columns.old m (m_words self.now.rows (group_searches self.now.rows (inputs_from columns.old self.now.input self.now.rows self.now.members) (elements_from columns.old (self.now.input + self.now.rows))))) }
+    {
+        let rows = self.rows;
+        let (given, counts) = columns.split_at_mut(m);
+        clear(counts, 0, rows);
+        for i in 0..self.members {
+            if !count_inputs(
+                rows,
+                &given[self.input + i * (2 * rows)..],
+                &given[self.input + rows..],
+                counts,
+            ) {
+                return false;
+            }
         }
+        true
     }
-    true
 }

@@ -36,7 +36,7 @@ loop-b-preserved c =
       simp length-set m.invariant.0,
       λ d e v r h.
           double_more _ d l.i m.out m.b (m.invariant.1 d e v r h) (omega (arith, e, c.loop-b-test.true)) _ _ _ _ _ _ c.at-x.ensures v
-          c.mul-t.ensures c.to_u64-in-loop-b.ensures c.sub.ensures c.to_u64-in-loop-b-2.ensures r (l.size + m.b) (ap (λ (x : ℕ). x + m.b) e),
+          c.mul-t.ensures c.from-in-loop-b.ensures c.sub.ensures c.from-in-loop-b-2.ensures r (l.size + m.b) (ap (λ (x : ℕ). x + m.b) e),
     )
 
 pub loop-i-preserved : goal.loop-i-preserved
@@ -55,5 +55,5 @@ returns c =
     let a = c.args in
     let l = c.loop-i in
     let e : l.i ≡ a.k = omega arith in
-    l.invariant.1 a.out.now c.requires.2 (ap (set a.out.now 0) c.to_u64.ensures)
+    l.invariant.1 a.out.now c.requires.2 (ap (set a.out.now 0) c.from.ensures)
     ∙ ap (λ (n : ℕ). write_at a.out.now 0 (tabulate (word a.y.now n) (2 ^ n))) e

@@ -34,7 +34,7 @@ loop-value-preserved c =
       c.next-row.ensures.1,
       λ d h e.
           place_more k c.requires.0 (omega (arith, c.requires.1)) a.values.now l.value-index d a.at l.columns l.row _ l.invariant.0
-          (c.to_u64.ensures ∙ ap val c.from_u64.ensures ∙ val_el_mod (get_or a.values.now l.value-index 0))
+          (c.from-in-loop-value.ensures ∙ ap val c.from.ensures ∙ val_el_mod (get_or a.values.now l.value-index 0))
           (omega arith) (omega arith) (omega arith) (l.invariant.2 d h e),
     )
 

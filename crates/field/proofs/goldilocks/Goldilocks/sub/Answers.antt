@@ -1,7 +1,0 @@
--- A difference.
-use Rattle.std.proofs.Common.{ap, ◌∙◌}
-use Rattle.field.specs.Field.{el, el_sub}
-use Rattle.field.proofs.goldilocks.Goldilocks.sub.Goals as goal
-
-pub returns : goal.returns
-returns c = ap el c.sub_u64.ensures ∙ el_sub _ _
