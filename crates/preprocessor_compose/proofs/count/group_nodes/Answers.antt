@@ -23,4 +23,4 @@ overflow_mul-y c = few-times c.args.members.count c.add_sizes-x.result c.require
 pub returns : goal.returns
 returns c =
     let a = c.args in
-    counts.group_counted a.item a.members.count c.inputs_nodes-inputs.result c.table_nodes-table.result c.add_sizes-x.result ((a.members.count + 1) * c.add_sizes-x.result) c.add_sizes-z.result c.add_sizes-u.result c.add_sizes.result (nodes_in a.item (input_sides c.args.lookups.now.user.now c.args.lookups.now.widths.now c.args.lookups.now.pairs.now c.args.lookups.now.params.num_challenges a.members.first a.members.count)) (weight a.item (table_side c.args.lookups.now.user.now c.args.lookups.now.widths.now c.args.lookups.now.pairs.now c.args.lookups.now.params.num_challenges a.members.first)) c.inputs_nodes-inputs.ensures c.table_nodes-table.ensures c.add_sizes-x.ensures refl c.add_sizes-z.ensures c.add_sizes-u.ensures c.add_sizes.ensures
+    counts.group_counted a.item a.members.count c.inputs_nodes-inputs.result c.side_nodes-table.result c.add_sizes-x.result ((a.members.count + 1) * c.add_sizes-x.result) c.add_sizes-z.result c.add_sizes-u.result c.add_sizes.result (nodes_in a.item (input_sides c.args.lookups.now.user.now c.args.lookups.now.widths.now c.args.lookups.now.pairs.now c.args.lookups.now.beta a.members.first a.members.count)) (weight a.item (table_side c.args.lookups.now.user.now c.args.lookups.now.widths.now c.args.lookups.now.pairs.now c.args.lookups.now.beta a.members.first)) c.inputs_nodes-inputs.ensures c.side_nodes-table.ensures c.add_sizes-x.ensures refl c.add_sizes-z.ensures c.add_sizes-u.ensures c.add_sizes.ensures

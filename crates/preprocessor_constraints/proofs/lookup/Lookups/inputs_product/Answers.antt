@@ -12,39 +12,39 @@ pub query-x-requires : goal.query-x-requires
 unfolding body
 query-x-requires c =
     let a = c.args.self.now in
-    let r = groups.first_from_room (λ i. input_side a.user.now a.widths.now a.pairs.now a.params.num_challenges (c.args.members.first + i)) (Expr.poly c.args.q (pos 0)) c.args.members.count in
+    let r = groups.first_from_room (λ i. input_side a.user.now a.widths.now a.pairs.now a.beta (c.args.members.first + i)) (Expr.poly c.args.q (pos 0)) c.args.members.count in
     omega (arith, c.requires.room)
 
 pub loop-i-init : goal.loop-i-init
 loop-i-init c =
     let a = c.args.self.now in
-    let f : ℕ → Expr = λ i. input_side a.user.now a.widths.now a.pairs.now a.params.num_challenges (c.args.members.first + i) in
+    let f : ℕ → Expr = λ i. input_side a.user.now a.widths.now a.pairs.now a.beta (c.args.members.first + i) in
     (omega arith, ((groups.from_none f c.query-x.ensures).number, (refl, λ d w. groups.from_none f w)))
 
 pub overflow_add-members : goal.overflow_add-members
 overflow_add-members c = omega (arith, c.requires.members_in.all_members)
 
-pub input_side-y-requires-clause-room : goal.input_side-y-requires-clause-room
-input_side-y-requires-clause-room c =
+pub side-y-requires-clause-room : goal.side-y-requires-clause-room
+side-y-requires-clause-room c =
     let a = c.args.self.now in
     let g = c.requires.members_in in
-    let r = groups.from_room (λ i. input_side a.user.now a.widths.now a.pairs.now a.params.num_challenges (c.args.members.first + i)) (Expr.poly c.args.q (pos 0)) c.loop-i.i c.args.members.count (omega arith) in
+    let r = groups.from_room (λ i. input_side a.user.now a.widths.now a.pairs.now a.beta (c.args.members.first + i)) (Expr.poly c.args.q (pos 0)) c.loop-i.i c.args.members.count (omega arith) in
     omega (arith, c.requires.room, c.loop-i.invariant.1.0)
 
 pub product-x-requires : goal.product-x-requires
 product-x-requires c =
     let a = c.args.self.now in
-    let r = groups.from_room (λ i. input_side a.user.now a.widths.now a.pairs.now a.params.num_challenges (c.args.members.first + i)) (Expr.poly c.args.q (pos 0)) c.loop-i.i c.args.members.count (omega arith) in
-    omega (arith, c.requires.room, c.loop-i.invariant.1.0, c.input_side-y.ensures.number)
+    let r = groups.from_room (λ i. input_side a.user.now a.widths.now a.pairs.now a.beta (c.args.members.first + i)) (Expr.poly c.args.q (pos 0)) c.loop-i.i c.args.members.count (omega arith) in
+    omega (arith, c.requires.room, c.loop-i.invariant.1.0, c.side-y.ensures.number)
 
 pub loop-i-preserved : goal.loop-i-preserved
 loop-i-preserved c =
     let a = c.args.self.now in
-    let f : ℕ → Expr = λ i. input_side a.user.now a.widths.now a.pairs.now a.params.num_challenges (c.args.members.first + i) in
+    let f : ℕ → Expr = λ i. input_side a.user.now a.widths.now a.pairs.now a.beta (c.args.members.first + i) in
     let e : Expr = Expr.poly c.args.q (pos 0) in
-    (omega arith, ((groups.from_more f e c.loop-i.i (c.loop-i.invariant.1.1.1 c.args.out.now c.query-x.ensures) c.input_side-y.ensures c.product-x.ensures).number, (omega arith, λ d u. groups.from_more f e c.loop-i.i (c.loop-i.invariant.1.1.1 d u) c.input_side-y.ensures c.product-x.ensures)))
+    (omega arith, ((groups.from_more f e c.loop-i.i (c.loop-i.invariant.1.1.1 c.args.out.now c.query-x.ensures) c.side-y.ensures c.product-x.ensures).number, (omega arith, λ d u. groups.from_more f e c.loop-i.i (c.loop-i.invariant.1.1.1 d u) c.side-y.ensures c.product-x.ensures)))
 
 pub returns : goal.returns
 returns c =
     let a = c.args.self.now in
-    groups.from_all (λ i. input_side a.user.now a.widths.now a.pairs.now a.params.num_challenges (c.args.members.first + i)) (Expr.poly c.args.q (pos 0)) c.loop-i.i c.args.members.count (omega arith) (c.loop-i.invariant.1.1.1 c.args.out.now c.query-x.ensures)
+    groups.from_all (λ i. input_side a.user.now a.widths.now a.pairs.now a.beta (c.args.members.first + i)) (Expr.poly c.args.q (pos 0)) c.loop-i.i c.args.members.count (omega arith) (c.loop-i.invariant.1.1.1 c.args.out.now c.query-x.ensures)

@@ -11,6 +11,6 @@ use mathlib.Core.Path.{◌≡◌}
 use Rattle.preprocessor_constraints.proofs.lookup.Lookups.inputs_product.Given as goal
 
 abbrev pub invariant-loop-i : goal.invariant-loop-i
-invariant-loop-i l = (l.i ≤ l.members.count) × ((l.x ≡ l.at + size (product_from (Expr.poly l.q (pos 0)) (tabulate (λ i. input_side l.self.user.now l.self.widths.now l.self.pairs.now l.self.params.num_challenges (l.members.first + i)) l.i))) × ((length l.out ≡ length l.initial.out) × ((d : List ℕ)
+invariant-loop-i l = (l.i ≤ l.members.count) × ((l.x ≡ l.at + size (product_from (Expr.poly l.q (pos 0)) (tabulate (λ i. input_side l.self.user.now l.self.widths.now l.self.pairs.now l.self.beta (l.members.first + i)) l.i))) × ((length l.out ≡ length l.initial.out) × ((d : List ℕ)
     → ExprWritten l.from (Expr.poly l.q (pos 0)) l.at d l.initial.out l.initial.x
-    → ExprWritten l.from (product_from (Expr.poly l.q (pos 0)) (tabulate (λ i. input_side l.self.user.now l.self.widths.now l.self.pairs.now l.self.params.num_challenges (l.members.first + i)) l.i)) l.at d l.out l.x)))
+    → ExprWritten l.from (product_from (Expr.poly l.q (pos 0)) (tabulate (λ i. input_side l.self.user.now l.self.widths.now l.self.pairs.now l.self.beta (l.members.first + i)) l.i)) l.at d l.out l.x)))

@@ -5,34 +5,34 @@ use Rattle.preprocessor.specs.ComposeWords.{input_side, table_side}
 use native.Mathlib.Omega.{arith}
 use Rattle.preprocessor_constraints.proofs.lookup.Lookups.numerator.Goals as goal
 
-pub table_side-t-requires-clause-room : goal.table_side-t-requires-clause-room
-table_side-t-requires-clause-room c =
+pub side-t-requires-clause-room : goal.side-t-requires-clause-room
+side-t-requires-clause-room c =
     let a = c.args.self.now in
     let g = c.requires.members_in in
-    let r = groups.table_room (table_side a.user.now a.widths.now a.pairs.now a.params.num_challenges c.args.members.first) (λ i. input_side a.user.now a.widths.now a.pairs.now a.params.num_challenges (c.args.members.first + i)) c.args.members.count in
+    let r = groups.table_room (table_side a.user.now a.widths.now a.pairs.now a.beta c.args.members.first) (λ i. input_side a.user.now a.widths.now a.pairs.now a.beta (c.args.members.first + i)) c.args.members.count in
     omega (arith, c.requires.room)
 
 pub returns-then-members-lt2 : goal.returns-then-members-lt2
 returns-then-members-lt2 c =
     let a = c.args.self.now in
-    written.written_as (groups.numerator_few (table_side a.user.now a.widths.now a.pairs.now a.params.num_challenges c.args.members.first) (λ i. input_side a.user.now a.widths.now a.pairs.now a.params.num_challenges (c.args.members.first + i)) c.args.members.count c.if-members-lt2.true) c.table_side-t.ensures
+    written.written_as (groups.numerator_few (table_side a.user.now a.widths.now a.pairs.now a.beta c.args.members.first) (λ i. input_side a.user.now a.widths.now a.pairs.now a.beta (c.args.members.first + i)) c.args.members.count c.if-members-lt2.true) c.side-t.ensures
 
 pub products_sum-s-requires-clause-room : goal.products_sum-s-requires-clause-room
 products_sum-s-requires-clause-room c =
     let a = c.args.self.now in
     let h : 2 ≤ c.args.members.count = omega (arith, c.if-members-lt2.false) in
-    let r = groups.sums_room (table_side a.user.now a.widths.now a.pairs.now a.params.num_challenges c.args.members.first) (λ i. input_side a.user.now a.widths.now a.pairs.now a.params.num_challenges (c.args.members.first + i)) c.args.members.count h in
-    omega (arith, c.requires.room, c.table_side-t.ensures.number)
+    let r = groups.sums_room (table_side a.user.now a.widths.now a.pairs.now a.beta c.args.members.first) (λ i. input_side a.user.now a.widths.now a.pairs.now a.beta (c.args.members.first + i)) c.args.members.count h in
+    omega (arith, c.requires.room, c.side-t.ensures.number)
 
 pub product-requires : goal.product-requires
 product-requires c =
     let a = c.args.self.now in
     let h : 2 ≤ c.args.members.count = omega (arith, c.if-members-lt2.false) in
-    let r = groups.sums_room (table_side a.user.now a.widths.now a.pairs.now a.params.num_challenges c.args.members.first) (λ i. input_side a.user.now a.widths.now a.pairs.now a.params.num_challenges (c.args.members.first + i)) c.args.members.count h in
-    omega (arith, c.requires.room, c.table_side-t.ensures.number, c.products_sum-s.ensures.number)
+    let r = groups.sums_room (table_side a.user.now a.widths.now a.pairs.now a.beta c.args.members.first) (λ i. input_side a.user.now a.widths.now a.pairs.now a.beta (c.args.members.first + i)) c.args.members.count h in
+    omega (arith, c.requires.room, c.side-t.ensures.number, c.products_sum-s.ensures.number)
 
 pub returns : goal.returns
 returns c =
     let a = c.args.self.now in
     let h : 2 ≤ c.args.members.count = omega (arith, c.if-members-lt2.false) in
-    written.written_as (groups.numerator_many (table_side a.user.now a.widths.now a.pairs.now a.params.num_challenges c.args.members.first) (λ i. input_side a.user.now a.widths.now a.pairs.now a.params.num_challenges (c.args.members.first + i)) c.args.members.count h) (written.written_product c.table_side-t.ensures c.products_sum-s.ensures c.product.ensures)
+    written.written_as (groups.numerator_many (table_side a.user.now a.widths.now a.pairs.now a.beta c.args.members.first) (λ i. input_side a.user.now a.widths.now a.pairs.now a.beta (c.args.members.first + i)) c.args.members.count h) (written.written_product c.side-t.ensures c.products_sum-s.ensures c.product.ensures)

@@ -11,6 +11,6 @@ use mathlib.Core.Path.{◌≡◌}
 use Rattle.preprocessor_constraints.proofs.lookup.Lookups.product_besides.Given as goal
 
 abbrev pub invariant-loop-i : goal.invariant-loop-i
-invariant-loop-i l = (1 ≤ l.i) × ((l.i + 1 ≤ l.members.count) × ((l.x ≡ l.at + size (product_of (tabulate (λ i. input_side l.self.user.now l.self.widths.now l.self.pairs.now l.self.params.num_challenges (l.members.first + groups.besides l.omit i)) l.i))) × ((length l.out ≡ length l.initial.out) × ((d : List ℕ)
-    → ExprWritten l.from (product_of (tabulate (λ i. input_side l.self.user.now l.self.widths.now l.self.pairs.now l.self.params.num_challenges (l.members.first + groups.besides l.omit i)) 1)) l.at d l.initial.out l.initial.x
-    → ExprWritten l.from (product_of (tabulate (λ i. input_side l.self.user.now l.self.widths.now l.self.pairs.now l.self.params.num_challenges (l.members.first + groups.besides l.omit i)) l.i)) l.at d l.out l.x))))
+invariant-loop-i l = (1 ≤ l.i) × ((l.i + 1 ≤ l.members.count) × ((l.x ≡ l.at + size (product_of (tabulate (λ i. input_side l.self.user.now l.self.widths.now l.self.pairs.now l.self.beta (l.members.first + groups.besides l.omit i)) l.i))) × ((length l.out ≡ length l.initial.out) × ((d : List ℕ)
+    → ExprWritten l.from (product_of (tabulate (λ i. input_side l.self.user.now l.self.widths.now l.self.pairs.now l.self.beta (l.members.first + groups.besides l.omit i)) 1)) l.at d l.initial.out l.initial.x
+    → ExprWritten l.from (product_of (tabulate (λ i. input_side l.self.user.now l.self.widths.now l.self.pairs.now l.self.beta (l.members.first + groups.besides l.omit i)) l.i)) l.at d l.out l.x))))

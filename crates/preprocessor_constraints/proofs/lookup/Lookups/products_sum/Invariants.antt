@@ -14,6 +14,6 @@ abbrev pub but : List ℕ → List ℕ → List ℕ → ℕ → ℕ → ℕ → 
 but user widths pairs beta first n k = product_of (get_or (omit_one (input_sides user widths pairs beta first n)) k [])
 
 abbrev pub invariant-loop-k : goal.invariant-loop-k
-invariant-loop-k l = (1 ≤ l.k) × ((l.k ≤ l.members.count) × ((l.x ≡ l.at + size (sum_of (tabulate (but l.self.user.now l.self.widths.now l.self.pairs.now l.self.params.num_challenges l.members.first l.members.count) l.k))) × ((length l.out ≡ length l.initial.out) × ((d : List ℕ)
-    → ExprWritten l.from (sum_of (tabulate (but l.self.user.now l.self.widths.now l.self.pairs.now l.self.params.num_challenges l.members.first l.members.count) 1)) l.at d l.initial.out l.initial.x
-    → ExprWritten l.from (sum_of (tabulate (but l.self.user.now l.self.widths.now l.self.pairs.now l.self.params.num_challenges l.members.first l.members.count) l.k)) l.at d l.out l.x))))
+invariant-loop-k l = (1 ≤ l.k) × ((l.k ≤ l.members.count) × ((l.x ≡ l.at + size (sum_of (tabulate (but l.self.user.now l.self.widths.now l.self.pairs.now l.self.beta l.members.first l.members.count) l.k))) × ((length l.out ≡ length l.initial.out) × ((d : List ℕ)
+    → ExprWritten l.from (sum_of (tabulate (but l.self.user.now l.self.widths.now l.self.pairs.now l.self.beta l.members.first l.members.count) 1)) l.at d l.initial.out l.initial.x
+    → ExprWritten l.from (sum_of (tabulate (but l.self.user.now l.self.widths.now l.self.pairs.now l.self.beta l.members.first l.members.count) l.k)) l.at d l.out l.x))))
