@@ -11,7 +11,7 @@ use expression_write::operations::{item, list_end, list_head};
 use expression_write::{Listed, copy_expr, push};
 use lists::sum_before;
 use preprocessor_constraints::factors::Copied;
-use preprocessor_constraints::group::Groups;
+use preprocessor_constraints::group::Group;
 use preprocessor_constraints::lookup::Lookups;
 use preprocessor_constraints::{Numbers, Span};
 
@@ -55,8 +55,8 @@ impl Input<'_> {
                 pairs: words.pairs,
                 beta: params.num_challenges,
             };
-            let groups = Groups { lookups, numbers };
-            return groups.lookup_constraint(members, out, from, j, at);
+            let group = Group { lookups, members };
+            return group.lookup_constraint(numbers, out, from, j, at);
         }
         let p = j - params.num_groups;
         if p == 0 {

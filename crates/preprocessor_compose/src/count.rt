@@ -9,12 +9,14 @@ ghost use Rattle.backend.specs.Circuit.{Circuit};
 ghost use Rattle.preprocessor.specs.Compose.{compose, lookup_tree_of};
 ghost use Rattle.preprocessor.specs.ComposeWords.{IsNode, groups_from_words, permutation_nodes};
 ghost use Rattle.preprocessor.specs.Count.{nodes_in, list_nodes, group_nodes};
-ghost use Rattle.preprocessor_constraints.specs.Lookups.{side_of, inputs_of, MembersIn};
+ghost use Rattle.preprocessor_constraints.specs.Lookups.{side_of};
+ghost use Rattle.preprocessor_constraints.specs.Groups.{inputs_of, table_of};
 ghost use Rattle.preprocessor_compose.specs.Input.{AreWordsOf};
 
 use crate::constraints::num_constraints;
 use crate::words::CircuitWords;
 use expression_degree::{add_sizes, size_of};
+use preprocessor_constraints::group::Group;
 use preprocessor_constraints::lookup::{LookupSide, Lookups};
 use preprocessor_constraints::{Numbers, Span};
 
@@ -61,28 +63,28 @@ fn side_nodes(lookups: &Lookups, side: LookupSide, i: usize, item: u64) -> u64
 }
 
 // The nodes of the inputs of a group.
-fn inputs_nodes(lookups: &Lookups, members: Span, item: u64) -> u64
-    requires members_in { MembersIn lookups.now members.first members.count }
-    requires one { item ≤ 1 }
-    ensures { result ≡ min largest_size (nodes_in item (inputs_of lookups.now members.first members.count)) }
+fn inputs_nodes(group: &Group, item: u64) -> u64
+    requires { item ≤ 1 }
+    ensures { result ≡ min largest_size (nodes_in item (inputs_of group.now)) }
 {
+    let members = group.members;
     let mut sum: u64 = 0;
     for i in 0..members.count {
-        let x = side_nodes(lookups, LookupSide::Input, members.first + i, item);
+        let x = side_nodes(&group.lookups, LookupSide::Input, members.first + i, item);
         sum = add_sizes(sum, x);
     }
     sum
 }
 
 // The nodes of a group's constraint.
-fn group_nodes(lookups: &Lookups, members: Span, item: u64) -> u64
-    requires members_in { MembersIn lookups.now members.first members.count }
-    requires few { members.count ≤ 8 }
+fn group_nodes(group: &Group, item: u64) -> u64
+    requires few { group.now.members.count ≤ 8 }
     requires one { item ≤ 1 }
-    ensures { result ≡ min largest_size (group_nodes members.count (nodes_in item (inputs_of lookups.now members.first members.count)) (weight item (side_of LookupSide.Table lookups.now members.first))) }
+    ensures { result ≡ min largest_size (group_nodes group.now.members.count (nodes_in item (inputs_of group.now)) (weight item (table_of group.now))) }
 {
-    let inputs = inputs_nodes(lookups, members, item);
-    let table = side_nodes(lookups, LookupSide::Table, members.first, item);
+    let members = group.members;
+    let inputs = inputs_nodes(group, item);
+    let table = side_nodes(&group.lookups, LookupSide::Table, members.first, item);
     let x = add_sizes(inputs, members.count as u64);
     let y = (members.count as u64 + 1) * x;
     let z = add_sizes(y, table);
@@ -106,7 +108,8 @@ fn groups_nodes(words: &CircuitWords, item: u64) -> u64
     for j in 0..words.params.num_groups {
         let count = words.sizes[j] as usize;
         let members = Span { first, count };
-        let x = group_nodes(&lookups, members, item);
+        let group = Group { lookups, members };
+        let x = group_nodes(&group, item);
         sum = add_sizes(sum, x);
         first += count;
     }

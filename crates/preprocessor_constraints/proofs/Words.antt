@@ -4,7 +4,6 @@ use Rattle.preprocessor.proofs.ComposeWords as trees
 use Rattle.preprocessor.specs.ComposeWords.{side_tree}
 use Rattle.preprocessor.specs.declared.CircuitParams.{CircuitParams}
 use Rattle.preprocessor_constraints.specs.Lookups.{word_of, side_of}
-use Rattle.preprocessor_constraints.specs.declared.group.Groups.{Groups}
 use Rattle.preprocessor_constraints.specs.declared.lookup.LookupSide.{LookupSide}
 use Rattle.preprocessor_constraints.specs.declared.lookup.LookupSide.TheVariants.{Input, Table}
 use Rattle.preprocessor_constraints.specs.declared.lookup.Lookups.{Lookups}
@@ -27,9 +26,9 @@ module _ (l : Lookups) (i s w : ℕ) (es : s ≡ total (take i l.widths.now)) (e
   pub side_is : (side : LookupSide) (word : ℕ) → word ≡ word_of side → side_of side l i ≡ side_tree l.user.now l.pairs.now l.beta (s * 2 + word) w
   side_is side word e = rw e (starts side)
 
--- the circuit's numbers, by that number
-abbrev pub own : Groups → CircuitParams
-own g = record g.numbers.params { num_challenges = g.lookups.beta }
+-- a circuit's numbers with this number of beta, which is theirs
+abbrev pub own : CircuitParams → ℕ → CircuitParams
+own v beta = record v { num_challenges = beta }
 
-pub own_is : (g : Groups) → g.numbers.params ≡ own g
-own_is g = ap (λ (user : ℕ). record g.numbers.params { num_challenges = user }) (sym g.beta_is)
+pub own_is : (v : CircuitParams) (beta : ℕ) → beta ≡ v.num_challenges → v ≡ own v beta
+own_is v beta e = ap (own v) (sym e)

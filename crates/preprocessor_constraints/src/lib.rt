@@ -6,6 +6,7 @@ pub mod group;
 pub mod lookup;
 pub mod permutation;
 
+ghost use Rattle.std.specs.Prelude.{◌+◌, ◌<◌, ◌^◌};
 ghost use Rattle.preprocessor.specs.ComposeWords.{Limits};
 ghost use Rattle.preprocessor_constraints.specs.Unique.{Limits-prop};
 
@@ -23,4 +24,5 @@ pub struct Numbers {
 pub struct Span {
     pub first: usize,
     pub count: usize,
+    pub ghost fits: { first + count < 2 ^ 63 },
 }

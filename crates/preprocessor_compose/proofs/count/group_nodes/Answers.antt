@@ -2,7 +2,7 @@ use Prim.Native.Nat.{ℕ, ◌+◌, ◌*◌, ◌≤◌}
 use Rattle.expression.specs.Flat.{largest_size}
 use Rattle.expression.specs.Walks.{weight}
 use Rattle.preprocessor.proofs.Counts as counts
-use Rattle.preprocessor.specs.ComposeWords.{input_sides, table_side}
+use Rattle.preprocessor_constraints.specs.Groups.{inputs_of, table_of}
 use Rattle.preprocessor.specs.Count.{nodes_in}
 use mir.Syntax.{w64}
 use mir.Val.{Fits}
@@ -18,9 +18,9 @@ pub overflow_add-y : goal.overflow_add-y
 overflow_add-y c = omega (arith, c.requires.few)
 
 pub overflow_mul-y : goal.overflow_mul-y
-overflow_mul-y c = few-times c.args.members.count c.add_sizes-x.result c.requires.few (omega (arith, c.add_sizes-x.ensures))
+overflow_mul-y c = few-times c.args.group.now.members.count c.add_sizes-x.result c.requires.few (omega (arith, c.add_sizes-x.ensures))
 
 pub returns : goal.returns
 returns c =
-    let a = c.args in
-    counts.group_counted a.item a.members.count c.inputs_nodes-inputs.result c.side_nodes-table.result c.add_sizes-x.result ((a.members.count + 1) * c.add_sizes-x.result) c.add_sizes-z.result c.add_sizes-u.result c.add_sizes.result (nodes_in a.item (input_sides c.args.lookups.now.user.now c.args.lookups.now.widths.now c.args.lookups.now.pairs.now c.args.lookups.now.beta a.members.first a.members.count)) (weight a.item (table_side c.args.lookups.now.user.now c.args.lookups.now.widths.now c.args.lookups.now.pairs.now c.args.lookups.now.beta a.members.first)) c.inputs_nodes-inputs.ensures c.side_nodes-table.ensures c.add_sizes-x.ensures refl c.add_sizes-z.ensures c.add_sizes-u.ensures c.add_sizes.ensures
+    let a = c.args.group.now in
+    counts.group_counted c.args.item a.members.count c.inputs_nodes-inputs.result c.side_nodes-table.result c.add_sizes-x.result ((a.members.count + 1) * c.add_sizes-x.result) c.add_sizes-z.result c.add_sizes-u.result c.add_sizes.result (nodes_in c.args.item (inputs_of a)) (weight c.args.item (table_of a)) c.inputs_nodes-inputs.ensures c.side_nodes-table.ensures c.add_sizes-x.ensures refl c.add_sizes-z.ensures c.add_sizes-u.ensures c.add_sizes.ensures

@@ -15,11 +15,23 @@ loop-j-init c =
     let a = c.args in
     (omega arith, (sym (runs.total_none c.args.words.now.sizes.now), counts.count_none a.item (lookup_tree_of c.args.words.now.params (groups_from_words c.args.words.now.user.now c.args.words.now.sizes.now c.args.words.now.widths.now c.args.words.now.pairs.now))))
 
+pub invariant_of-members : goal.invariant_of-members
+invariant_of-members c =
+    let w = c.args.words.now in
+    let g = trees.group_in w.params w.user.now w.roots.now w.sizes.now w.widths.now w.pairs.now w.fits c.loop-j.j c.loop-j.first _ (omega arith) c.loop-j.invariant.1.0 refl in
+    record { fits = omega (arith, g.0.all_members) }
+
+pub invariant_of-group : goal.invariant_of-group
+invariant_of-group c =
+    let w = c.args.words.now in
+    let g = trees.group_in w.params w.user.now w.roots.now w.sizes.now w.widths.now w.pairs.now w.fits c.loop-j.j c.loop-j.first _ (omega arith) c.loop-j.invariant.1.0 refl in
+    record { some = g.0.some; all_members = g.0.all_members }
+
 pub group_nodes-x-requires : goal.group_nodes-x-requires
 group_nodes-x-requires c =
     let a = c.args in
     let g = trees.group_in c.args.words.now.params c.args.words.now.user.now c.args.words.now.roots.now c.args.words.now.sizes.now c.args.words.now.widths.now c.args.words.now.pairs.now c.args.words.now.fits c.loop-j.j c.loop-j.first _ (omega arith) c.loop-j.invariant.1.0 refl in
-    record { members_in = record { some = g.0.some; all_members = g.0.all_members }; few = g.1; one = c.requires }
+    record { few = g.1; one = c.requires }
 
 pub overflow_add-first : goal.overflow_add-first
 overflow_add-first c =

@@ -8,16 +8,16 @@ use Rattle.preprocessor_compose.proofs.count.inputs_nodes.Goals as goal
 
 pub loop-i-init : goal.loop-i-init
 loop-i-init c =
-    let a = c.args in
-    (omega arith, counts.count_none a.item (λ i. side_of Input a.lookups.now (a.members.first + i)))
+    let a = c.args.group.now in
+    (omega arith, counts.count_none c.args.item (λ i. side_of Input a.lookups (a.members.first + i)))
 
 pub loop-i-preserved : goal.loop-i-preserved
 loop-i-preserved c =
-    let a = c.args in
-    let f : ℕ → Expr = λ i. side_of Input a.lookups.now (a.members.first + i) in
-    (omega arith, counts.count_more a.item f c.loop-i.i c.add_sizes-sum.result c.loop-i.sum c.side_nodes-x.result c.add_sizes-sum.ensures c.loop-i.invariant.1 c.side_nodes-x.ensures)
+    let a = c.args.group.now in
+    let f : ℕ → Expr = λ i. side_of Input a.lookups (a.members.first + i) in
+    (omega arith, counts.count_more c.args.item f c.loop-i.i c.add_sizes-sum.result c.loop-i.sum c.side_nodes-x.result c.add_sizes-sum.ensures c.loop-i.invariant.1 c.side_nodes-x.ensures)
 
 pub returns : goal.returns
 returns c =
-    let a = c.args in
-    counts.count_all a.item (λ i. side_of Input a.lookups.now (a.members.first + i)) c.loop-i.sum c.loop-i.i a.members.count (omega arith) c.loop-i.invariant.1
+    let a = c.args.group.now in
+    counts.count_all c.args.item (λ i. side_of Input a.lookups (a.members.first + i)) c.loop-i.sum c.loop-i.i a.members.count (omega arith) c.loop-i.invariant.1

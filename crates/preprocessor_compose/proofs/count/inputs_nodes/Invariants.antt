@@ -8,4 +8,4 @@ use mathlib.Core.Path.{◌≡◌}
 use Rattle.preprocessor_compose.proofs.count.inputs_nodes.Given as goal
 
 abbrev pub invariant-loop-i : goal.invariant-loop-i
-invariant-loop-i l = (l.i ≤ l.members.count) × (l.sum ≡ min largest_size (nodes_in l.item (tabulate (λ i. side_of Input l.lookups (l.members.first + i)) l.i)))
+invariant-loop-i l = (l.i ≤ l.group.members.count) × (l.sum ≡ min largest_size (nodes_in l.item (tabulate (λ i. side_of Input l.group.lookups (l.group.members.first + i)) l.i)))

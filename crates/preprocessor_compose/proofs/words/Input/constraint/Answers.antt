@@ -24,8 +24,17 @@ returns-then-i-own c =
     let v = w.params in
     written.written_as (trees.own_nth v a.copied.now w.user.now w.roots.now w.sizes.now w.widths.now w.pairs.now c.args.i _ c.if-i-own.true refl) c.copy_expr.ensures
 
-pub lookup_constraint-requires-clause-members_in : goal.lookup_constraint-requires-clause-members_in
-lookup_constraint-requires-clause-members_in c =
+pub invariant_of-members : goal.invariant_of-members
+invariant_of-members c =
+    let a = c.args.self.now in
+    let w = a.words.now in
+    let v = w.params in
+    let j = c.args.i - length w.roots.now in
+    let g = trees.group_in v w.user.now w.roots.now w.sizes.now w.widths.now w.pairs.now w.fits j c.sum_before-first.result _ c.if-j-params.true c.sum_before-first.ensures refl in
+    record { fits = omega (arith, g.0.all_members) }
+
+pub invariant_of-group : goal.invariant_of-group
+invariant_of-group c =
     let a = c.args.self.now in
     let w = a.words.now in
     let v = w.params in
