@@ -16,8 +16,3 @@ loop-i-preserved c =
     let a = c.args.group.now in
     let f : ℕ → Expr = λ i. side_of Input a.lookups (a.members.first + i) in
     (omega arith, counts.count_more c.args.item f c.loop-i.i c.add_sizes-sum.result c.loop-i.sum c.side_nodes-x.result c.add_sizes-sum.ensures c.loop-i.invariant.1 c.side_nodes-x.ensures)
-
-pub returns : goal.returns
-returns c =
-    let a = c.args.group.now in
-    counts.count_all c.args.item (λ i. side_of Input a.lookups (a.members.first + i)) c.loop-i.sum c.loop-i.i a.members.count (omega arith) c.loop-i.invariant.1

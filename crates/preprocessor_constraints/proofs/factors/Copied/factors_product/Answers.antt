@@ -8,21 +8,9 @@ use native.Mathlib.Omega.{arith}
 use Rattle.preprocessor_constraints.proofs.Sides as sides
 use Rattle.preprocessor_constraints.proofs.factors.Copied.factors_product.Goals as goal
 
-pub factor-x-requires-clause-room : goal.factor-x-requires-clause-room
-factor-x-requires-clause-room c =
-    let one : 1 ≤ c.args.columns.count = omega (arith, c.requires.some) in
-    let m = mul-le-mul_left (factor_nodes c.args.side) one in
-    omega (arith, c.requires.room)
-
 pub loop-j-init : goal.loop-j-init
 loop-j-init c =
     (omega arith, (omega (arith, c.requires.some), (omega (arith, c.factor-x.ensures.number, sides.factor_size c.args.side c.args.self.now c.args.columns.first), (refl, λ d w. w))))
-
-pub factor-y-requires-clause-room : goal.factor-y-requires-clause-room
-factor-y-requires-clause-room c =
-    let more : suc c.loop-j.j ≤ c.args.columns.count = omega arith in
-    let m = mul-le-mul_left (factor_nodes c.args.side) more in
-    omega (arith, c.requires.room)
 
 pub product-x-requires : goal.product-x-requires
 product-x-requires c =

@@ -1,6 +1,5 @@
 use Prim.Native.Nat.{ℕ, ◌+◌}
 use Rattle.expression.specs.Expr.{Expr}
-use Rattle.expression.specs.Flat.{body}
 use Rattle.preprocessor.proofs.GroupWritten as groups
 use Rattle.preprocessor.specs.ComposeWords.{input_side}
 use lib.IntN.{pos}
@@ -8,21 +7,11 @@ use mathlib.Core.Path.{refl}
 use native.Mathlib.Omega.{arith}
 use Rattle.preprocessor_constraints.proofs.group.Group.inputs_product.Goals as goal
 
-pub query-x-requires : goal.query-x-requires
-unfolding body
-query-x-requires c =
-    let a = c.args.self.now.lookups in
-    let r = groups.first_from_room (λ i. input_side a.user.now a.widths.now a.pairs.now a.beta (c.args.self.now.members.first + i)) (Expr.poly c.args.q (pos 0)) c.args.self.now.members.count in
-    omega (arith, c.requires)
-
 pub loop-i-init : goal.loop-i-init
 loop-i-init c =
     let a = c.args.self.now.lookups in
     let f : ℕ → Expr = λ i. input_side a.user.now a.widths.now a.pairs.now a.beta (c.args.self.now.members.first + i) in
     (omega arith, ((groups.from_none f c.query-x.ensures).number, (refl, λ d w. groups.from_none f w)))
-
-pub overflow_add-self : goal.overflow_add-self
-overflow_add-self c = omega (arith, c.args.self.now.all_members)
 
 pub side-y-requires-clause-room : goal.side-y-requires-clause-room
 side-y-requires-clause-room c =
@@ -43,8 +32,3 @@ loop-i-preserved c =
     let f : ℕ → Expr = λ i. input_side a.user.now a.widths.now a.pairs.now a.beta (c.args.self.now.members.first + i) in
     let e : Expr = Expr.poly c.args.q (pos 0) in
     (omega arith, ((groups.from_more f e c.loop-i.i (c.loop-i.invariant.1.1.1 c.args.out.now c.query-x.ensures) c.side-y.ensures c.product-x.ensures).number, (omega arith, λ d u. groups.from_more f e c.loop-i.i (c.loop-i.invariant.1.1.1 d u) c.side-y.ensures c.product-x.ensures)))
-
-pub returns : goal.returns
-returns c =
-    let a = c.args.self.now.lookups in
-    groups.from_all (λ i. input_side a.user.now a.widths.now a.pairs.now a.beta (c.args.self.now.members.first + i)) (Expr.poly c.args.q (pos 0)) c.loop-i.i c.args.self.now.members.count (omega arith) (c.loop-i.invariant.1.1.1 c.args.out.now c.query-x.ensures)

@@ -73,9 +73,6 @@ sum-requires c =
     let e = ap (λ (v : CircuitParams). size (group_from_words v l.user.now l.widths.now l.pairs.now c.args.j c.args.self.now.members.first c.args.self.now.members.count)) (words.own_is c.args.numbers.params l.beta c.requires.beta) in
     omega (arith, c.requires.room, c.inputs_product-a.ensures.number, c.side-b.ensures.number, c.product-p.ensures.number, c.numerator-t.ensures.number, c.negated-n.ensures.number, c.sum-d.ensures.number, c.inputs_product-e.ensures.number)
 
-pub shape_of-out : goal.shape_of-out
-shape_of-out c = omega (arith, c.out-1.given, c.out-2-1.given, c.out-3-1.given, c.out-4-1.given, c.out-5-1.given, c.out-6-1.given, c.out-7-1.given, c.out-8-1.given)
-
 pub returns : goal.returns
 returns c =
     let a = c.args.self.now in

@@ -10,14 +10,6 @@ use mathlib.Core.Path.{refl, sym, ap}
 use native.Mathlib.Omega.{arith}
 use Rattle.preprocessor_constraints.proofs.group.Group.product_besides.Goals as goal
 
-pub overflow_add-first : goal.overflow_add-first
-overflow_add-first c =
-    let a = c.args.self.now.lookups in
-    let g = c.args.self.now in
-    let e = groups.besides_is c.args.omit 0 c.besides.result c.besides.ensures.0 c.besides.ensures.1 in
-    let h = groups.besides_below c.args.omit 0 c.args.self.now.members.count (omega (arith, c.requires.more)) in
-    omega (arith, g.all_members)
-
 pub side-x-requires-clause-room : goal.side-x-requires-clause-room
 side-x-requires-clause-room c =
     let a = c.args.self.now.lookups in
@@ -36,17 +28,6 @@ loop-i-init c =
     let f : ℕ → Expr = λ i. input_side a.user.now a.widths.now a.pairs.now a.beta (c.args.self.now.members.first + i) in
     let e = groups.besides_is c.args.omit 0 c.besides.result c.besides.ensures.0 c.besides.ensures.1 in
     (omega arith, (omega (arith, c.requires.more), ((lists.product_one (λ i. f (groups.besides c.args.omit i)) (written.written_as (ap f (sym e)) c.side-x.ensures)).number, (refl, λ d w. w))))
-
-pub besides-requires-in-loop-i : goal.besides-requires-in-loop-i
-besides-requires-in-loop-i c = omega (arith, c.args.self.now.all_members)
-
-pub overflow_add-other : goal.overflow_add-other
-overflow_add-other c =
-    let a = c.args.self.now.lookups in
-    let g = c.args.self.now in
-    let e = groups.besides_is c.args.omit c.loop-i.i c.besides-in-loop-i.result c.besides-in-loop-i.ensures.0 c.besides-in-loop-i.ensures.1 in
-    let h = groups.besides_below c.args.omit c.loop-i.i c.args.self.now.members.count (omega arith) in
-    omega (arith, g.all_members)
 
 pub side-y-requires-clause-room : goal.side-y-requires-clause-room
 side-y-requires-clause-room c =

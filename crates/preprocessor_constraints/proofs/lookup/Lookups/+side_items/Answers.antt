@@ -9,12 +9,6 @@ use mathlib.Core.Path.{refl}
 use native.Mathlib.Omega.{arith}
 use Rattle.preprocessor_constraints.proofs.lookup.Lookups.+side_items.Goals as goal
 
-pub overflow_mul-n : goal.overflow_mul-n
-overflow_mul-n t c = omega (arith, c.requires)
-
-pub overflow_add-n : goal.overflow_add-n
-overflow_add-n t c = omega (arith, c.requires)
-
 pub copy_expr-x-requires : goal.copy_expr-x-requires
 copy_expr-x-requires t c =
     let a = c.args.self.now in
@@ -25,12 +19,6 @@ copy_expr-x-requires t c =
     let e = expr_of a.user.now n in
     let r = lists.first_room es c.args.roots.count long c.args.i e same in
     (trees.root_node a.user.now a.pairs.now (c.args.roots.first + c.args.i * 2) n a.pairs_named (omega (arith, c.requires)) refl, omega (arith, c.requires.room))
-
-pub overflow_add-i : goal.overflow_add-i
-overflow_add-i t c = omega (arith, c.requires.below)
-
-pub overflow_add-i-then-i-roots : goal.overflow_add-i-then-i-roots
-overflow_add-i-then-i-roots t c = omega (arith, c.if-i-roots.true)
 
 pub side_items-l-requires : goal.side_items-l-requires
 side_items-l-requires t c =
