@@ -3,24 +3,24 @@ ghost use Rattle.std.specs.Prelude.{◌≡◌, ◌+◌, ◌*◌, ◌≤◌, ◌<
 ghost use Rattle.expression.specs.Expr.{Expr, distribute_powers};
 ghost use Rattle.expression.specs.Flat.{size, sizes, extra};
 ghost use Rattle.expression.specs.Written.{most_words, ExprWritten, WrittenList};
-ghost use Rattle.preprocessor.specs.ComposeWords.{exprs_from, Limits, num_constraints};
+ghost use Rattle.preprocessor.specs.ComposeWords.{exprs_from, num_constraints};
 
 use crate::words::Input;
 use expression::kind;
-use expression_nodes::index;
 use expression_write::operations::{item, list_end, list_head};
 use expression_write::{Listed, copy_expr, push};
 use lists::sum_before;
-use preprocessor::CircuitParams;
 use preprocessor_constraints::factors::Copied;
-use preprocessor_constraints::group::Members;
+use preprocessor_constraints::group::Group;
 use preprocessor_constraints::lookup::Lookups;
+use preprocessor_constraints::{Numbers, Span};
 
 // How many constraints there are.
-pub fn num_constraints(own: usize, params: CircuitParams) -> usize
-    requires { Limits params × (own < 2 ^ 63) }
-    ensures { result ≡ num_constraints own params }
+pub fn num_constraints(own: usize, numbers: Numbers) -> usize
+    requires { own < 2 ^ 63 }
+    ensures { result ≡ num_constraints own numbers.params }
 {
+    let params = numbers.params;
     if params.num_permutation_polys == 0 {
         return own + params.num_groups;
     }
@@ -38,32 +38,34 @@ impl Input<'_> {
     {
         let words = self.words;
         let params = words.params;
+        let numbers = Numbers { params };
         let own = words.roots.len();
         if i < own {
-            let n = index(words.roots[i]);
+            let n = words.roots[i] as usize;
             return copy_expr(words.user, out, from, n, at);
         }
         let j = i - own;
         if j < params.num_groups {
-            let count = index(words.sizes[j]);
             let first = sum_before(words.sizes, j);
-            let members = Members { first, count };
+            let count = words.sizes[j] as usize;
+            let members = Span { first, count };
             let lookups = Lookups {
                 user: words.user,
                 widths: words.widths,
                 pairs: words.pairs,
-                params,
+                beta: params.num_challenges,
             };
-            return lookups.lookup_constraint(members, out, from, j, at);
+            let group = Group { lookups, members };
+            return group.lookup_constraint(numbers, out, from, j, at);
         }
         let p = j - params.num_groups;
+        if p == 0 {
+            return numbers.start_constraint(out, from, at);
+        }
         let copied = Copied {
             copied: self.copied,
-            params,
+            numbers,
         };
-        if p == 0 {
-            return copied.start_constraint(out, from, at);
-        }
         copied.part_constraint(out, from, p - 1, at)
     }
 
@@ -73,14 +75,15 @@ impl Input<'_> {
         requires room { (at + sizes (exprs_from (constraints_of self.now) i) + extra (exprs_from (constraints_of self.now) i) + 2) * 4 ≤ most_words }
         ensures { WrittenList from (exprs_from (constraints_of self.now) i) (Expr.challenge (self.now.words.now.params.num_challenges + 2)) at out.old out.new result.next result.base }
     {
-        let n = num_constraints(self.words.roots.len(), self.words.params);
+        let params = self.words.params;
+        let n = num_constraints(self.words.roots.len(), Numbers { params });
         let x = self.constraint(out, from, i, at);
         if i + 1 < n {
             let l = self.constraint_items(out, from, i + 1, x);
             let next = item(out, from, x, l.next);
             return Listed { next, base: l.base };
         }
-        list_end(out, from, x, self.words.params.num_challenges + 2)
+        list_end(out, from, x, params.num_challenges + 2)
     }
 
     // The constraints by powers of alpha.
@@ -88,7 +91,8 @@ impl Input<'_> {
         requires { (at + size (distribute_powers (constraints_of self.now) (Expr.challenge (self.now.words.now.params.num_challenges + 2)))) * 4 ≤ most_words }
         ensures { ExprWritten from (distribute_powers (constraints_of self.now) (Expr.challenge (self.now.words.now.params.num_challenges + 2))) at out.old out.new result }
     {
-        let n = num_constraints(self.words.roots.len(), self.words.params);
+        let params = self.words.params;
+        let n = num_constraints(self.words.roots.len(), Numbers { params });
         if n == 0 {
             return push(out, from, at, kind::CONSTANT, 0, 0, 0);
         }

@@ -7,19 +7,18 @@ ghost use Rattle.expression.specs.Flat.{largest_size};
 ghost use Rattle.expression.specs.Walks.{weight};
 ghost use Rattle.backend.specs.Circuit.{Circuit};
 ghost use Rattle.preprocessor.specs.Compose.{compose, lookup_tree_of};
-ghost use Rattle.preprocessor.specs.ComposeWords.{Limits, IsNode, groups_from_words, permutation_nodes};
+ghost use Rattle.preprocessor.specs.ComposeWords.{IsNode, groups_from_words, permutation_nodes};
 ghost use Rattle.preprocessor.specs.Count.{nodes_in, list_nodes, group_nodes};
-ghost use Rattle.preprocessor_constraints.specs.Lookups.{side_of, table_of, inputs_of, MembersIn};
+ghost use Rattle.preprocessor_constraints.specs.Lookups.{side_of};
+ghost use Rattle.preprocessor_constraints.specs.Groups.{inputs_of, table_of};
 ghost use Rattle.preprocessor_compose.specs.Input.{AreWordsOf};
 
 use crate::constraints::num_constraints;
 use crate::words::CircuitWords;
 use expression_degree::{add_sizes, size_of};
-use expression_nodes::index;
-use lists::sum_before;
-use preprocessor::CircuitParams;
-use preprocessor_constraints::group::Members;
-use preprocessor_constraints::lookup::Lookups;
+use preprocessor_constraints::group::Group;
+use preprocessor_constraints::lookup::{LookupSide, Lookups};
+use preprocessor_constraints::{Numbers, Span};
 
 // What `distribute_powers` adds to n expressions.
 fn list_nodes(n: usize, item: u64) -> u64
@@ -36,69 +35,56 @@ fn list_nodes(n: usize, item: u64) -> u64
     add_sizes(items, 2)
 }
 
-// The nodes of w expressions, whose roots stand `step` words apart from word s on.
-fn roots_nodes(user: &[u64], roots: &[u64], s: usize, step: usize, w: usize, item: u64) -> u64
-    requires named { All (IsNode user.now) roots.now }
-    requires bound { s + w * step < length roots.now + step }
-    ensures { result ≡ min largest_size (nodes_in item (tabulate (λ i. expr_of user.now (get_or roots.now (s + i * step) 0)) w)) }
+// The nodes of the expressions with these roots, which stand `step` words apart.
+fn roots_nodes(user: &[u64], words: &[u64], roots: Span, step: usize, item: u64) -> u64
+    requires named { All (IsNode user.now) words.now }
+    requires bound { roots.first + roots.count * step < length words.now + step }
+    ensures { result ≡ min largest_size (nodes_in item (tabulate (λ i. expr_of user.now (get_or words.now (roots.first + i * step) 0)) roots.count)) }
 {
     let mut sum: u64 = 0;
-    for i in 0..w {
-        let n = index(roots[s + i * step]);
+    for i in 0..roots.count {
+        let n = words[roots.first + i * step] as usize;
         sum = add_sizes(sum, size_of(user, n, item));
     }
     sum
 }
 
-// The nodes of a lookup's side, with gamma.
-fn side_nodes(lookups: &Lookups, s: usize, w: usize, item: u64) -> u64
-    requires bound { s + w * 2 ≤ length lookups.now.pairs.now + 1 }
+// The nodes of lookup i's side, with gamma.
+fn side_nodes(lookups: &Lookups, side: LookupSide, i: usize, item: u64) -> u64
+    requires below { i < length lookups.now.widths.now }
     requires one { item ≤ 1 }
-    ensures { result ≡ min largest_size (weight item (side_of lookups.now s w)) }
+    ensures { result ≡ min largest_size (weight item (side_of side lookups.now i)) }
 {
-    let x = roots_nodes(lookups.user, lookups.pairs, s, 2, w, item);
-    let y = list_nodes(w, item);
+    let roots = lookups.roots(side, i);
+    let x = roots_nodes(lookups.user, lookups.pairs, roots, 2, item);
+    let y = list_nodes(roots.count, item);
     let z = add_sizes(x, y);
     add_sizes(z, 2)
 }
 
 // The nodes of the inputs of a group.
-fn inputs_nodes(lookups: &Lookups, members: Members, item: u64) -> u64
-    requires members_in { MembersIn lookups.now members.first members.count }
-    requires one { item ≤ 1 }
-    ensures { result ≡ min largest_size (nodes_in item (inputs_of lookups.now members.first members.count)) }
+fn inputs_nodes(group: &Group, item: u64) -> u64
+    requires { item ≤ 1 }
+    ensures { result ≡ min largest_size (nodes_in item (inputs_of group.now)) }
 {
+    let members = group.members;
     let mut sum: u64 = 0;
-    let mut s = sum_before(lookups.widths, members.first);
     for i in 0..members.count {
-        let w = index(lookups.widths[members.first + i]);
-        let x = side_nodes(lookups, s * 2, w, item);
+        let x = side_nodes(&group.lookups, LookupSide::Input, members.first + i, item);
         sum = add_sizes(sum, x);
-        s += w;
     }
     sum
 }
 
-// The nodes of the table of lookup i.
-fn table_nodes(lookups: &Lookups, i: usize, item: u64) -> u64
-    requires below { i < length lookups.now.widths.now }
-    requires one { item ≤ 1 }
-    ensures { result ≡ min largest_size (weight item (table_of lookups.now i)) }
-{
-    let s = sum_before(lookups.widths, i);
-    let w = index(lookups.widths[i]);
-    side_nodes(lookups, s * 2 + 1, w, item)
-}
-
 // The nodes of a group's constraint.
-fn group_nodes(lookups: &Lookups, members: Members, item: u64) -> u64
-    requires members_in { MembersIn lookups.now members.first members.count }
-    requires few { members.count ≤ 8 }
+fn group_nodes(group: &Group, item: u64) -> u64
+    requires few { group.now.members.count ≤ 8 }
     requires one { item ≤ 1 }
-    ensures { result ≡ min largest_size (group_nodes members.count (nodes_in item (inputs_of lookups.now members.first members.count)) (weight item (table_of lookups.now members.first))) }
+    ensures { result ≡ min largest_size (group_nodes group.now.members.count (nodes_in item (inputs_of group.now)) (weight item (table_of group.now))) }
 {
-    let inputs = inputs_nodes(lookups, members, item);
-    let table = table_nodes(lookups, members.first, item);
+    let members = group.members;
+    let inputs = inputs_nodes(group, item);
+    let table = side_nodes(&group.lookups, LookupSide::Table, members.first, item);
     let x = add_sizes(inputs, members.count as u64);
     let y = (members.count as u64 + 1) * x;
     let z = add_sizes(y, table);
@@ -115,14 +101,15 @@ fn groups_nodes(words: &CircuitWords, item: u64) -> u64
         user: words.user,
         widths: words.widths,
         pairs: words.pairs,
-        params: words.params,
+        beta: words.params.num_challenges,
     };
     let mut sum: u64 = 0;
     let mut first = 0;
     for j in 0..words.params.num_groups {
-        let count = index(words.sizes[j]);
-        let members = Members { first, count };
-        let x = group_nodes(&lookups, members, item);
+        let count = words.sizes[j] as usize;
+        let members = Span { first, count };
+        let group = Group { lookups, members };
+        let x = group_nodes(&group, item);
         sum = add_sizes(sum, x);
         first += count;
     }
@@ -130,10 +117,10 @@ fn groups_nodes(words: &CircuitWords, item: u64) -> u64
 }
 
 // The nodes of the permutation's constraints.
-fn permutation_nodes(params: CircuitParams) -> u64
-    requires { Limits params }
-    ensures { result ≡ permutation_nodes params }
+fn permutation_nodes(numbers: Numbers) -> u64
+    ensures { result ≡ permutation_nodes numbers.params }
 {
+    let params = numbers.params;
     if params.num_permutation_polys == 0 {
         return 0;
     }
@@ -146,10 +133,13 @@ pub fn composed_nodes(words: &CircuitWords, item: u64) -> u64
     ensures { (c : Circuit) (names : List ℕ) → AreWordsOf c names words.now → result ≡ min largest_size (weight item (compose c)) }
 {
     let params = words.params;
-    let own = roots_nodes(words.user, words.roots, 0, 1, words.roots.len(), item);
+    let numbers = Numbers { params };
+    let count = words.roots.len();
+    let roots = Span { first: 0, count };
+    let own = roots_nodes(words.user, words.roots, roots, 1, item);
     let groups = groups_nodes(words, item);
-    let permutation = permutation_nodes(params);
-    let n = num_constraints(words.roots.len(), params);
+    let permutation = permutation_nodes(numbers);
+    let n = num_constraints(count, numbers);
     let x = add_sizes(own, groups);
     let y = add_sizes(x, permutation);
     let z = add_sizes(y, list_nodes(n, item));

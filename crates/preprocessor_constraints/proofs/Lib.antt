@@ -1,1 +1,2 @@
 mod Sides
+mod Words

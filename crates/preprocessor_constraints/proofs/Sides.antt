@@ -20,16 +20,16 @@ label_size Identity w i = refl
 label_size Permutation w i = refl
 
 pub factor_size : (side : Side) (w : Copied) (i : ℕ) → size (factor_tree side w i) + 1 ≡ factor_nodes side
-factor_size Identity w i = omega (arith, parts.identity_size w.params w.copied.now i)
-factor_size Permutation w i = omega (arith, parts.permutation_size w.params w.copied.now i)
+factor_size Identity w i = omega (arith, parts.identity_size w.numbers.params w.copied.now i)
+factor_size Permutation w i = omega (arith, parts.permutation_size w.numbers.params w.copied.now i)
 
 pub z_size : (side : Side) (w : Copied) (i : ℕ) → size (z_tree side w i) ≡ 1
 unfolding body
 z_size Identity w i = refl
-z_size Permutation w i = parts.next_size w.params i
+z_size Permutation w i = parts.next_size w.numbers.params i
 
 module _ (side : Side) (w : Copied) (i : ℕ) {from n next : ℕ} {d d1 : List ℕ} where
-  pub factor_written : ExprWritten from (Expr.sum (Expr.sum (at (get_or w.copied.now i 0)) (Expr.product (Expr.challenge w.params.num_challenges) (label_tree side w i))) (Expr.challenge (w.params.num_challenges + 1))) n d d1 next
+  pub factor_written : ExprWritten from (Expr.sum (Expr.sum (at (get_or w.copied.now i 0)) (Expr.product (Expr.challenge w.numbers.params.num_challenges) (label_tree side w i))) (Expr.challenge (w.numbers.params.num_challenges + 1))) n d d1 next
       → ExprWritten from (factor_tree side w i) n d d1 next
   unfolding identity_tree permutation_tree
-  factor_written h = elim side as (λ s. ExprWritten from (Expr.sum (Expr.sum (at (get_or w.copied.now i 0)) (Expr.product (Expr.challenge w.params.num_challenges) (label_tree s w i))) (Expr.challenge (w.params.num_challenges + 1))) n d d1 next → ExprWritten from (factor_tree s w i) n d d1 next) [ Identity ↦ λ x. x | Permutation ↦ λ x. x ] h
+  factor_written h = elim side as (λ s. ExprWritten from (Expr.sum (Expr.sum (at (get_or w.copied.now i 0)) (Expr.product (Expr.challenge w.numbers.params.num_challenges) (label_tree s w i))) (Expr.challenge (w.numbers.params.num_challenges + 1))) n d d1 next → ExprWritten from (factor_tree s w i) n d d1 next) [ Identity ↦ λ x. x | Permutation ↦ λ x. x ] h

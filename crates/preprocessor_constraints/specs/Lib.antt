@@ -1,3 +1,4 @@
 pub mod Unique
 pub mod Lookups
 pub mod Copied
+pub mod Groups

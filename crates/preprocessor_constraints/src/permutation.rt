@@ -6,14 +6,13 @@ ghost use Rattle.backend.specs.Circuit.{max_polys};
 ghost use Rattle.preprocessor.specs.Compose.{next_tree, chunk, start_tree};
 
 use crate::factors::{Copied, Side};
+use crate::{Numbers, Span};
 use expression::kind;
 use expression::node::SIGNED_ONE;
 use expression_write::operations::{negated, product, query, sum};
 use expression_write::push;
 
-impl Copied<'_> {
-    ghost use Rattle.preprocessor_constraints.specs.Copied.{factor_nodes, factors_tree, z_tree, part_of};
-
+impl Numbers {
     // The number of the first z.
     fn first_z(&self) -> usize
         ensures { result ≡ self.now.params.num_poly + self.now.params.num_permutation_polys + self.now.params.num_groups * 2 }
@@ -34,63 +33,17 @@ impl Copied<'_> {
         push(out, from, at, kind::POLYNOMIAL, z as u64, 0, SIGNED_ONE)
     }
 
-    // How many copied columns part i has.
-    fn part_count(&self, i: usize) -> usize
+    // The copied columns of part i.
+    fn part(&self, i: usize) -> Span
         requires { i < self.now.params.num_chunks }
-        ensures length_is { result ≡ length (chunk self.now.params i) }
-        ensures columns { (0 < result) × (i * self.now.params.chunk_size + result ≤ self.now.params.num_permutation_polys) }
+        ensures first { result.first ≡ i * self.now.params.chunk_size }
+        ensures count { result.count ≡ length (chunk self.now.params i) }
+        ensures inside { (0 < result.count) × (result.first + result.count ≤ self.now.params.num_permutation_polys) }
     {
-        let left = self.params.num_permutation_polys - i * self.params.chunk_size;
-        left.min(self.params.chunk_size)
-    }
-
-    // Part i's z on this side.
-    fn z(&self, side: Side, out: &mut [u64], from: usize, i: usize, at: usize) -> usize
-        requires below { i < max_polys }
-        requires room { (at + 1) * 4 ≤ most_words }
-        ensures { ExprWritten from (z_tree side self.now i) at out.old out.new result }
-    {
-        match side {
-            Side::Identity => query(out, from, at, (self.first_z() + i) as u64),
-            Side::Permutation => self.next_z(out, from, i, at),
-        }
-    }
-
-    // z_lhs * product of identity factors, or z_rhs * product of permutation factors
-    fn z_product(
-        &self,
-        side: Side,
-        out: &mut [u64],
-        from: usize,
-        i: usize,
-        first: usize,
-        count: usize,
-        at: usize,
-    ) -> usize
-        requires below { i < max_polys }
-        requires some { 0 < count }
-        requires columns { first + count ≤ self.now.params.num_permutation_polys }
-        requires room { (at + count * factor_nodes side + 1) * 4 ≤ most_words }
-        ensures number { result ≡ at + count * factor_nodes side + 1 }
-        ensures written { ExprWritten from (Expr.product (z_tree side self.now i) (factors_tree side self.now first count)) at out.old out.new result }
-    {
-        let z = self.z(side, out, from, i, at);
-        let p = self.factors_product(side, out, from, first, count, z);
-        product(out, from, z, p)
-    }
-
-    // The constraint of part i.
-    pub fn part_constraint(&self, out: &mut [u64], from: usize, i: usize, at: usize) -> usize
-        requires below { i < self.now.params.num_chunks }
-        requires room { (at + length (chunk self.now.params i) * 18 + 4) * 4 ≤ most_words }
-        ensures { ExprWritten from (part_of self.now i) at out.old out.new result }
-    {
-        let count = self.part_count(i);
         let first = i * self.params.chunk_size;
-        let left = self.z_product(Side::Identity, out, from, i, first, count, at);
-        let right = self.z_product(Side::Permutation, out, from, i, first, count, left);
-        let n = negated(out, from, right);
-        sum(out, from, left, n)
+        let left = self.params.num_permutation_polys - first;
+        let count = left.min(self.params.chunk_size);
+        Span { first, count }
     }
 
     // l_1 * (z_0 - one)
@@ -104,5 +57,46 @@ impl Copied<'_> {
         let n = negated(out, from, one);
         let s = sum(out, from, z, n);
         product(out, from, l, s)
+    }
+}
+
+impl Copied<'_> {
+    ghost use Rattle.preprocessor_constraints.specs.Copied.{factor_nodes, factors_tree, z_tree, part_of};
+
+    // Part i's z on this side.
+    fn z(&self, side: Side, out: &mut [u64], from: usize, i: usize, at: usize) -> usize
+        requires below { i < max_polys }
+        requires room { (at + 1) * 4 ≤ most_words }
+        ensures { ExprWritten from (z_tree side self.now i) at out.old out.new result }
+    {
+        match side {
+            Side::Identity => query(out, from, at, (self.numbers.first_z() + i) as u64),
+            Side::Permutation => self.numbers.next_z(out, from, i, at),
+        }
+    }
+
+    // z_lhs * product of identity factors, or z_rhs * product of permutation factors, of part i
+    fn z_product(&self, side: Side, out: &mut [u64], from: usize, i: usize, at: usize) -> usize
+        requires below { i < self.now.numbers.params.num_chunks }
+        requires room { (at + length (chunk self.now.numbers.params i) * factor_nodes side + 1) * 4 ≤ most_words }
+        ensures number { result ≡ at + length (chunk self.now.numbers.params i) * factor_nodes side + 1 }
+        ensures written { ExprWritten from (Expr.product (z_tree side self.now i) (factors_tree side self.now (i * self.now.numbers.params.chunk_size) (length (chunk self.now.numbers.params i)))) at out.old out.new result }
+    {
+        let columns = self.numbers.part(i);
+        let z = self.z(side, out, from, i, at);
+        let p = self.factors_product(side, columns, out, from, z);
+        product(out, from, z, p)
+    }
+
+    // The constraint of part i.
+    pub fn part_constraint(&self, out: &mut [u64], from: usize, i: usize, at: usize) -> usize
+        requires below { i < self.now.numbers.params.num_chunks }
+        requires room { (at + length (chunk self.now.numbers.params i) * 18 + 4) * 4 ≤ most_words }
+        ensures { ExprWritten from (part_of self.now i) at out.old out.new result }
+    {
+        let left = self.z_product(Side::Identity, out, from, i, at);
+        let right = self.z_product(Side::Permutation, out, from, i, left);
+        let n = negated(out, from, right);
+        sum(out, from, left, n)
     }
 }

@@ -64,6 +64,8 @@ fn exchange(
 
 // Along a cycle each cell takes the label that the cell before held when the cycle began, the first that of the last.
 // The cells stand in columns that begin where `starts` says, none of them twice; every word of the columns is told.
+// Kept: apart from `records::walk_cells`, which has a record for a cell. One walk for both that takes each cell from a closure over the
+// cells was tried, and the proof didn't close: rattle's goal at the callers' closures is not what the code needs.
 fn walk_cycle(columns: &mut [u64], starts: &[u64; MAX_POLYS], cells: &[u64])
     requires nonzero { 0 < length cells.now / 2 }
     requires all { All (λ (x : Cell). (x.polynomial < max_polys) × (cell_word starts.now x < length columns.old)) (cells_of cells.now) }

@@ -3,13 +3,6 @@ use native.Mathlib.Omega.{arith}
 use Rattle.preprocessor.proofs.Walks.{first_room, turning_start, turning_end, turn_fits, turn_asks, turn_next}
 use Rattle.preprocessor_permutation.proofs.permutation_polys.Goals as goal
 
-pub overflow_mul-copied : goal.overflow_mul-copied
-overflow_mul-copied c = let h = c.requires.rows_in_bounds in record { fits = omega arith }
-
-pub column_starts-starts-requires : goal.column_starts-starts-requires
-column_starts-starts-requires c =
-    (c.requires.walkable.once, c.requires.walkable.few, (let h = c.requires.rows_in_bounds in omega arith))
-
 pub loop-count-init : goal.loop-count-init
 loop-count-init c =
     turning_start _ _ _ _ _ c.requires.walkable c.requires.lengths_value _ _ c.requires.rows_in_bounds c.first_labels.ensures

@@ -1,9 +1,8 @@
 -- The places left to walk, with the label at hand, give what all of them gave at first.
 use Prim.Native.Nat.{◌-◌, ◌/◌}
 use native.Mathlib.Omega.{arith}
-use borrow.Author.Rules.{rules}
 use lib.ListN.{length}
-use Rattle.preprocessor.proofs.Walks.{Walking, walking_start, walking_next, walking_end, cell_fits, walking_fits}
+use Rattle.preprocessor.proofs.Walks.{walking_start, walking_next, walking_end, cell_fits, walking_fits}
 use Rattle.preprocessor_permutation.proofs.walk_cycle.Goals as goal
 
 pub cell_label-label-requires : goal.cell_label-label-requires
@@ -22,10 +21,6 @@ pub loop-i-preserved : goal.loop-i-preserved
 loop-i-preserved c =
     walking_next _ _ _ _ _ _ _ _ _ c.loop-i.invariant (omega arith) c.exchange-label.ensures.value
     c.exchange-label.ensures.columns_after
-
-pub shape_of-columns : goal.shape_of-columns
-unfolding Walking
-shape_of-columns c = search rules
 
 pub returns : goal.returns
 returns c =

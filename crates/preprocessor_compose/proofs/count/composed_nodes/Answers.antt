@@ -1,18 +1,9 @@
-use Prim.Native.Nat.{ℕ, ◌+◌, ◌≤◌, min}
-use native.Mathlib.Omega.{arith}
-use mir.Val.{Fits}
-use mir.Syntax.{w64}
+use Prim.Native.Nat.{ℕ, min}
 use Rattle.expression.specs.Flat.{largest_size}
 use Rattle.preprocessor.proofs.Counts as counts
 use Rattle.preprocessor.specs.Count.{list_nodes}
 use mathlib.Core.Path.{ap, ◌∙◌}
 use Rattle.preprocessor_compose.proofs.count.composed_nodes.Goals as goal
-
-one_more : (n : ℕ) → n ≤ 8 → Fits w64 (n + 1)
-one_more n h = omega arith
-
-pub overflow_add-params-2 : goal.overflow_add-params-2
-overflow_add-params-2 c = one_more _ (let l = c.args.words.now.fits.limits in omega (arith, l.few_groups, l.few_lookups))
 
 pub returns : goal.returns
 returns c k names p =

@@ -1,10 +1,8 @@
-use Prim.Native.Nat.{ℕ, ◌*◌, ◌≤◌, min}
+use Prim.Native.Nat.{ℕ, min}
 use Rattle.expression.specs.Flat.{largest_size}
 use Rattle.preprocessor.proofs.Counts as counts
 use Rattle.preprocessor.specs.Count.{list_nodes}
 use mathlib.Core.Path.{sym, ap, ◌∙◌}
-use native.Mathlib.Nat.{mul-le-mul_left}
-use native.Mathlib.Omega.{arith}
 use Rattle.preprocessor_compose.proofs.count.list_nodes.Goals as goal
 
 pub returns-then-n-eq0 : goal.returns-then-n-eq0
@@ -16,12 +14,6 @@ pub returns-then-n-eq1 : goal.returns-then-n-eq1
 returns-then-n-eq1 c =
     let i = c.args.item in
     counts.list_one i ∙ ap (λ (n : ℕ). min largest_size (list_nodes i n)) (sym c.if-n-eq1.true)
-
-pub overflow_mul-items : goal.overflow_mul-items
-overflow_mul-items c =
-    let a = c.args in
-    let m : a.n * a.item ≤ a.n * 1 = mul-le-mul_left a.n c.requires in
-    omega arith
 
 pub returns : goal.returns
 returns c =

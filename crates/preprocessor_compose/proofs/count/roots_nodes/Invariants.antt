@@ -8,4 +8,4 @@ use mathlib.Core.Path.{◌≡◌}
 use Rattle.preprocessor_compose.proofs.count.roots_nodes.Given as goal
 
 abbrev pub invariant-loop-i : goal.invariant-loop-i
-invariant-loop-i l = (l.i ≤ l.w) × (l.sum ≡ min largest_size (nodes_in l.item (tabulate (λ j. expr_of l.user (get_or l.roots (l.s + j * l.step) 0)) l.i)))
+invariant-loop-i l = (l.i ≤ l.roots.count) × (l.sum ≡ min largest_size (nodes_in l.item (tabulate (λ j. expr_of l.user (get_or l.words (l.roots.first + j * l.step) 0)) l.i)))

@@ -8,9 +8,6 @@ cell_label-label-requires c =
     let l : length c.args.cells.now - 1 < length c.args.cells.now = let p = c.requires.0 in omega arith in
     cycle.cell c.args.starts.now c.args.cells.now (length c.args.columns.now) (length c.args.cells.now - 1) c.requires.1 l
 
-pub loop-cell-init : goal.loop-cell-init
-loop-cell-init c = cycle.start c.args.starts.now c.args.cells.now c.args.columns.now c.cell_label-label.result
-
 pub exchange-label-requires : goal.exchange-label-requires
 exchange-label-requires c =
     cycle.fits c.args.starts.now c.args.cells.now c.args.columns.now c.cell_label-label.result c.loop-cell.columns c.loop-cell.label c.loop-cell.cell-index

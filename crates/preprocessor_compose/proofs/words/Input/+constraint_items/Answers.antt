@@ -22,9 +22,6 @@ constraint-x-requires-clause-room t c =
     let r = lists.first_room es n long c.args.i e refl in
     omega (arith, c.requires.room)
 
-pub overflow_add-i : goal.overflow_add-i
-overflow_add-i t c = omega (arith, c.requires.below, c.num_constraints-n.ensures)
-
 pub constraint_items-l-requires : goal.constraint_items-l-requires
 constraint_items-l-requires t c =
     let a = c.args.self.now in

@@ -10,12 +10,6 @@ use mathlib.Core.Path.{◌≡◌}
 use native.Mathlib.Omega.{arith}
 use Rattle.preprocessor_compose.proofs.words.Input.+outer_items.Goals as goal
 
-pub query-x-requires : goal.query-x-requires
-query-x-requires t c = omega (arith, c.requires.room)
-
-pub overflow_add-i : goal.overflow_add-i
-overflow_add-i t c = omega (arith, c.if-i-params.true, c.args.self.now.words.now.fits.limits)
-
 pub outer_items-l-requires : goal.outer_items-l-requires
 unfolding body
 outer_items-l-requires t c =

@@ -1,7 +1,7 @@
 use Rattle.expression.specs.Flat.{body}
 use Rattle.preprocessor.proofs.Parts as parts
 use native.Mathlib.Omega.{arith}
-use Rattle.preprocessor_constraints.proofs.factors.Copied.start_constraint.Goals as goal
+use Rattle.preprocessor_constraints.proofs.Numbers.start_constraint.Goals as goal
 
 pub push-one-requires : goal.push-one-requires
 unfolding body

@@ -1,6 +1,6 @@
 use Rattle.preprocessor.proofs.Parts as parts
 use native.Mathlib.Omega.{arith}
-use Rattle.preprocessor_constraints.proofs.factors.Copied.next_z.Goals as goal
+use Rattle.preprocessor_constraints.proofs.Numbers.next_z.Goals as goal
 
 pub returns-then-i-self : goal.returns-then-i-self
 returns-then-i-self c =

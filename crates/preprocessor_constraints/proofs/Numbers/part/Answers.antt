@@ -1,9 +1,9 @@
 use Rattle.preprocessor.proofs.Parts as parts
 use native.Mathlib.Omega.{arith}
-use Rattle.preprocessor_constraints.proofs.factors.Copied.part_count.Goals as goal
+use Rattle.preprocessor_constraints.proofs.Numbers.part.Goals as goal
 
-pub returns-clause-length_is : goal.returns-clause-length_is
-returns-clause-length_is c =
+pub returns-clause-count : goal.returns-clause-count
+returns-clause-count c =
     let p = c.args.self.now.params in
     let l = c.args.self.now.limits in
     let a = parts.part_start p l c.args.i c.requires in
