@@ -51,7 +51,7 @@ pub const GROUP_START: usize = 20;
 
 pub const GROUP_COUNT: usize = 21;
 
-// The places of the sections.
+// The places of the sections. Kept as numbers: a place says where a section's two words stand, and the loops go over the places.
 pub const INSTANCES: usize = 0;
 
 pub const PREPROCESS: usize = 1;
