@@ -7,12 +7,10 @@ ghost use Rattle.backend.specs.Circuit.{Pair, circuit_of, groups_of, pairs_of, s
 ghost use Rattle.backend.specs.Layout.{is_root};
 ghost use Rattle.backend.specs.Degrees as def;
 ghost use Rattle.backend.specs.Questions.{q7, q18};
-ghost use Rattle.backend.specs.Laid.{ContentsValid, BodiesValid};
 
+use crate::lookups::Lookups;
 use backend_sections::groups::group_sizes;
-use backend_sections::reader::{
-    constraints_of, groups_of, nodes_of, pairs_of, stated_of, widths_of,
-};
+use backend_sections::reader::{Circuit, stated_of};
 use expression_degree::degree_of;
 use lists::sum_before;
 
@@ -28,57 +26,52 @@ fn user_degree(nodes: &[u64], constraints: &[u64]) -> u64
     degree
 }
 
-// The largest degree of one side of a lookup, the `n` pairs from `start` on: 0 the inputs, 1 the tables.
-fn side_degree(nodes: &[u64], pairs: &[u64], start: usize, n: usize, side: usize) -> u64
-    requires { (all_of (is_root nodes.now) pairs.now ≡ true) × ((start + n ≤ length pairs.now / 2) × (side < 2)) }
-    ensures { result ≡ min 1025 (def.side_degree nodes.now pairs.now start side n) }
-{
-    let mut degree: u64 = 0;
-    for i in 0..n {
-        let root = pairs[(start + i) * 2 + side] as usize;
-        degree = degree.max(degree_of(nodes, root));
+impl Lookups<'_> {
+    // The largest degree of one side of a lookup, the `n` pairs from `start` on: 0 the inputs, 1 the tables.
+    fn side_degree(self, start: usize, n: usize, side: usize) -> u64
+        requires { (start + n ≤ length self.pairs.now / 2) × (side < 2) }
+        ensures { result ≡ min 1025 (def.side_degree self.entry.nodes.now self.entry.pairs.now start side n) }
+    {
+        let mut degree: u64 = 0;
+        for i in 0..n {
+            let root = self.pairs[(start + i) * 2 + side] as usize;
+            degree = degree.max(degree_of(self.nodes, root));
+        }
+        degree
     }
-    degree
-}
 
-// The degree of the constraint of a group, the `n` lookups from lookup `first` on, whose first pair is `start`: 1, those of its inputs, and
-// that of its table.
-fn group_degree(
-    nodes: &[u64],
-    widths: &[u64],
-    pairs: &[u64],
-    first: usize,
-    n: usize,
-    start: usize,
-) -> u64
-    requires { (all_of (is_root nodes.now) pairs.now ≡ true) × ((total widths.now ≡ length pairs.now / 2) × ((first + n ≤ length widths.now) × ((0 < n) × ((n ≤ 8) × (start ≡ total (take first widths.now)))))) }
-    ensures { result ≡ min 1025 (def.group_degree (def.group_from nodes.now widths.now pairs.now first n)) }
-{
-    let table = side_degree(nodes, pairs, start, widths[first] as usize, 1);
-    let mut sum: u64 = 0;
-    let mut next = start;
-    for i in 0..n {
-        let w = widths[first + i] as usize;
-        sum += side_degree(nodes, pairs, next, w, 0);
-        next += w;
+    // The degree of the constraint of a group, the `n` lookups from lookup `first` on, whose first pair is `start`: 1, those of its inputs,
+    // and that of its table.
+    fn group_degree(self, first: usize, n: usize, start: usize) -> u64
+        requires { (first + n ≤ length self.widths.now) × ((0 < n) × ((n ≤ 8) × (start ≡ total (take first self.widths.now)))) }
+        ensures { result ≡ min 1025 (def.group_degree (def.group_from self.entry.nodes.now self.entry.widths.now self.entry.pairs.now first n)) }
+    {
+        let table = self.side_degree(start, self.widths[first] as usize, 1);
+        let mut sum: u64 = 0;
+        let mut next = start;
+        for i in 0..n {
+            let w = self.widths[first + i] as usize;
+            sum += self.side_degree(next, w, 0);
+            next += w;
+        }
+        (1 + sum + table).min(1025)
     }
-    (1 + sum + table).min(1025)
-}
 
-// The largest degree of the constraints of the groups, which have so many lookups each.
-fn groups_degree(nodes: &[u64], sizes: &[u64], widths: &[u64], pairs: &[u64]) -> u64
-    requires { (all_of (is_root nodes.now) pairs.now ≡ true) × ((total widths.now ≡ length pairs.now / 2) × ((total sizes.now ≡ length widths.now) × ((length widths.now ≤ 8) × All (λ n. 0 < n) sizes.now))) }
-    ensures { result ≡ min 1025 (def.groups_degree (split sizes.now (split widths.now (pairs_of nodes.now pairs.now)))) }
-{
-    let mut degree: u64 = 0;
-    let mut first: usize = 0;
-    for j in 0..sizes.len() {
-        let n = sizes[j] as usize;
-        let start = sum_before(widths, first);
-        degree = degree.max(group_degree(nodes, widths, pairs, first, n, start));
-        first += n;
+    // The largest degree of the constraints of the groups, which have so many lookups each.
+    fn groups_degree(self, sizes: &[u64]) -> u64
+        requires { (total sizes.now ≡ length self.widths.now) × ((length self.widths.now ≤ 8) × All (λ n. 0 < n) sizes.now) }
+        ensures { result ≡ min 1025 (def.groups_degree (split sizes.now (split self.entry.widths.now (pairs_of self.entry.nodes.now self.entry.pairs.now)))) }
+    {
+        let mut degree: u64 = 0;
+        let mut first: usize = 0;
+        for j in 0..sizes.len() {
+            let n = sizes[j] as usize;
+            let start = sum_before(self.widths, first);
+            degree = degree.max(self.group_degree(first, n, start));
+            first += n;
+        }
+        degree
     }
-    degree
 }
 
 // What question 10 and D are read from: word 1 of the circuit words, and the largest degree of the user and of the lookup constraints.
@@ -89,24 +82,23 @@ pub struct Degrees {
     pub lookups: u64,
 }
 
-// The degrees of the constraints of circuit words, once 7 and 18 have been answered yes.
-pub fn degrees_of(circuit: &[u64]) -> Degrees
-    requires { ContentsValid circuit.now × (BodiesValid circuit.now × ((q7 (circuit_of circuit.now) ≡ true) × (q18 (circuit_of circuit.now) ≡ true))) }
-    ensures { (result.stated ≡ get_or circuit.now 1 0) × ((result.user ≡ min 1025 (def.degree_of (circuit_of circuit.now).constraints)) × (result.lookups ≡ min 1025 (def.groups_degree (groups_of (circuit_of circuit.now))))) }
+// The degrees of the constraints of a circuit, once 7 and 18 have been answered yes.
+pub fn degrees_of(circuit: Circuit) -> Degrees
+    requires { (q7 (circuit_of circuit.words.now) ≡ true) × (q18 (circuit_of circuit.words.now) ≡ true) }
+    ensures { (result.stated ≡ get_or circuit.entry.words.now 1 0) × ((result.user ≡ min 1025 (def.degree_of (circuit_of circuit.entry.words.now).constraints)) × (result.lookups ≡ min 1025 (def.groups_degree (groups_of (circuit_of circuit.entry.words.now))))) }
 {
-    let stated = stated_of(circuit);
-    let nodes = nodes_of(circuit);
-    let users = constraints_of(circuit);
-    let widths = widths_of(circuit);
-    let pairs = pairs_of(circuit);
-    let numbers = groups_of(circuit);
+    let laid = circuit.laid();
+    let users = laid.constraints();
+    let numbers = laid.groups();
     let sizes = group_sizes(numbers);
-    let user = user_degree(nodes, users);
-    let lookups = groups_degree(nodes, sizes.as_slice(), widths, pairs);
+    let lookups = Lookups::new(circuit);
+    let stated = stated_of(circuit.words);
+    let user = user_degree(lookups.nodes, users);
+    let largest = lookups.groups_degree(sizes.as_slice());
     Degrees {
         stated,
         user,
-        lookups,
+        lookups: largest,
     }
 }
 

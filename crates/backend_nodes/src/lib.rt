@@ -3,3 +3,4 @@
 
 pub mod degrees;
 pub mod layout;
+pub mod lookups;

@@ -3,12 +3,10 @@ ghost use Rattle.std.specs.Prelude.{◌≡◌, true, ◌+◌, ◌-◌, ◌/◌, 
 ghost use Rattle.lists.specs.Lists.{all_of, tabulate, split, total};
 ghost use Rattle.backend.specs.Circuit.{cell_at, cells_of, circuit_of};
 ghost use Rattle.backend.specs.Questions.{good_cycle, cycles_good, q11};
-ghost use Rattle.backend.specs.Laid.{ContentsValid, BodiesValid};
 ghost use Rattle.backend.specs.Cycles as def;
 ghost use Rattle.backend_questions.specs.Chains.{Linked};
 
-use backend_sections::bodies::{num_poly, rows};
-use backend_sections::reader::{cells_of, lengths_of};
+use backend_sections::reader::Circuit;
 
 // The first `count` cells, each linked to the last before it whose row has the same remainder, its chain: `heads` has one more than the
 // number of the last cell of each chain, 0 for none, and `earlier` what `heads` had before the cell was put in.
@@ -37,6 +35,7 @@ impl<'a> LinkedCells<'a> {
 
     // Is cell `count` none of those before it from `start` on? Only cells of its chain can be the same: they are met from the last down to
     // `start`.
+    // Kept: the `while` follows the links of a chain, and counts no index.
     fn fresh(&self, start: usize) -> bool
         requires { (self.now.count < length self.now.cells.now / 2) × (self.now.count < 4096) }
         ensures { result ≡ def.fresh (cell_at self.now.cells.now self.now.count) (def.cells_from self.now.cells.now start (self.now.count - start)) }
@@ -84,6 +83,7 @@ fn good_cell(linked: &LinkedCells, start: usize, polys: u64, rows: u64) -> bool
 }
 
 // Is the cycle of the next `n` cells good? If so, its cells are linked.
+// Kept: the `while` counts by `linked.count`, which `link` raises.
 fn good_cycle(linked: &mut LinkedCells, n: usize, polys: u64, rows: u64) -> bool
     requires { (linked.old.count + n ≤ length linked.old.cells.now / 2) × (linked.old.count + n ≤ 4096) }
     ensures value { result ≡ good_cycle polys rows (def.cells_from linked.old.cells.now linked.old.count n) }
@@ -118,13 +118,13 @@ fn cycles_good(lengths: &[u64], cells: &[u64], polys: u64, rows: u64) -> bool
 }
 
 // Question 11.
-pub fn question_11(circuit: &[u64]) -> bool
-    requires { ContentsValid circuit.now × BodiesValid circuit.now }
-    ensures { result ≡ q11 (circuit_of circuit.now) }
+pub fn question_11(circuit: Circuit) -> bool
+    ensures { result ≡ q11 (circuit_of circuit.entry.words.now) }
 {
-    let polys = num_poly(circuit);
-    let rows = rows(circuit);
-    let lengths = lengths_of(circuit);
-    let cells = cells_of(circuit);
+    let laid = circuit.laid();
+    let polys = circuit.num_poly();
+    let rows = laid.rows();
+    let lengths = laid.lengths();
+    let cells = laid.cells();
     cycles_good(lengths, cells, polys, rows)
 }

@@ -1,16 +1,15 @@
 // Question 18, put to the group numbers and to the tables of each group.
-ghost use Rattle.std.specs.Prelude.{◌≡◌, true, ◌+◌, ◌/◌, ◌<◌, ◌≤◌, length};
+ghost use Rattle.std.specs.Prelude.{◌≡◌, true, ◌+◌, ◌<◌, ◌≤◌, length};
 ghost use Rattle.lists.specs.Lists.{all_of, split, total, All};
 ghost use Rattle.expression.specs.Same.{same_list};
 ghost use Rattle.backend.specs.Circuit.{circuit_of, pairs_of};
 ghost use Rattle.backend.specs.Constraints.{tables_of};
-ghost use Rattle.backend.specs.Layout.{is_root};
 ghost use Rattle.backend.specs.Degrees.{lookup_numbered, group_from};
 ghost use Rattle.backend.specs.Questions.{group_numbers_good, tables_alike, q7, q18};
-ghost use Rattle.backend.specs.Laid.{ContentsValid, BodiesValid};
 
+use backend_nodes::lookups::Lookups;
 use backend_sections::groups::group_sizes;
-use backend_sections::reader::{groups_of, nodes_of, pairs_of, widths_of};
+use backend_sections::reader::Circuit;
 use expression_same::same_tree;
 use lists::sum_before;
 
@@ -38,21 +37,21 @@ fn numbers_good(numbers: &[u64]) -> bool
 }
 
 // Are the tables of lookup i, in width and as trees, those of lookup f?
-fn same_tables(nodes: &[u64], widths: &[u64], pairs: &[u64], i: usize, f: usize) -> bool
-    requires { (all_of (is_root nodes.now) pairs.now ≡ true) × ((total widths.now ≡ length pairs.now / 2) × ((i < length widths.now) × (f < length widths.now))) }
-    ensures { result ≡ same_list (tables_of (lookup_numbered nodes.now widths.now pairs.now i)) (tables_of (lookup_numbered nodes.now widths.now pairs.now f)) }
+fn same_tables(lookups: Lookups, i: usize, f: usize) -> bool
+    requires { (i < length lookups.widths.now) × (f < length lookups.widths.now) }
+    ensures { result ≡ same_list (tables_of (lookup_numbered lookups.entry.nodes.now lookups.entry.widths.now lookups.entry.pairs.now i)) (tables_of (lookup_numbered lookups.entry.nodes.now lookups.entry.widths.now lookups.entry.pairs.now f)) }
 {
-    let width = widths[i] as usize;
-    let other = widths[f] as usize;
+    let width = lookups.widths[i] as usize;
+    let other = lookups.widths[f] as usize;
     if width != other {
         return false;
     }
-    let first = sum_before(widths, i);
-    let second = sum_before(widths, f);
+    let first = sum_before(lookups.widths, i);
+    let second = sum_before(lookups.widths, f);
     for t in 0..width {
-        let a = pairs[(first + t) * 2 + 1] as usize;
-        let b = pairs[(second + t) * 2 + 1] as usize;
-        if !same_tree(nodes, a, b) {
+        let a = lookups.pairs[(first + t) * 2 + 1] as usize;
+        let b = lookups.pairs[(second + t) * 2 + 1] as usize;
+        if !same_tree(lookups.nodes, a, b) {
             return false;
         }
     }
@@ -60,12 +59,12 @@ fn same_tables(nodes: &[u64], widths: &[u64], pairs: &[u64], i: usize, f: usize)
 }
 
 // Are the tables of the `n` lookups from lookup `first` on alike?
-fn group_alike(nodes: &[u64], widths: &[u64], pairs: &[u64], first: usize, n: usize) -> bool
-    requires { (all_of (is_root nodes.now) pairs.now ≡ true) × ((total widths.now ≡ length pairs.now / 2) × ((first + n ≤ length widths.now) × (0 < n))) }
-    ensures { result ≡ tables_alike (group_from nodes.now widths.now pairs.now first n) }
+fn group_alike(lookups: Lookups, first: usize, n: usize) -> bool
+    requires { (first + n ≤ length lookups.widths.now) × (0 < n) }
+    ensures { result ≡ tables_alike (group_from lookups.entry.nodes.now lookups.entry.widths.now lookups.entry.pairs.now first n) }
 {
     for i in 0..n {
-        if !same_tables(nodes, widths, pairs, first + i, first) {
+        if !same_tables(lookups, first + i, first) {
             return false;
         }
     }
@@ -73,14 +72,14 @@ fn group_alike(nodes: &[u64], widths: &[u64], pairs: &[u64], first: usize, n: us
 }
 
 // Are the tables of each group alike? The groups have so many lookups.
-fn groups_alike(nodes: &[u64], sizes: &[u64], widths: &[u64], pairs: &[u64]) -> bool
-    requires { (all_of (is_root nodes.now) pairs.now ≡ true) × ((total widths.now ≡ length pairs.now / 2) × ((total sizes.now ≡ length widths.now) × All (λ n. 0 < n) sizes.now)) }
-    ensures { result ≡ all_of tables_alike (split sizes.now (split widths.now (pairs_of nodes.now pairs.now))) }
+fn groups_alike(lookups: Lookups, sizes: &[u64]) -> bool
+    requires { (total sizes.now ≡ length lookups.widths.now) × All (λ n. 0 < n) sizes.now }
+    ensures { result ≡ all_of tables_alike (split sizes.now (split lookups.entry.widths.now (pairs_of lookups.entry.nodes.now lookups.entry.pairs.now))) }
 {
     let mut first: usize = 0;
     for j in 0..sizes.len() {
         let n = sizes[j] as usize;
-        if !group_alike(nodes, widths, pairs, first, n) {
+        if !group_alike(lookups, first, n) {
             return false;
         }
         first += n;
@@ -89,18 +88,16 @@ fn groups_alike(nodes: &[u64], sizes: &[u64], widths: &[u64], pairs: &[u64]) -> 
 }
 
 // Question 18, once 7 has been answered yes.
-pub fn question_18(circuit: &[u64]) -> bool
-    requires { ContentsValid circuit.now × (BodiesValid circuit.now × (q7 (circuit_of circuit.now) ≡ true)) }
-    ensures { result ≡ q18 (circuit_of circuit.now) }
+pub fn question_18(circuit: Circuit) -> bool
+    requires { q7 (circuit_of circuit.words.now) ≡ true }
+    ensures { result ≡ q18 (circuit_of circuit.entry.words.now) }
 {
-    let numbers = groups_of(circuit);
+    let numbers = circuit.laid().groups();
     let good = numbers_good(numbers);
     if !good {
         return false;
     }
-    let nodes = nodes_of(circuit);
-    let widths = widths_of(circuit);
-    let pairs = pairs_of(circuit);
     let sizes = group_sizes(numbers);
-    groups_alike(nodes, sizes.as_slice(), widths, pairs)
+    let lookups = Lookups::new(circuit);
+    groups_alike(lookups, sizes.as_slice())
 }

@@ -16,10 +16,9 @@ mod groups;
 mod nodes;
 mod sections;
 
-ghost use Rattle.std.specs.Prelude.{◌≡◌};
+ghost use Rattle.std.specs.Prelude.{◌≡◌, ◌<◌, true, false, IfOk, OnOk, IfErr};
 ghost use Rattle.lists.specs.Lists.{first_no};
 ghost use Rattle.backend.specs.Questions.{layout_questions, body_questions, circuit_questions};
-ghost use Rattle.backend.specs.Laid.{ContentsValid, BodiesValid};
 
 use crate::bodies::{question_3_bodies, question_4_bodies};
 use crate::contents::{question_1, question_2, question_3, question_4};
@@ -28,71 +27,68 @@ use crate::degrees::question_10;
 use crate::groups::question_18;
 use crate::nodes::{question_7, question_8};
 use crate::sections::{question_5, question_6, question_9};
+use backend_sections::reader::{Circuit, Laid};
 
-// "3 and then 4 are put to the contents, then 3 and then 4 to the bodies": the first no of these, 0 if there is none.
-fn layout_no(circuit: &[u64]) -> u64
-    ensures { result ≡ first_no layout_questions circuit.now }
+// A question's answer: no is an `Err` of the question's number. Kept: the number is what the calls answer.
+fn ask(number: u64, yes: bool) -> Result<(), u64>
+    ensures yes { OnOk result (yes ≡ true) }
+    ensures no { IfErr result (λ n. (n ≡ number) × (yes ≡ false)) }
 {
-    if !question_1(circuit) {
-        return 1;
-    }
-    if !question_2(circuit) {
-        return 2;
-    }
-    if !question_3(circuit) {
-        return 3;
-    }
-    if !question_4(circuit) {
-        return 4;
-    }
-    if !question_3_bodies(circuit) {
-        return 3;
-    }
-    if !question_4_bodies(circuit) {
-        return 4;
-    }
-    0
+    if yes { Ok(()) } else { Err(number) }
 }
 
-// The first no of 5 to 11, 0 if there is none.
-fn body_no(circuit: &[u64]) -> u64
-    requires { ContentsValid circuit.now × BodiesValid circuit.now }
-    ensures { result ≡ first_no body_questions circuit.now }
+// "3 and then 4 are put to the contents, then 3 and then 4 to the bodies": a circuit of the words, or the first no of these.
+#[tactic(auto, unfolding(lists::specs::Lists::first_no))]
+fn ask_layout<'a>(words: &'a [u64]) -> Result<Circuit<'a>, u64>
+    ensures circuit { IfOk result (λ c. c.words ≡ words.entry) }
+    ensures yes { OnOk result (first_no layout_questions words.now ≡ 0) }
+    ensures no { IfErr result (λ n. (0 < n) × (n ≡ first_no layout_questions words.now)) }
 {
-    if !question_5(circuit) {
-        return 5;
-    }
-    if !question_6(circuit) {
-        return 6;
-    }
-    if !question_7(circuit) {
-        return 7;
-    }
-    if !question_8(circuit) {
-        return 8;
-    }
-    if !question_9(circuit) {
-        return 9;
-    }
-    if !question_18(circuit) {
-        return 18;
-    }
-    if !question_10(circuit) {
-        return 10;
-    }
-    if !question_11(circuit) {
-        return 11;
-    }
-    0
+    ask(1, question_1(words))?;
+    ask(2, question_2(words))?;
+    ask(3, question_3(words))?;
+    ask(4, question_4(words))?;
+    let laid = Laid { words };
+    ask(3, question_3_bodies(laid))?;
+    ask(4, question_4_bodies(laid))?;
+    Ok(Circuit { words })
+}
+
+// 5 to 11, with 18 after 9, put to a circuit: the first no is an `Err`.
+#[tactic(auto, unfolding(lists::specs::Lists::first_no))]
+fn ask_body(circuit: Circuit) -> Result<(), u64>
+    ensures yes { OnOk result (first_no body_questions circuit.entry.words.now ≡ 0) }
+    ensures no { IfErr result (λ n. (0 < n) × (n ≡ first_no body_questions circuit.entry.words.now)) }
+{
+    let laid = circuit.laid();
+    ask(5, question_5(laid))?;
+    ask(6, question_6(laid))?;
+    ask(7, question_7(laid))?;
+    ask(8, question_8(circuit))?;
+    ask(9, question_9(circuit))?;
+    ask(18, question_18(circuit))?;
+    ask(10, question_10(circuit))?;
+    ask(11, question_11(circuit))?;
+    Ok(())
+}
+
+// A circuit of these words, if 1 to 11 and 18 are all answered yes, else the number of the first no.
+pub fn accepted<'a>(words: &'a [u64]) -> Result<Circuit<'a>, u64>
+    ensures circuit { IfOk result (λ c. c.words ≡ words.entry) }
+    ensures yes { OnOk result (first_no circuit_questions words.now ≡ 0) }
+    ensures no { IfErr result (λ n. (0 < n) × (n ≡ first_no circuit_questions words.now)) }
+{
+    let circuit = ask_layout(words)?;
+    ask_body(circuit)?;
+    Ok(circuit)
 }
 
 // "Questions, in this order; the first no gives its number": 0 if 1 to 11 are all answered yes.
-pub fn first_no(circuit: &[u64]) -> u64
-    ensures { result ≡ first_no circuit_questions circuit.now }
+pub fn first_no(words: &[u64]) -> u64
+    ensures { result ≡ first_no circuit_questions words.now }
 {
-    let no = layout_no(circuit);
-    if no != 0 {
-        return no;
+    match accepted(words) {
+        Ok(_) => 0,
+        Err(no) => no,
     }
-    body_no(circuit)
 }

@@ -2,30 +2,27 @@
 ghost use Rattle.std.specs.Prelude.{◌≡◌};
 ghost use Rattle.backend.specs.Circuit.{circuit_of};
 ghost use Rattle.backend.specs.Questions.{q7, q8};
-ghost use Rattle.backend.specs.Laid.{ContentsValid, BodiesValid};
 
 use backend_nodes::layout::{laid_out, nodes_in_range};
-use backend_sections::bodies::{num_poly, num_user};
-use backend_sections::reader::{constraints_of, k_of, nodes_of, pairs_of};
+use backend_sections::reader::{Circuit, Laid, k_of};
 
 // Question 7.
-pub fn question_7(circuit: &[u64]) -> bool
-    requires { ContentsValid circuit.now }
-    ensures { result ≡ q7 (circuit_of circuit.now) }
+pub fn question_7(laid: Laid) -> bool
+    ensures { result ≡ q7 (circuit_of laid.entry.words.now) }
 {
-    let nodes = nodes_of(circuit);
-    let constraints = constraints_of(circuit);
-    let pairs = pairs_of(circuit);
+    let nodes = laid.nodes();
+    let constraints = laid.constraints();
+    let pairs = laid.pairs();
     laid_out(nodes, constraints, pairs)
 }
 
 // Question 8.
-pub fn question_8(circuit: &[u64]) -> bool
-    requires { ContentsValid circuit.now × BodiesValid circuit.now }
-    ensures { result ≡ q8 (circuit_of circuit.now) }
+pub fn question_8(circuit: Circuit) -> bool
+    ensures { result ≡ q8 (circuit_of circuit.entry.words.now) }
 {
-    let polys = num_poly(circuit);
-    let user = num_user(circuit);
-    let k = k_of(circuit);
-    nodes_in_range(nodes_of(circuit), polys, user, k)
+    let nodes = circuit.laid().nodes();
+    let polys = circuit.num_poly();
+    let user = circuit.num_user();
+    let k = k_of(circuit.words);
+    nodes_in_range(nodes, polys, user, k)
 }

@@ -2,20 +2,17 @@
 ghost use Rattle.std.specs.Prelude.{◌≡◌};
 ghost use Rattle.backend.specs.Circuit.{circuit_of};
 ghost use Rattle.backend.specs.Questions.{rounds_good, values_small, q5, q6, q9};
-ghost use Rattle.backend.specs.Laid.{ContentsValid, BodiesValid};
 
-use backend_sections::bodies::rows;
 use backend_sections::contents::{CONSTRAINT_COUNT, LENGTH_COUNT, WIDTH_COUNT};
-use backend_sections::reader::{instances_of, nodes_of, preprocess_of, rounds_of, widths_of};
+use backend_sections::reader::{Circuit, Laid};
 use backend_sections::words::{all_below, all_elements, all_positive, is_element};
 use expression::kind;
 
 // "Has every round a witness column, every round but the last a challenge"
-fn rounds_good(circuit: &[u64]) -> bool
-    requires { ContentsValid circuit.now }
-    ensures { result ≡ rounds_good (circuit_of circuit.now).rounds }
+fn rounds_good(laid: Laid) -> bool
+    ensures { result ≡ rounds_good (circuit_of laid.entry.words.now).rounds }
 {
-    let rounds = rounds_of(circuit);
+    let rounds = laid.rounds();
     let count = rounds.len() / 2;
     let witness = all_positive(rounds, 2, 0, count);
     let user = all_positive(rounds, 2, 1, count - 1);
@@ -23,13 +20,12 @@ fn rounds_good(circuit: &[u64]) -> bool
 }
 
 // Question 5.
-pub fn question_5(circuit: &[u64]) -> bool
-    requires { ContentsValid circuit.now }
-    ensures { result ≡ q5 (circuit_of circuit.now) }
+pub fn question_5(laid: Laid) -> bool
+    ensures { result ≡ q5 (circuit_of laid.entry.words.now) }
 {
-    let good = rounds_good(circuit);
-    let rows = rows(circuit);
-    let short = all_below(instances_of(circuit), rows);
+    let good = rounds_good(laid);
+    let rows = laid.rows();
+    let short = all_below(laid.instances(), rows);
     good & short
 }
 
@@ -50,24 +46,22 @@ fn values_small(nodes: &[u64]) -> bool
 }
 
 // Question 6.
-pub fn question_6(circuit: &[u64]) -> bool
-    requires { ContentsValid circuit.now }
-    ensures { result ≡ q6 (circuit_of circuit.now) }
+pub fn question_6(laid: Laid) -> bool
+    ensures { result ≡ q6 (circuit_of laid.entry.words.now) }
 {
-    let given = all_elements(preprocess_of(circuit));
-    let values = values_small(nodes_of(circuit));
+    let given = all_elements(laid.preprocess());
+    let values = values_small(laid.nodes());
     given & values
 }
 
 // Question 9.
-pub fn question_9(circuit: &[u64]) -> bool
-    requires { ContentsValid circuit.now × BodiesValid circuit.now }
-    ensures { result ≡ q9 (circuit_of circuit.now) }
+pub fn question_9(circuit: Circuit) -> bool
+    ensures { result ≡ q9 (circuit_of circuit.entry.words.now) }
 {
-    let widths = widths_of(circuit);
+    let widths = circuit.laid().widths();
     let wide = all_positive(widths, 1, 0, widths.len());
-    let constraints = circuit[CONSTRAINT_COUNT];
-    let lookups = circuit[WIDTH_COUNT];
-    let cycles = circuit[LENGTH_COUNT];
+    let constraints = circuit.words[CONSTRAINT_COUNT];
+    let lookups = circuit.words[WIDTH_COUNT];
+    let cycles = circuit.words[LENGTH_COUNT];
     wide & ((0 < constraints) | (0 < lookups) | (0 < cycles))
 }

@@ -1,9 +1,4 @@
-// "Circuit words, a table of contents first": its words, the places of the sections, and a section.
-ghost use Rattle.std.specs.Prelude.{◌≡◌, ◌<◌, ◌≤◌, length};
-ghost use Rattle.backend.specs.Circuit.{section_at};
-ghost use Rattle.backend.specs.Laid.{ContentsValid, bounds_of};
-
-use backend::Part;
+// "Circuit words, a table of contents first": its words, and the places of the sections.
 
 // The words of the contents: k, the stated maximum degree + 1, then the start and the count of each section, two words on for the next.
 pub const K_WORD: usize = 0;
@@ -56,7 +51,7 @@ pub const GROUP_START: usize = 20;
 
 pub const GROUP_COUNT: usize = 21;
 
-// The places of the sections.
+// The places of the sections. Kept as numbers: a place says where a section's two words stand, and the loops go over the places.
 pub const INSTANCES: usize = 0;
 
 pub const PREPROCESS: usize = 1;
@@ -76,22 +71,3 @@ pub const LENGTHS: usize = 7;
 pub const CELLS: usize = 8;
 
 pub const GROUPS: usize = 9;
-
-// The section at a place of the contents.
-pub(crate) fn section(circuit: &[u64], s: usize) -> Part
-    requires { ContentsValid circuit.now × (s < 10) }
-    ensures value { result ≡ bounds_of circuit.now (section_at s) }
-    ensures start_le_end { (result.start ≤ result.end) × (result.end ≤ length circuit.now) }
-{
-    let start = circuit[FIRST_START + s * 2] as usize;
-    let count = circuit[FIRST_COUNT + s * 2] as usize;
-    if s == GROUPS {
-        return Part {
-            start,
-            end: circuit.len(),
-            count,
-        };
-    }
-    let end = circuit[NEXT_START + s * 2] as usize;
-    Part { start, end, count }
-}

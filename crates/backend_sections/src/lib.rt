@@ -1,7 +1,6 @@
 // backend.rs: circuit words read: the table of contents, the sections, and what follows from them.
 #![tactic(auto)]
 
-pub mod bodies;
 pub mod contents;
 pub mod copied;
 pub mod groups;

@@ -1,4 +1,4 @@
--- The checked constructor's answer for a word, and for all words.
+-- The checked constructor's answer for all words.
 use mathlib.Core.Path.{◌≡◌, refl, sym, ap, ◌∙◌}
 use mathlib.Core.Bool.{Bool, true, false, cond, ◌&&◌}
 use mathlib.Core.List.{List, [], ◌∷◌, map}
@@ -7,26 +7,8 @@ use native.Mathlib.Omega.{arith}
 use lib.Dec.{ltb}
 use Rattle.field.specs.Prime.{P}
 use Rattle.lists.specs.Lists.{all_of, maximum}
-use Rattle.std.specs.Prelude.{is_some}
 use Rattle.field.specs.Parse.{Among, choose, parsed, number_among, parsed_number}
 
--- ---- one word
-module _ (w : ℕ) where
-  chosen_below : (t : Bool) → is_some (choose t w) ≡ t
-  chosen_below true = refl
-  chosen_below false = refl
-
-  chosen_number : (a : Among) (t : Bool) → cond t 0 (number_among a) ≡ parsed_number a (choose t w)
-  chosen_number a true = refl
-  chosen_number a false = refl
-
-  pub element_below : is_some (parsed w) ≡ ltb w P
-  element_below = chosen_below (ltb w P)
-
-  pub element_number : (a : Among) → cond (is_some (parsed w)) 0 (number_among a) ≡ parsed_number a (parsed w)
-  element_number a = ap (λ (t : Bool). cond t 0 (number_among a)) element_below ∙ chosen_number a (ltb w P)
-
--- ---- all words
 max_zero : (n : ℕ) → max 0 n ≡ n
 max_zero n = omega arith
 

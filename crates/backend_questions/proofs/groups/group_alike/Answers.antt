@@ -8,16 +8,16 @@ pub loop-i-init : goal.loop-i-init
 loop-i-init c = walk_none _ _ _
 
 pub overflow_add-first : goal.overflow_add-first
-overflow_add-first c = let l = c.loop-i-test.true in let p = c.requires.1.1.0 in let g = c.type_inv in omega arith
+overflow_add-first c = let l = c.loop-i-test.true in let p = c.requires.0 in let g = c.well_formed in omega arith
 
 pub same_tables-requires : goal.same_tables-requires
-same_tables-requires c = (c.requires.0, (c.requires.1.0, (let l = c.loop-i-test.true in let p = c.requires.1.1.0 in omega arith, let l = c.loop-i-test.true in let p = c.requires.1.1.0 in omega arith)))
+same_tables-requires c = (let l = c.loop-i-test.true in let p = c.requires.0 in omega arith, let l = c.loop-i-test.true in let p = c.requires.0 in omega arith)
 
 pub returns-then-not-same_tables : goal.returns-then-not-same_tables
-returns-then-not-same_tables c = walk_fails _ _ _ _ c.loop-i-test.true (sym c.same_tables.ensures ∙ c.if-not-same_tables.true) ∙ group_alike_is c.args.nodes.now c.args.widths.now c.args.pairs.now c.args.first c.args.n c.requires.1.1.1
+returns-then-not-same_tables c = walk_fails _ _ _ _ c.loop-i-test.true (sym c.same_tables.ensures ∙ c.if-not-same_tables.true) ∙ group_alike_is c.args.lookups.nodes.now c.args.lookups.widths.now c.args.lookups.pairs.now c.args.first c.args.n c.requires.1
 
 pub loop-i-preserved : goal.loop-i-preserved
 loop-i-preserved c = walk_more _ _ _ _ c.loop-i.invariant c.loop-i-test.true (sym c.same_tables.ensures ∙ c.if-not-same_tables.false)
 
 pub returns : goal.returns
-returns c = walk_done _ _ _ _ c.loop-i.invariant c.loop-i-test.false ∙ group_alike_is c.args.nodes.now c.args.widths.now c.args.pairs.now c.args.first c.args.n c.requires.1.1.1
+returns c = walk_done _ _ _ _ c.loop-i.invariant c.loop-i-test.false ∙ group_alike_is c.args.lookups.nodes.now c.args.lookups.widths.now c.args.lookups.pairs.now c.args.first c.args.n c.requires.1

@@ -5,4 +5,4 @@ use Rattle.backend.proofs.Alike.{table_of}
 use Rattle.backend_questions.proofs.groups.same_tables.Given as goal
 
 abbrev pub invariant-loop-t : goal.invariant-loop-t
-invariant-loop-t l = Walked (λ t. same_expr (table_of l.nodes l.widths l.pairs l.i t) (table_of l.nodes l.widths l.pairs l.f t)) (λ t. t) (get_or l.widths l.i 0) l.t
+invariant-loop-t l = Walked (λ t. same_expr (table_of l.lookups.nodes.now l.lookups.widths.now l.lookups.pairs.now l.i t) (table_of l.lookups.nodes.now l.lookups.widths.now l.lookups.pairs.now l.f t)) (λ t. t) (get_or l.lookups.widths.now l.i 0) l.t

@@ -4,7 +4,7 @@ use Rattle.backend_questions.proofs.nodes.Few.{few_nodes}
 use Rattle.backend_questions.proofs.nodes.question_7.Goals as goal
 
 pub laid_out-requires : goal.laid_out-requires
-laid_out-requires c = few_nodes _ _ c.requires c.nodes_of-nodes.ensures
+laid_out-requires c = few_nodes _ _ c.args.laid.contents c.nodes-nodes.ensures
 
 pub returns : goal.returns
-returns c = seven _ _ _ _ c.nodes_of-nodes.ensures c.constraints_of-constraints.ensures c.pairs_of-pairs.ensures _ c.laid_out.ensures
+returns c = seven _ _ _ _ c.nodes-nodes.ensures c.constraints-constraints.ensures c.pairs-pairs.ensures _ c.laid_out.ensures

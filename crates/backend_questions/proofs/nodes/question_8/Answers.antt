@@ -3,4 +3,4 @@ use Rattle.backend.proofs.Answers.{eight}
 use Rattle.backend_questions.proofs.nodes.question_8.Goals as goal
 
 pub returns : goal.returns
-returns c = eight _ _ c.nodes_of.ensures _ _ _ _ c.num_poly-polys.ensures c.num_user-user.ensures c.k_of-k.ensures c.nodes_in_range.ensures
+returns c = eight _ _ (rw c.laid.ensures at c.nodes-nodes.ensures) _ _ _ _ c.num_poly-polys.ensures c.num_user-user.ensures c.k_of-k.ensures c.nodes_in_range.ensures

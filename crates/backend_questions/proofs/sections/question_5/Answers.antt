@@ -3,4 +3,4 @@ use Rattle.backend.proofs.Numbers.{five}
 use Rattle.backend_questions.proofs.sections.question_5.Goals as goal
 
 pub returns : goal.returns
-returns c = five _ _ c.instances_of.ensures _ _ _ c.rounds_good-good.ensures c.rows-rows.ensures c.all_below-short.ensures
+returns c = five _ _ c.instances.ensures _ _ _ c.rounds_good-good.ensures c.rows-rows.ensures c.all_below-short.ensures

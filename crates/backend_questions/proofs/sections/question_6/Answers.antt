@@ -3,4 +3,4 @@ use Rattle.backend.proofs.Numbers.{six}
 use Rattle.backend_questions.proofs.sections.question_6.Goals as goal
 
 pub returns : goal.returns
-returns c = six _ c.requires _ _ c.preprocess_of.ensures c.nodes_of.ensures _ _ c.all_elements-given.ensures.below c.values_small-values.ensures
+returns c = six _ c.args.laid.contents _ _ c.preprocess.ensures c.nodes.ensures _ _ c.all_elements-given.ensures.below c.values_small-values.ensures

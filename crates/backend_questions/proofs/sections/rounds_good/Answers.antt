@@ -3,7 +3,7 @@ use Rattle.backend.proofs.Numbers.{some_rounds, rounds_tested}
 use Rattle.backend_questions.proofs.sections.rounds_good.Goals as goal
 
 pub overflow_sub-count : goal.overflow_sub-count
-overflow_sub-count c = some_rounds _ c.requires _ c.rounds_of-rounds.ensures
+overflow_sub-count c = some_rounds _ c.args.laid.contents _ c.rounds-rounds.ensures
 
 pub returns : goal.returns
-returns c = rounds_tested _ c.requires _ c.rounds_of-rounds.ensures _ _ c.all_positive-witness.ensures c.all_positive-user.ensures
+returns c = rounds_tested _ c.args.laid.contents _ c.rounds-rounds.ensures _ _ c.all_positive-witness.ensures c.all_positive-user.ensures

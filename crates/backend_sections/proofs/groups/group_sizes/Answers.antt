@@ -2,7 +2,6 @@ use mathlib.Core.Path.{◌≡◌, refl, ap, ◌∙◌}
 use native.Mathlib.Omega.{arith}
 use lib.ListN.{length, take, replicate, length-take}
 use lib.Seq.{take_all}
-use Rattle.std.proofs.Common.{lit<}
 use Rattle.backend.specs.Circuit.{num_groups_in}
 use Rattle.backend.proofs.Groups.{sizes_length}
 use Rattle.backend_sections.proofs.groups.Sized.{sized_none, number_low, sized_low, sized_more, sized_all}
@@ -34,18 +33,6 @@ slice_bounds-counts-end c = let s = sized_all _ c.requires.0 c.requires.1 _ _ _ 
 
 pub slice_bounds-size-items-end : goal.slice_bounds-size-items-end
 slice_bounds-size-items-end c = let s = sized_all _ c.requires.0 c.requires.1 _ _ _ c.loop-number.invariant c.loop-number-test.false in let p = s.0 in let q = s.1 in let r = length-take c.loop-number.count c.loop-number.counts in omega arith
-
-pub push-requires : goal.push-requires
-push-requires c =
-    let s = sized_all _ c.requires.0 c.requires.1 _ _ _ c.loop-number.invariant c.loop-number-test.false in
-    let p = s.0 in
-    let e = ap length c.loop-size.invariant in
-    let l = length-take c.loop-size.size-index (take c.loop-number.count c.loop-number.counts) in
-    let m = length-take c.loop-number.count c.loop-number.counts in
-    let t = c.loop-size-test.true in (
-      lit< tt,
-      omega arith,
-    )
 
 pub returns : goal.returns
 returns c =
