@@ -1,86 +1,53 @@
--- What the searches ask for, of accepted circuit words, and what they find.
-use Rattle.std.proofs.Common.{◌≡◌, ℕ, ◌+◌, ◌-◌, ◌^◌, ◌<◌, ◌≤◌, true, ◌≢◌, List, length, get_or, take, sym, ap, ◌∙◌, subst, ⊎_elim, true≢false, eq-or-lt_of_le, arith, length-take-le}
+-- What a search finds by the numbers that it keeps, by the words that are lent.
+use Rattle.std.proofs.Common.{◌≡◌, ℕ, ◌+◌, ◌*◌, ◌<◌, ◌≤◌, ◌^◌, Bool, List, [], ◌∷◌, length, get_or, take, true, false, cond, refl, sym, ap, ◌∙◌, subst, true≢false, arith}
+use Rattle.std.proofs.Math.Nat.{add-mul}
+use Rattle.std.proofs.lemmas.List.Recursion.{is_count_by}
+use Rattle.std.specs.List.{count_by}
+use native.Mathlib.Nat.{mul-le-mul}
+use Rattle.lists.specs.Lists.{filter, count_of, total}
 use mathlib.Core.Bool.{decide}
 use Rattle.field.specs.Field.{𝔾}
 use Rattle.field.specs.Element.{elem, is_zero}
-use Rattle.bh.specs.Rows.{place_of}
-use Rattle.expression.specs.Reader.{LayoutSmall}
-use Rattle.expression.specs.Point.{PointInOrder}
+use Rattle.field.proofs.Elements.{val_injective}
 use Rattle.expression.specs.declared.poly.Layout.{Layout}
-use Rattle.backend.specs.Circuit.{Section, body_of, circuit_of, num_lookups, copied, num_copied}
+use Rattle.lists.proofs.All.{all_get}
+use Rattle.lists.proofs.Parts.{total_within}
+use Rattle.preprocessor.specs.ComposeWords.{IsNode}
+use Rattle.backend.specs.Circuit.{Section, body_of, circuit_of, word_k, rows_of, num_instance, num_challenges, num_lookups, num_groups, copied, num_copied}
+use Rattle.preprocessor.specs.Compose.{num_z, params_of}
+use Rattle.preprocessor.specs.declared.CircuitParams.{CircuitParams}
+use Rattle.hyperplonk_spec.specs.Build.{column_words}
+use Rattle.hyperplonk_prepare.proofs.Accepted.{k_pos, k_few, rows_few, rows_is, few_user, instances_entries, widths_are, words, counted_of}
 use Rattle.hyperplonk_prepare.specs.Prepared.{Accepted, layout_from_words}
-use Rattle.hyperplonk_prepare.proofs.Accepted.{k_pos, k_few, few_lookups, few_copied, widths_are, widths_length, given}
 use Rattle.hyperplonk_columns.specs.Stages.{lent_beta}
-use Rattle.cli_search.specs.Ground.{GroundSmall, Grounded, first_of}
 use Rattle.cli_search.specs.Missing.{MissingIn, Missing}
-use Rattle.prover_z.specs.Factors.{denominator_in_words}
-use Rattle.cli_search.specs.Zero.{ZeroSide, ZeroOf, ZeroIn, ZeroAt}
+use Rattle.cli_search.specs.Zero.{ZeroIn, ZeroAt}
 use Rattle.cli_search.specs.declared.Column.{Column}
-use Rattle.cli_search.specs.declared.filled.Ground.{Ground}
+use Rattle.cli_search.specs.declared.search.Search.{Search}
 
-pub groups_are : (ws groups : List ℕ) → groups ≡ body_of ws Section.groups → groups ≡ (circuit_of ws).groups
-unfolding circuit_of
-groups_are ws groups e = e
+module _ (s : Search) (columns : List ℕ) where
+  pub missing_lent : (lookup row : ℕ)
+      → MissingIn s.layout s.lookups (length s.names.now) s.groups.now columns lookup row
+      → Missing s.circuit.words.now columns lookup row
+  missing_lent lookup row m =
+      let c = circuit_of s.circuit.words.now in
+      subst (λ (xs : List ℕ). MissingIn (layout_from_words s.circuit.words.now) (num_lookups c) (num_copied c) xs columns lookup row) s.groups_are
+      (subst (λ (n : ℕ). MissingIn (layout_from_words s.circuit.words.now) (num_lookups c) n s.groups.now columns lookup row) (ap length s.names_are)
+      (subst (λ (n : ℕ). MissingIn (layout_from_words s.circuit.words.now) n (length s.names.now) s.groups.now columns lookup row) s.lookups_are
+      (subst (λ (l : Layout). MissingIn l s.lookups (length s.names.now) s.groups.now columns lookup row) s.layout_is m)))
 
-module _ (ws : List ℕ) (a : Accepted ws) where
-  pub lookups_are : get_or ws 13 0 ≡ num_lookups (circuit_of ws)
-  lookups_are = sym (widths_are ws a ∙ widths_length ws a)
-
-  module _ (challenges : List ℕ) (g : Ground) (r : Grounded ws challenges g) where
-    pub ground_small : GroundSmall g
-    ground_small =
-        record {
-          layout = subst LayoutSmall (sym r.layout) (given ws a).small;
-          given = subst (λ (l : Layout). (l.permutations ≡ 0) × (l.rest ≡ 0)) (sym r.layout) ((given ws a).permutations, (given ws a).rest);
-          lookups = let h = few_lookups ws a in omega (arith, r.lookups);
-          copied = let h = few_copied ws a in omega (arith, r.copied);
-        }
-
-    module _ (row : ℕ) (h : row < g.layout.rows) where
-      rows_are : g.layout.rows ≡ 2 ^ g.k
-      unfolding layout_from_words
-      rows_are = ap (λ (l : Layout). l.rows) r.layout ∙ ap (λ (n : ℕ). 2 ^ n) (sym r.k)
-
-      pub row_asked : (0 < g.k) × (g.k < 32) × (row < 2 ^ g.k)
-      row_asked =
-          let p = k_pos ws a in
-          let f = k_few ws a in
-          let e = r.k in
-          (omega arith, omega arith, subst (λ (n : ℕ). row < n) rows_are h)
-
-      pub point_asked : (place : ℕ) → place ≡ place_of g.k row
-          → LayoutSmall g.layout × PointInOrder (record { k = g.k; row = row; place = place; eq = 0 })
-      point_asked place q =
-          let p = k_pos ws a in
-          let f = k_few ws a in
-          let e = r.k in (
-            ground_small.layout,
-            record { positive = omega arith; small = omega arith; inside = subst (λ (n : ℕ). row < n) rows_are h; placed = q },
-          )
-
--- what is found by the numbers, by the words that are lent
-module _ (ws challenges : List ℕ) (g : Ground) (r : Grounded ws challenges g) (columns : List ℕ) where
-  pub missing_lent : (groups : List ℕ) → groups ≡ (circuit_of ws).groups → (lookup row n b : ℕ) → n ≡ lookup → b ≡ row
-      → MissingIn g.layout g.lookups g.copied groups columns lookup row
-      → Missing ws columns n b
-  missing_lent groups eg lookup row n b e q m =
-      subst (λ (b : ℕ). Missing ws columns n b) (sym q)
-      (subst (λ (n : ℕ). Missing ws columns n row) (sym e)
-      (subst (λ (xs : List ℕ). MissingIn (layout_from_words ws) (num_lookups (circuit_of ws)) (num_copied (circuit_of ws)) xs columns lookup row) eg
-      (subst (λ (n : ℕ). MissingIn (layout_from_words ws) (num_lookups (circuit_of ws)) n groups columns lookup row) r.copied
-      (subst (λ (n : ℕ). MissingIn (layout_from_words ws) n g.copied groups columns lookup row) r.lookups
-      (subst (λ (l : Layout). MissingIn l g.lookups g.copied groups columns lookup row) r.layout m)))))
-
-  pub zero_lent : (witness names groups : List ℕ) → names ≡ copied (circuit_of ws) → groups ≡ (circuit_of ws).groups → (of : Column) (row : ℕ)
-      → ZeroIn g.layout ws witness columns names groups g.lookups (elem g.beta) (elem g.gamma) of row
-      → ZeroAt ws witness challenges columns of row
-  zero_lent witness names groups e eg of row z =
-      subst (λ (γ : 𝔾.F). ZeroIn (layout_from_words ws) ws witness columns (copied (circuit_of ws)) (circuit_of ws).groups (num_lookups (circuit_of ws)) (lent_beta ws challenges) γ of row) r.gamma
-      (subst (λ (β : 𝔾.F). ZeroIn (layout_from_words ws) ws witness columns (copied (circuit_of ws)) (circuit_of ws).groups (num_lookups (circuit_of ws)) β (elem g.gamma) of row) r.beta
-      (subst (λ (n : ℕ). ZeroIn (layout_from_words ws) ws witness columns (copied (circuit_of ws)) (circuit_of ws).groups n (elem g.beta) (elem g.gamma) of row) r.lookups
-      (subst (λ (xs : List ℕ). ZeroIn (layout_from_words ws) ws witness columns (copied (circuit_of ws)) xs g.lookups (elem g.beta) (elem g.gamma) of row) eg
-      (subst (λ (xs : List ℕ). ZeroIn (layout_from_words ws) ws witness columns xs groups g.lookups (elem g.beta) (elem g.gamma) of row) e
-      (subst (λ (l : Layout). ZeroIn l ws witness columns names groups g.lookups (elem g.beta) (elem g.gamma) of row) r.layout z)))))
+  pub zero_lent : (of : Column) (row : ℕ)
+      → ZeroIn s.layout s.circuit.words.now s.witness.now columns s.names.now s.groups.now s.lookups (elem s.beta) (elem s.gamma) of row
+      → ZeroAt s.circuit.words.now s.witness.now s.challenges.now columns of row
+  zero_lent of row z =
+      let ws = s.circuit.words.now in
+      let c = circuit_of s.circuit.words.now in
+      subst (λ (γ : 𝔾.F). ZeroIn (layout_from_words ws) ws s.witness.now columns (copied c) c.groups (num_lookups c) (lent_beta ws s.challenges.now) γ of row) (val_injective _ _ s.gamma_is)
+      (subst (λ (β : 𝔾.F). ZeroIn (layout_from_words ws) ws s.witness.now columns (copied c) c.groups (num_lookups c) β (elem s.gamma) of row) (val_injective _ _ s.beta_is)
+      (subst (λ (n : ℕ). ZeroIn (layout_from_words ws) ws s.witness.now columns (copied c) c.groups n (elem s.beta) (elem s.gamma) of row) s.lookups_are
+      (subst (λ (xs : List ℕ). ZeroIn (layout_from_words ws) ws s.witness.now columns (copied c) xs s.lookups (elem s.beta) (elem s.gamma) of row) s.groups_are
+      (subst (λ (xs : List ℕ). ZeroIn (layout_from_words ws) ws s.witness.now columns xs s.groups.now s.lookups (elem s.beta) (elem s.gamma) of row) s.names_are
+      (subst (λ (l : Layout). ZeroIn l ws s.witness.now columns s.names.now s.groups.now s.lookups (elem s.beta) (elem s.gamma) of row) s.layout_is z)))))
 
 pub zero_says : (x : 𝔾.F) → is_zero x ≡ true → x ≡ 𝔾.zero
 unfolding decide
@@ -90,25 +57,89 @@ zero_says x e = go (𝔾.decide x 𝔾.zero) e
     go (yes p) q = p
     go (no n) q = absurd (true≢false (sym q))
 
--- by the column that a test was for
-module _ (l : Layout) (circuit witness columns names groups : List ℕ) (lookups : ℕ) (β γ : 𝔾.F) (of : Column) (n row : ℕ) where
-  abbrev Zero : Column → Type 0
-  Zero d = ZeroOf l circuit witness columns names groups lookups β γ d row
+-- column n of some behind the instance columns, in a buffer that has them all
+pub inside : (instances a b n r len : ℕ) → n < a + b → (instances + a + b) * r ≤ len → (instances + n) * r + r ≤ len
+inside instances a b n r len h room =
+    let m : (instances + n + 1) * r ≤ (instances + a + b) * r = mul-le-mul (omega arith) (omega arith) in
+    let e : (instances + n + 1) * r ≡ (instances + n) * r + 1 * r = add-mul (instances + n) 1 r in
+    omega arith
 
-  module _ (copied : ℕ) (e : copied ≡ length names) where
-    pub of_input : of ≡ Column.Input n → ZeroSide l lookups copied columns γ 0 n row → Zero of
-    of_input q z = subst Zero (sym q) (subst (λ (m : ℕ). ZeroSide l lookups m columns γ 0 n row) e z)
+-- how many pass a test, as the library counts them
+pub counted : (p : ℕ → Bool) (xs : List ℕ) → count_of p xs ≡ count_by p xs
+unfolding filter
+counted p xs = is_count_by (count_of p) p refl (λ x ys. step x ys (p x)) xs
+  where
+    step : (x : ℕ) (ys : List ℕ) (t : Bool) → length (cond t (x ∷ filter p ys) (filter p ys)) ≡ cond t (1 + length (filter p ys)) (length (filter p ys))
+    step x ys true = omega arith
+    step x ys false = refl
 
-    pub of_table : of ≡ Column.Table n → (first_of groups n ≡ n) × ZeroSide l lookups copied columns γ 1 n row → Zero of
-    of_table q z = subst Zero (sym q) (z.0, subst (λ (m : ℕ). ZeroSide l lookups m columns γ 1 n row) e z.1)
+module _ (ws : List ℕ) (a : Accepted ws) where
+  -- the numbers of the circuit
+  pub user_is : (v : CircuitParams) → v ≡ params_of (circuit_of ws) → v.num_challenges ≡ num_challenges (circuit_of ws)
+  unfolding params_of
+  user_is v e = ap (λ (v : CircuitParams). v.num_challenges) e
 
-  pub of_copied : of ≡ Column.Copied n
-      → (n < length names) × (0 < row) × (denominator_in_words l circuit witness columns names β γ row n ≡ 𝔾.zero)
-      → Zero of
-  of_copied q z = subst Zero (sym q) z
+  pub few_user_of : (v : CircuitParams) → v ≡ params_of (circuit_of ws) → v.num_challenges ≤ 16
+  few_user_of v e = let u = user_is v e in let h = few_user ws a in omega arith
 
--- no word before place i equals a value, and that at i does not
-pub one_more : (word : ℕ → ℕ) (value i : ℕ) → ((b : ℕ) → b < i → word b ≢ value) → word i ≢ value → (b : ℕ) → b < i + 1 → word b ≢ value
-one_more word value i before here b h =
-    let low : b ≤ i = omega arith in
-    ⊎_elim (λ (e : b ≡ i) (q : word b ≡ value). here (ap word (sym e) ∙ q)) (λ (l : b < i). before b l) (eq-or-lt_of_le low)
+  pub lookups_is : (v : CircuitParams) → v ≡ params_of (circuit_of ws) → v.num_lookups ≡ num_lookups (circuit_of ws)
+  unfolding params_of
+  lookups_is v e = ap (λ (v : CircuitParams). v.num_lookups) e
+
+  rows_here : (layout_from_words ws).rows ≡ 2 ^ word_k ws
+  unfolding layout_from_words
+  rows_here = refl
+
+  instances_here : (layout_from_words ws).instances ≡ num_instance (circuit_of ws)
+  unfolding layout_from_words
+  instances_here = instances_entries ws a
+
+  -- the columns before m stand in a buffer of the columns needed
+  pub room_of : (n : ℕ) → column_words (circuit_of ws) ≤ n
+      → ((layout_from_words ws).instances + num_copied (circuit_of ws) + num_lookups (circuit_of ws) * 2) * (layout_from_words ws).rows ≤ n
+  unfolding column_words
+  room_of n h =
+      let c = circuit_of ws in
+      let i = instances_here in
+      let r : (layout_from_words ws).rows ≡ rows_of c = rows_here ∙ sym (rows_is ws a) in
+      let m : ((layout_from_words ws).instances + num_copied c + num_lookups c * 2) * (layout_from_words ws).rows
+      ≤ (num_instance c + num_copied c + num_lookups c * 2 + num_groups c * 2 + num_z c) * rows_of c =
+      mul-le-mul (omega arith) (omega arith) in
+      omega arith
+
+  pub rows_small : (l : Layout) → l ≡ layout_from_words ws → (k : ℕ) → k ≡ word_k ws
+      → (0 < k) × (k ≤ 10) × (l.rows ≡ 2 ^ k) × (l.rows ≤ 1024)
+  rows_small l e k q =
+      let p = k_pos ws a in
+      let f = k_few ws a in
+      let r : l.rows ≡ 2 ^ word_k ws = ap (λ (l : Layout). l.rows) e ∙ rows_here in
+      let s = rows_few ws a in
+      (omega arith, omega arith, r ∙ ap (λ (n : ℕ). 2 ^ n) (sym q), omega arith)
+
+  pub room_here : (l : Layout) → l ≡ layout_from_words ws → (names lookups n : ℕ) → names ≡ num_copied (circuit_of ws)
+      → lookups ≡ num_lookups (circuit_of ws)
+      → column_words (circuit_of ws) ≤ n
+      → (l.instances + names + lookups * 2) * l.rows ≤ n
+  room_here l el names lookups n en ew h = rw (el, en, ew) (room_of n h)
+
+-- the words of a lookup's pairs, and what they name
+pub pairs_asks : (s : Search) (lookup : ℕ) → lookup < s.lookups → (nodes widths pairs : List ℕ) → nodes ≡ body_of s.circuit.words.now Section.nodes
+    → widths ≡ body_of s.circuit.words.now Section.widths
+    → pairs ≡ body_of s.circuit.words.now Section.pairs
+    → (lookup < length widths) × (total widths * 2 ≤ length pairs) × (get_or widths lookup 0 ≤ 8)
+    × (total (take lookup widths) + get_or widths lookup 0 ≤ total widths)
+    × ((i : ℕ) → i < length pairs → get_or pairs i 0 * 4 + 4 ≤ length nodes)
+pairs_asks s lookup h nodes widths pairs en ew ep =
+    let ws = s.circuit.words.now in
+    let a = s.circuit.accepted in
+    let e = widths_are ws a in
+    let q = s.lookups_are in
+    let l : lookup < length (body_of ws Section.widths) = omega arith in
+    let w = words ws a in
+    rw (en, ew, ep) (
+      l,
+      w.all_pairs,
+      all_get (λ (w : ℕ). w ≤ 8) (body_of ws Section.widths) (counted_of ws a).narrow lookup 0 l,
+      total_within (body_of ws Section.widths) lookup,
+      λ i r. all_get (IsNode (body_of ws Section.nodes)) (body_of ws Section.pairs) w.pairs_named i 0 r,
+    )

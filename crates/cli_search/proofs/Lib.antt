@@ -1,2 +1,1 @@
 pub mod Asked
-mod Lower

@@ -5,8 +5,8 @@
 
 pub mod denominators;
 mod filled;
-mod groups;
-mod seen;
+pub mod found;
+mod search;
 pub mod unlisted;
 
 // A column by what it has: the compressed inputs of a lookup, the compressed table of a group, by its first lookup, or a copied column,
