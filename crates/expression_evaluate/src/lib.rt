@@ -85,6 +85,17 @@ impl<'a> Operations for Evaluation<'a> {
     }
 }
 
+impl<'a> Evaluation<'a> {
+    // The value of the expression at node n.
+    #[tactic(auto, unfolding(expression::specs::Value::value_at))]
+    pub fn value(&self, nodes: &[u64], n: usize) -> Goldilocks
+        requires { n * 4 + 4 ≤ length nodes.now }
+        ensures { elem result ≡ value_at 𝔾 (environment self.now) (expr_of nodes.now n) self.now.point.row }
+    {
+        node(self, nodes, n)
+    }
+}
+
 // The value of node n at a point. For many nodes at one point, an `Evaluation` once and the walk for each.
 #[tactic(auto, unfolding(expression::specs::Value::value_at))]
 pub fn value<'a>(
