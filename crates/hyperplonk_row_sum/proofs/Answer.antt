@@ -1,6 +1,6 @@
 -- What the row sum answers: a number, or the sum.
 use mathlib.Core.Path.{◌≡◌, refl, sym, ap, ◌∙◌}
-use mathlib.Core.Bool.{Bool, true, false, not, cond}
+use mathlib.Core.Bool.{Bool, true, not, cond}
 use mathlib.Core.List.{List, [], map}
 use Prim.Native.Nat.{ℕ, suc, ◌-◌}
 use native.Mathlib.Omega.{arith}
@@ -13,7 +13,7 @@ use Rattle.lists.proofs.First.{first_next, first_number_is, first_append, first_
 use Rattle.expression.specs.declared.poly.Layout.{Layout}
 use Rattle.backend.specs.Circuit.{word_k, circuit_of}
 use Rattle.backend.specs.Questions.{circuit_questions}
-use Rattle.backend.proofs.Answers.{says_no, says_yes}
+use Rattle.backend.proofs.Answers.{says_no}
 use Rattle.hyperplonk_spec.specs.RowSum.{q16, LentSum, sum_questions, check_sum, sum_of, row_sum_of, lent_sum}
 use Rattle.hyperplonk_spec.specs.declared.RowSum.{RowSum}
 use Rattle.backend.proofs.Passed.{numbered}
@@ -97,5 +97,5 @@ module _ (ws witness columns nodes challenges y : List ℕ) where
 
 -- where `?` passes a number on
 pub passed_on : (result : Result ℕ ℕ) (number : ℕ) → IsErrAnd result (λ n. n ≡ number) → answered result ≡ record { number = number; sum = 0 }
-passed_on (Ok sum) number h = absurd h
-passed_on (Err n) number h = ap (λ (n : ℕ). record { number = n; sum = 0 }) h
+passed_on (Ok sum) _ h = absurd h
+passed_on (Err n) _ h = ap (λ (n : ℕ). record { number = n; sum = 0 }) h

@@ -115,7 +115,7 @@ impl<'a> Lent<'a> {
 }
 
 // The sum, or the number of the first question that is answered no.
-fn summed<'a>(circuit: &'a [u64], lent: &Lent<'a>) -> Result<u64, u64>
+fn asked<'a>(circuit: &'a [u64], lent: &Lent<'a>) -> Result<u64, u64>
     ensures { answered result ≡ row_sum_of (lent_sum circuit.now lent.now.witness.now lent.now.columns.now lent.now.nodes.now lent.now.challenges.now lent.now.y.now) }
 {
     let accepted = AcceptedCircuit::new(circuit)?;
@@ -145,7 +145,7 @@ pub fn row_sum<'a>(
         challenges,
         y,
     };
-    match summed(circuit, &lent) {
+    match asked(circuit, &lent) {
         Ok(sum) => RowSum { number: 0, sum },
         Err(number) => RowSum { number, sum: 0 },
     }

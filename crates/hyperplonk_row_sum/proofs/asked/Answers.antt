@@ -1,4 +1,4 @@
--- `summed` meets its contract: a yes to 16 tells what the sum requires.
+-- `asked` meets its contract: a yes to 16 tells what the sum requires.
 use mathlib.Core.Path.{sym, ap, subst, ◌∙◌}
 use mathlib.Core.Bool.{not}
 use mathlib.Core.List.{List}
@@ -7,7 +7,7 @@ use Rattle.field.specs.Field.{val}
 use Rattle.hyperplonk_spec.specs.RowSum.{row_sum_of, lent_sum}
 use Rattle.hyperplonk_prepare.specs.Answer.{IsAnswer}
 use Rattle.hyperplonk_row_sum.proofs.Answer.{refused_early, refused_late, answered_sum, passed_on}
-use Rattle.hyperplonk_row_sum.proofs.summed.Goals as goal
+use Rattle.hyperplonk_row_sum.proofs.asked.Goals as goal
 
 pub returns-in_err-accepted : goal.returns-in_err-accepted
 returns-in_err-accepted c =
