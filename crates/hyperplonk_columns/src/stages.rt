@@ -106,11 +106,10 @@ pub(crate) fn z_columns(log: &LentLog, columns: &mut [u64]) -> Result<(), ZeroDe
     let circuit = log.prepared.circuit.words;
     let params = log.prepared.params;
     let copied = log.prepared.copied();
-    let challenges = log.inputs.challenges;
     let layout = log.prepared.circuit.layout();
     let user = params.num_challenges;
-    let beta = Goldilocks::at(challenges, user);
-    let gamma = Goldilocks::at(challenges, user + 1);
+    let beta = Goldilocks::at(log.inputs.challenges, user);
+    let gamma = Goldilocks::at(log.inputs.challenges, user + 1);
     let lookups = circuit[WIDTH_COUNT] as usize;
     let groups = params.num_groups;
     let to = (layout.instances + copied.len() + lookups * 2 + groups * 2) * layout.rows;

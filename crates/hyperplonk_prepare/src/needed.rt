@@ -7,6 +7,7 @@ ghost use Rattle.expression.specs.Walks.{weight};
 ghost use Rattle.backend.specs.Circuit.{circuit_of, group_sizes};
 ghost use Rattle.backend.specs.Circuit as def;
 ghost use Rattle.preprocessor.specs.Compose.{compose, composed_nodes, params_of};
+ghost use Rattle.preprocessor.specs.ComposeWords.{DecodedFrom};
 ghost use Rattle.hyperplonk_spec.specs.Build.{column_words, q14};
 ghost use Rattle.hyperplonk_spec.specs.Sizes.{composed_visits, most_nodes};
 
@@ -73,10 +74,9 @@ impl<'a> PreparedCircuit<'a> {
             * params.rows
     }
 
-    // The nodes of the composed expression, an Item counted as `item`; no more than 2^60 are counted.
-    fn composed_count(&self, item: u64) -> u64
-        requires { item ≤ 1 }
-        ensures { result ≡ min largest_size (weight item (compose (circuit_of self.now.circuit.words.now))) }
+    // The words from which the composed expression is made.
+    pub fn circuit_words(&self) -> CircuitWords<'_>
+        ensures { DecodedFrom (circuit_of self.now.circuit.words.now) result.params (def.copied (circuit_of self.now.circuit.words.now)) result.user.now result.roots.now result.sizes.now result.widths.now result.pairs.now }
     {
         let circuit = self.circuit.words;
         let user = nodes_of(circuit);
@@ -85,14 +85,22 @@ impl<'a> PreparedCircuit<'a> {
         let pairs = pairs_of(circuit);
         let sizes = self.group_sizes();
         let params = self.params;
-        let words = CircuitWords {
+        CircuitWords {
             user,
             roots,
             sizes,
             widths,
             pairs,
             params,
-        };
+        }
+    }
+
+    // The nodes of the composed expression, an Item counted as `item`; no more than 2^60 are counted.
+    fn composed_count(&self, item: u64) -> u64
+        requires { item ≤ 1 }
+        ensures { result ≡ min largest_size (weight item (compose (circuit_of self.now.circuit.words.now))) }
+    {
+        let words = self.circuit_words();
         preprocessor_compose::count::composed_nodes(&words, item)
     }
 
