@@ -7,9 +7,9 @@ ghost use Rattle.expression.specs.Walks.{weight};
 ghost use Rattle.backend.specs.Circuit.{circuit_of, group_sizes};
 ghost use Rattle.backend.specs.Circuit as def;
 ghost use Rattle.preprocessor.specs.Compose.{compose, composed_nodes, params_of};
+ghost use Rattle.preprocessor.specs.ComposeWords.{DecodedFrom};
 ghost use Rattle.hyperplonk_spec.specs.Build.{column_words, q14};
 ghost use Rattle.hyperplonk_spec.specs.Sizes.{composed_visits, most_nodes};
-ghost use Rattle.hyperplonk_prepare.specs.Prepared.{Accepted};
 
 use crate::circuit::AcceptedCircuit;
 use arrayvec::ArrayVec;
@@ -74,10 +74,9 @@ impl<'a> PreparedCircuit<'a> {
             * params.rows
     }
 
-    // The nodes of the composed expression, an Item counted as `item`; no more than 2^60 are counted.
-    fn composed_count(&self, item: u64) -> u64
-        requires { item ≤ 1 }
-        ensures { result ≡ min largest_size (weight item (compose (circuit_of self.now.circuit.words.now))) }
+    // The words from which the composed expression is made.
+    pub fn circuit_words(&self) -> CircuitWords<'_>
+        ensures { DecodedFrom (circuit_of self.now.circuit.words.now) result.params (def.copied (circuit_of self.now.circuit.words.now)) result.user.now result.roots.now result.sizes.now result.widths.now result.pairs.now }
     {
         let circuit = self.circuit.words;
         let user = nodes_of(circuit);
@@ -86,14 +85,22 @@ impl<'a> PreparedCircuit<'a> {
         let pairs = pairs_of(circuit);
         let sizes = self.group_sizes();
         let params = self.params;
-        let words = CircuitWords {
+        CircuitWords {
             user,
             roots,
             sizes,
             widths,
             pairs,
             params,
-        };
+        }
+    }
+
+    // The nodes of the composed expression, an Item counted as `item`; no more than 2^60 are counted.
+    fn composed_count(&self, item: u64) -> u64
+        requires { item ≤ 1 }
+        ensures { result ≡ min largest_size (weight item (compose (circuit_of self.now.circuit.words.now))) }
+    {
+        let words = self.circuit_words();
         preprocessor_compose::count::composed_nodes(&words, item)
     }
 
@@ -120,13 +127,4 @@ impl<'a> PreparedCircuit<'a> {
         let composed = self.composed_nodes();
         (words <= columns) & (composed * 4 <= nodes)
     }
-}
-
-// The column words needed, for callers that have the words alone.
-pub fn column_words(circuit: &[u64], params: CircuitParams) -> usize
-    requires { Accepted circuit.now × (params ≡ params_of (circuit_of circuit.now)) }
-    ensures { result ≡ column_words (circuit_of circuit.now) }
-{
-    let prepared = PreparedCircuit::new(AcceptedCircuit { words: circuit });
-    prepared.column_words()
 }

@@ -1,24 +1,25 @@
 -- What the row sum answers: a number, or the sum.
 use mathlib.Core.Path.{◌≡◌, refl, sym, ap, ◌∙◌}
-use mathlib.Core.Bool.{Bool, true, false, not, cond}
+use mathlib.Core.Bool.{Bool, true, not, cond}
 use mathlib.Core.List.{List, [], map}
 use Prim.Native.Nat.{ℕ, suc, ◌-◌}
 use native.Mathlib.Omega.{arith}
 use lib.Dec.{eqb}
 use borrow.Author.Tests.{ne_eqb}
+use Rattle.std.specs.Prelude.{Result, Ok, Err, IsErrAnd}
 use Rattle.field.specs.Field.{val}
 use Rattle.lists.specs.Lists.{question_of, first_no}
 use Rattle.lists.proofs.First.{first_next, first_number_is, first_append, first_refused, first_of, numbered_of}
 use Rattle.expression.specs.declared.poly.Layout.{Layout}
 use Rattle.backend.specs.Circuit.{word_k, circuit_of}
 use Rattle.backend.specs.Questions.{circuit_questions}
-use Rattle.backend.proofs.Answers.{says_no, says_yes}
+use Rattle.backend.proofs.Answers.{says_no}
 use Rattle.hyperplonk_spec.specs.RowSum.{q16, LentSum, sum_questions, check_sum, sum_of, row_sum_of, lent_sum}
 use Rattle.hyperplonk_spec.specs.declared.RowSum.{RowSum}
 use Rattle.backend.proofs.Passed.{numbered}
 use Rattle.hyperplonk_prepare.specs.Prepared.{Accepted}
 use Rattle.hyperplonk_prepare.proofs.Accepted as known
-use Rattle.hyperplonk_row_sum.specs.Sum.{sum_layout, Summable}
+use Rattle.hyperplonk_row_sum.specs.Sum.{sum_layout, Summable, answered}
 use Rattle.hyperplonk_row_sum.proofs.Sixteen.{sixteen_yes}
 
 module _ (ws witness columns nodes challenges y : List ℕ) where
@@ -70,10 +71,7 @@ module _ (ws witness columns nodes challenges y : List ℕ) where
         in
         sym (by_number 16 told)
 
-    module _ (r : Bool) (e : r ≡ sixteen) (h : not r ≡ false) where
-      yes_16 : sixteen ≡ true
-      yes_16 = says_yes r sixteen e h
-
+    module _ (yes_16 : sixteen ≡ true) where
       pub summable : (l : Layout) → l ≡ sum_layout ws → (k : ℕ) → k ≡ word_k ws → Summable ws nodes y l k
       summable l q k m =
           let p = sixteen_yes (circuit_of ws) witness columns nodes challenges y yes_16 in
@@ -85,10 +83,10 @@ module _ (ws witness columns nodes challenges y : List ℕ) where
             values_are = p.0 ∙ known.k_is ws a ∙ sym m;
           }
 
-      pub answered : (s : ℕ) → s ≡ val (sum_of (lent_sum ws witness columns nodes challenges y))
+      pub answered_sum : (s : ℕ) → s ≡ val (sum_of (lent_sum ws witness columns nodes challenges y))
           → ◌≡◌ {A = RowSum} (record { number = 0; sum = s }) (row_sum_of (lent_sum ws witness columns nodes challenges y))
       unfolding check_sum sum_questions
-      answered s q =
+      answered_sum s q =
           let told : number ≡ 0 =
           first_append (map (question_of (λ (l : LentSum). l.circuit)) circuit_questions) _ lent
           (first_of (λ (l : LentSum). l.circuit) circuit_questions lent ∙ a)
@@ -96,3 +94,8 @@ module _ (ws witness columns nodes challenges y : List ℕ) where
           ∙ first_next _ _ lent yes_16 ∙ none_asked
           in
           ap (λ (s : ℕ). record { number = 0; sum = s }) q ∙ sym (by_number 0 told)
+
+-- where `?` passes a number on
+pub passed_on : (result : Result ℕ ℕ) (number : ℕ) → IsErrAnd result (λ n. n ≡ number) → answered result ≡ record { number = number; sum = 0 }
+passed_on (Ok sum) _ h = absurd h
+passed_on (Err n) _ h = ap (λ (n : ℕ). record { number = n; sum = 0 }) h

@@ -1,11 +1,12 @@
 -- Question 16 in parts, where the polynomials stand that the row sum reads, and what it requires of the words.
-use Rattle.std.specs.Prelude.{◌≡◌, Bool, ◌&&◌, List, ℕ, ◌+◌, ◌*◌, ◌^◌, length, eqb}
+use Rattle.std.specs.Prelude.{◌≡◌, Bool, ◌&&◌, List, ℕ, ◌+◌, ◌*◌, ◌^◌, length, eqb, Result, Ok, Err}
 use Rattle.lists.specs.Lists.{all_of}
 use Rattle.expression.specs.declared.poly.Layout.{Layout}
 use Rattle.backend.specs.Circuit.{Section, Circuit, circuit_of, word_k, entries, start_of, rows_of, num_witness, num_challenges, num_copied, num_lookups, num_groups}
 use Rattle.backend.specs.Questions.{small}
 use Rattle.preprocessor.specs.Compose.{num_z, composed_nodes}
 use Rattle.hyperplonk_spec.specs.Build.{column_words}
+use Rattle.hyperplonk_spec.specs.declared.RowSum.{RowSum}
 use Rattle.hyperplonk_prepare.specs.Prepared.{Accepted}
 
 -- "witness, columns, nodes, challenges with α, and y (k values) of the exact length", by their lengths
@@ -41,3 +42,8 @@ pub record Summable (ws nodes y : List ℕ) (l : Layout) (k : ℕ) : Type 0 wher
   pub layout_is : l ≡ sum_layout ws
   pub nodes_are : length nodes ≡ composed_nodes (circuit_of ws) * 4
   pub values_are : length y ≡ k
+
+-- the sum behind 0, or 0 behind the number of a refusal
+abbrev pub answered : Result ℕ ℕ → RowSum
+answered (Ok sum) = record { number = 0; sum = sum }
+answered (Err number) = record { number = number; sum = 0 }

@@ -117,7 +117,7 @@ fn quotients(
     if h.len() < rows {
         return Err(Refusal::Room);
     }
-    h_column(rows, input, table, m, Goldilocks::from_u64(gamma), h)?;
+    h_column(rows, input, table, m, Goldilocks::from(gamma), h)?;
     Ok(())
 }
 

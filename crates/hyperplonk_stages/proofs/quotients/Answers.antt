@@ -55,7 +55,7 @@ returns-in_err-h_column c =
     let n = c.rows_of-rows.ensures in
     h_done _ a.input.now a.table.now a.m.now a.h.now _ _ _ _ _ n (zero_passed _ _ _ c.from_residual.ensures.1 c.in_err-h_column.was) column.ensures.0 column.ensures.1
     ∙ ap (λ (γ : 𝔾.F). divided γ a.input.now a.table.now a.m.now a.h.now (2 ^ a.k))
-    c.from_u64.ensures
+    c.from.ensures
     ∙ all_yes _ _ _ _ _ ((sym c.good_k.ensures ∙ c.if-not-good_k.false)) ((let a = c.args in
     sym (three_exact _ _ a.input.now a.table.now a.m.now c.rows_of-rows.ensures) ∙ c.if-not-exact.false)) ((sym (three_small _ _ _ _ _ _ _ _ c.all_elements.ensures.below
     c.all_elements-2.ensures.below
@@ -70,7 +70,7 @@ returns c =
     let n = c.rows_of-rows.ensures in
     h_done _ a.input.now a.table.now a.m.now a.h.now _ _ _ _ _ n (sym (ap outcome_number c.in_ok-h_column.was)) column.ensures.0 column.ensures.1
     ∙ ap (λ (γ : 𝔾.F). divided γ a.input.now a.table.now a.m.now a.h.now (2 ^ a.k))
-    c.from_u64.ensures
+    c.from.ensures
     ∙ all_yes _ _ _ _ _ ((sym c.good_k.ensures ∙ c.if-not-good_k.false)) ((let a = c.args in
     sym (three_exact _ _ a.input.now a.table.now a.m.now c.rows_of-rows.ensures) ∙ c.if-not-exact.false)) ((sym (three_small _ _ _ _ _ _ _ _ c.all_elements.ensures.below
     c.all_elements-2.ensures.below

@@ -9,7 +9,7 @@ use Rattle.backend.specs.Circuit.{circuit_of}
 use Rattle.preprocessor.specs.Compose.{composed_nodes}
 use Rattle.hyperplonk_spec.specs.RowSum.{row_sum_environment}
 use Rattle.hyperplonk_row_sum.proofs.Rows.{Added}
-use Rattle.hyperplonk_row_sum.proofs.sum_rows.Given as goal
+use Rattle.hyperplonk_row_sum.proofs.Lent.sum_rows.Given as goal
 
 abbrev pub invariant-loop-place : goal.invariant-loop-place
-invariant-loop-place l = (l.row ≡ row_at l.k l.place) × Added l.k (value_at 𝔾 (row_sum_environment l.circuit l.witness l.columns l.challenges l.y) (expr_of l.nodes (composed_nodes (circuit_of l.circuit) - 1))) (elem l.sum) l.place
+invariant-loop-place l = (l.row ≡ row_at l.k l.place) × Added l.k (value_at 𝔾 (row_sum_environment l.prepared.circuit.words.now l.self.witness.now l.self.columns.now l.self.challenges.now l.self.y.now) (expr_of l.self.nodes.now (composed_nodes (circuit_of l.prepared.circuit.words.now) - 1))) (elem l.sum) l.place
