@@ -20,11 +20,15 @@ use Rattle.prover.specs.Log.{Log}
 use Rattle.prover.specs.Columns.{all_covered, written_polys}
 use Rattle.prover.specs.Denominators.{zero_denominator}
 use Rattle.prover.specs.Words.{words_of}
-use Rattle.hyperplonk_spec.specs.Build.{Output, log_of, column_words, q14, check_build, refused, made, zeroed, build_log, build_of, lent_build}
+use Rattle.std.specs.Prelude.{Result, Ok, Err, IsErrAnd}
+use Rattle.hyperplonk_spec.specs.Build.{Output, log_of, column_words, q12, q13, q14, check_build, refused, made, zeroed, build_log, build_of, lent_build}
 use Rattle.hyperplonk_spec.specs.declared.Built.{Built}
 use Rattle.hyperplonk_spec.proofs.Building.{refused_by}
-use Rattle.hyperplonk_columns.specs.Outcome.{ColumnsOutcome, columns_outcome, columns_number, columns_left}
+use Rattle.hyperplonk_prepare.specs.Prepared.{Accepted}
+use Rattle.hyperplonk_prepare.proofs.Asked.{no_12, no_13, no_14}
+use Rattle.hyperplonk_columns.specs.Outcome.{ColumnsOutcome, columns_outcome, columns_number, refused_number, columns_left}
 use Rattle.hyperplonk_columns.specs.declared.Refused.{Refused}
+use Rattle.hyperplonk_build.specs.Answer.{answered}
 
 module _ (ws instances witness challenges columns nodes : List ℕ) where
   -- a refusal by questions 1 to 14
@@ -34,6 +38,22 @@ module _ (ws instances witness challenges columns nodes : List ℕ) where
       let s : n ≡ suc (n - 1) = omega arith in
       ap (λ (b : Built). record { answer = b; columns = columns; nodes = nodes }) (e ∙ ap (λ (m : ℕ). refused m) s)
       ∙ sym (refused_by ws instances witness challenges columns nodes (n - 1) (q ∙ s))
+
+  module _ (a : Accepted ws) where
+    abbrev by_number : ℕ → Type 0
+    by_number n =
+        ◌≡◌ {A = Output} (record { answer = refused n; columns = columns; nodes = nodes })
+        (build_of (lent_build ws instances witness challenges columns nodes))
+
+    pub refused_12 : q12 (circuit_of ws) instances witness challenges ≡ false → by_number 12
+    refused_12 h = refuses _ 12 refl (λ e. let z : ◌≡◌ {A = ℕ} 12 0 = e in omega arith) (no_12 ws instances witness challenges columns nodes a h)
+
+    module _ (twelve : q12 (circuit_of ws) instances witness challenges ≡ true) where
+      pub refused_13 : q13 instances witness challenges ≡ false → by_number 13
+      refused_13 h = refuses _ 13 refl (λ e. let z : ◌≡◌ {A = ℕ} 13 0 = e in omega arith) (no_13 ws instances witness challenges columns nodes a twelve h)
+
+      pub refused_14 : q13 instances witness challenges ≡ true → q14 (circuit_of ws) columns nodes ≡ false → by_number 14
+      refused_14 t h = refuses _ 14 refl (λ e. let z : ◌≡◌ {A = ℕ} 14 0 = e in omega arith) (no_14 ws instances witness challenges columns nodes a twelve t h)
 
   -- question 15 and after
   pub checked : check_build (lent_build ws instances witness challenges columns nodes) ≡ 0
@@ -146,3 +166,13 @@ module _ (ws instances witness challenges columns nodes : List ℕ) where
             })
             counts
             ∙ build_by true false p q
+
+-- a refusal of the columns has a number
+pub not_zero : (refusal : Refused) → refused_number refusal ≡ 0 → ⊥
+not_zero Refused.Uncovered e = omega arith
+not_zero Refused.ZeroDenominator e = omega arith
+
+-- where `?` passes a number on
+pub passed_on : (result : Result Built ℕ) (number : ℕ) → IsErrAnd result (λ n. n ≡ number) → answered result ≡ refused number
+passed_on (Ok built) number h = absurd h
+passed_on (Err n) number h = ap (λ (n : ℕ). refused n) h

@@ -22,11 +22,15 @@ abbrev pub columns_outcome : Log 𝔾 → ColumnsOutcome
 columns_outcome g =
     cond (all_covered 𝔾 g) (cond (zero_denominator 𝔾 g) (Err Refused.ZeroDenominator) (Ok tt)) (Err Refused.Uncovered)
 
--- the numbers: "0 is success"
+-- the numbers of the refusals
+abbrev pub refused_number : Refused → ℕ
+refused_number Refused.Uncovered = 15
+refused_number Refused.ZeroDenominator = 17
+
+-- and of what is answered: "0 is success"
 abbrev pub columns_number : ColumnsOutcome → ℕ
 columns_number (Ok written) = 0
-columns_number (Err Refused.Uncovered) = 15
-columns_number (Err Refused.ZeroDenominator) = 17
+columns_number (Err refused) = refused_number refused
 
 -- the words: the columns; with 15 "the column words needed become 0", and 17 "zeroes the column words as 15 does"
 abbrev pub columns_left : Log 𝔾 → ColumnsOutcome → List ℕ

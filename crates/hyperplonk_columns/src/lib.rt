@@ -3,20 +3,21 @@
 
 pub mod stages;
 
-ghost use Rattle.std.specs.Prelude.{◌≡◌, true, List, ℕ, ◌+◌, ◌≤◌, length, take};
+ghost use Rattle.std.specs.Prelude.{◌≡◌, ◌≤◌, length, take};
 ghost use Rattle.field.specs.Field.{𝔾};
 ghost use Rattle.lists.specs.Lists.{write_at, write_prefix};
-ghost use Rattle.backend.specs.Circuit.{circuit_of, rows_of, num_challenges, copied as copiedOf};
+ghost use Rattle.backend.specs.Circuit.{circuit_of, rows_of};
 ghost use Rattle.prover.specs.Words.{words_of};
-ghost use Rattle.hyperplonk_spec.specs.Build.{log_of, column_words, q12};
-ghost use Rattle.hyperplonk_prepare.specs.Prepared.{Accepted, compressed_offset, m_offset, h_offset};
+ghost use Rattle.hyperplonk_spec.specs.Build.{column_words};
+ghost use Rattle.hyperplonk_prepare.specs.Log.{lent_log};
+ghost use Rattle.hyperplonk_prepare.specs.Prepared.{compressed_offset, m_offset, h_offset};
 ghost use Rattle.hyperplonk_columns.specs.Kinds.{polys_before_m, polys_through_m};
-ghost use Rattle.hyperplonk_columns.specs.Outcome.{columns_outcome, columns_number, columns_left, AfterM};
+ghost use Rattle.hyperplonk_columns.specs.Outcome.{columns_outcome, columns_left, AfterM};
 
 use crate::stages::{compressed_columns, instance_columns, permutation_columns, z_columns};
 use backend_sections::contents::INSTANCE_COUNT;
 use field::goldilocks::Goldilocks;
-use hyperplonk_prepare::circuit::AcceptedCircuit;
+use hyperplonk_prepare::inputs::LentLog;
 use hyperplonk_prepare::needed::PreparedCircuit;
 use prover::ZeroDenominator;
 use prover_instance::blank_column::clear;
@@ -30,14 +31,18 @@ pub enum Refused {
     ZeroDenominator,
 }
 
-// The number of what `write_columns` answers.
-pub fn columns_number(outcome: Result<(), Refused>) -> u64
-    ensures { result ≡ columns_number outcome }
-{
-    match outcome {
-        Ok(()) => 0,
-        Err(Refused::Uncovered) => 15,
-        Err(Refused::ZeroDenominator) => 17,
+// The number of a refusal.
+impl From<Refused> for u64 {
+    ghost use Rattle.std.specs.Prelude.{◌≡◌};
+    ghost use Rattle.hyperplonk_columns.specs.Outcome.{refused_number};
+
+    ghost from_gives = { λ refused number. number ≡ refused_number refused };
+
+    fn from(refused: Refused) -> u64 {
+        match refused {
+            Refused::Uncovered => 15,
+            Refused::ZeroDenominator => 17,
+        }
     }
 }
 
@@ -65,38 +70,24 @@ fn places_of(prepared: &PreparedCircuit) -> Places
 }
 
 // The columns before the counts: instance, permutation and compressed columns.
-pub fn columns_before_m<'a>(
-    circuit: &'a [u64],
-    instance: &[u64],
-    witness: &'a [u64],
-    challenges: &'a [u64],
-    columns: &mut [u64],
-    copied: &[u64],
-)
-    requires { Accepted circuit.now × (copied.now ≡ copiedOf (circuit_of circuit.now)) × (q12 (circuit_of circuit.now) instance.now witness.now challenges.now ≡ true) × (column_words (circuit_of circuit.now) ≤ length columns.old) }
-    ensures { columns.new ≡ write_at columns.old 0 (words_of (rows_of (circuit_of circuit.now)) (polys_before_m 𝔾 (log_of circuit.now instance.now witness.now challenges.now))) }
+pub fn columns_before_m(log: &LentLog, columns: &mut [u64])
+    requires { column_words (circuit_of log.now.prepared.circuit.words.now) ≤ length columns.old }
+    ensures { columns.new ≡ write_at columns.old 0 (words_of (rows_of (circuit_of log.now.prepared.circuit.words.now)) (polys_before_m 𝔾 (lent_log log.now))) }
 {
-    let accepted = AcceptedCircuit { words: circuit };
-    instance_columns(&accepted, instance, columns);
-    permutation_columns(&accepted, copied, columns);
-    compressed_columns(&accepted, witness, columns, challenges, copied.len());
+    instance_columns(log, columns);
+    permutation_columns(log, columns);
+    compressed_columns(log, columns);
 }
 
-// h and z, behind the counts, of any log whose columns to the counts stand at the front of the buffer. Stops where a denominator is zero.
-fn columns_after_m(
-    prepared: &PreparedCircuit,
-    witness: &[u64],
-    challenges: &[u64],
-    columns: &mut [u64],
-) -> Result<(), ZeroDenominator>
-    requires challenges { length challenges.now ≡ num_challenges (circuit_of prepared.now.circuit.words.now) + 2 }
-    requires room { column_words (circuit_of prepared.now.circuit.words.now) ≤ length columns.old }
-    ensures { (instances : List ℕ) → take (h_offset (circuit_of prepared.now.circuit.words.now)) columns.old ≡ words_of (rows_of (circuit_of prepared.now.circuit.words.now)) (polys_through_m 𝔾 (log_of prepared.now.circuit.words.now instances witness.now challenges.now)) → AfterM (log_of prepared.now.circuit.words.now instances witness.now challenges.now) columns.old result columns.new }
+// h and z, behind the counts, where the columns to the counts stand at the front of the buffer. Stops where a denominator is zero.
+fn columns_after_m(log: &LentLog, columns: &mut [u64]) -> Result<(), ZeroDenominator>
+    requires { column_words (circuit_of log.now.prepared.circuit.words.now) ≤ length columns.old }
+    ensures { take (h_offset (circuit_of log.now.prepared.circuit.words.now)) columns.old ≡ words_of (rows_of (circuit_of log.now.prepared.circuit.words.now)) (polys_through_m 𝔾 (lent_log log.now)) → AfterM (lent_log log.now) columns.old result columns.new }
 {
-    let at = places_of(prepared);
-    let sizes = prepared.group_sizes();
-    let user = prepared.params.num_challenges;
-    let gamma = Goldilocks::at(challenges, user + 1);
+    let at = places_of(&log.prepared);
+    let sizes = log.prepared.group_sizes();
+    let user = log.prepared.params.num_challenges;
+    let gamma = Goldilocks::at(log.inputs.challenges, user + 1);
     lookup_h_polys(
         columns,
         sizes,
@@ -104,47 +95,32 @@ fn columns_after_m(
         at.counts,
         at.hs,
         gamma,
-        prepared.params.rows,
+        log.prepared.params.rows,
     )?;
-    z_columns(prepared, witness, columns, challenges)
+    z_columns(log, columns)
 }
 
 // All columns. Where an input of a lookup is in no table row, or a denominator is zero, the column words needed become 0.
-pub fn write_columns<'a>(
-    prepared: &PreparedCircuit<'a>,
-    instance: &[u64],
-    witness: &'a [u64],
-    challenges: &'a [u64],
-    columns: &mut [u64],
-) -> Result<(), Refused>
-    requires inputs { q12 (circuit_of prepared.now.circuit.words.now) instance.now witness.now challenges.now ≡ true }
-    requires room { column_words (circuit_of prepared.now.circuit.words.now) ≤ length columns.old }
-    ensures { (result ≡ columns_outcome (log_of prepared.now.circuit.words.now instance.now witness.now challenges.now)) × (columns.new ≡ write_prefix (columns_left (log_of prepared.now.circuit.words.now instance.now witness.now challenges.now) result) columns.old) }
+pub fn write_columns(log: &LentLog, columns: &mut [u64]) -> Result<(), Refused>
+    requires { column_words (circuit_of log.now.prepared.circuit.words.now) ≤ length columns.old }
+    ensures { (result ≡ columns_outcome (lent_log log.now)) × (columns.new ≡ write_prefix (columns_left (lent_log log.now) result) columns.old) }
 {
-    let copied = prepared.copied();
-    let sizes = prepared.group_sizes();
-    columns_before_m(
-        prepared.circuit.words,
-        instance,
-        witness,
-        challenges,
-        columns,
-        copied,
-    );
-    let at = places_of(prepared);
-    let words = prepared.column_words();
+    columns_before_m(log, columns);
+    let sizes = log.prepared.group_sizes();
+    let at = places_of(&log.prepared);
+    let words = log.prepared.column_words();
     let covered = lookup_m_polys(
         columns,
         sizes,
         at.compressed,
         at.counts,
-        prepared.params.rows,
+        log.prepared.params.rows,
     );
     if !covered {
         clear(columns, 0, words);
         return Err(Refused::Uncovered);
     }
-    let last = columns_after_m(prepared, witness, challenges, columns);
+    let last = columns_after_m(log, columns);
     match last {
         Ok(()) => Ok(()),
         Err(ZeroDenominator) => {

@@ -9,9 +9,11 @@ ghost use Rattle.preprocessor.specs.Compose.{params_of};
 ghost use Rattle.hyperplonk_spec.specs.Build.{q12};
 ghost use Rattle.hyperplonk_prepare.specs.Prepared.{Accepted, layout_from_words};
 
+use crate::inputs::Inputs;
 use arrayvec::ArrayVec;
 use backend::MAX_POLYS;
 use backend_nodes::degrees::{degrees_of, max_degree};
+use backend_questions::first_no;
 use backend_sections::bodies::{num_poly, num_user, num_witness, rows};
 use backend_sections::contents::{INSTANCE_COUNT, PREPROCESS_COUNT, PREPROCESS_START, WIDTH_COUNT};
 use backend_sections::copied::copied_columns;
@@ -26,6 +28,22 @@ use preprocessor::CircuitParams;
 pub struct AcceptedCircuit<'a> {
     pub words: &'a [u64],
     pub ghost accepted: { Accepted words.now },
+}
+
+impl<'a> AcceptedCircuit<'a> {
+    ghost use Rattle.hyperplonk_prepare.specs.Answer.{IsAnswer};
+
+    // Asks questions 1 to 11 and 18. An error is the number of the first that is answered no.
+    // Kept: a question's number is document 01's name for it, and what each call returns.
+    pub fn new(words: &'a [u64]) -> Result<AcceptedCircuit<'a>, u64>
+        ensures { IsAnswer words.now result }
+    {
+        let no = first_no(words);
+        if no != 0 {
+            return Err(no);
+        }
+        Ok(AcceptedCircuit { words })
+    }
 }
 
 impl<'a> AcceptedCircuit<'a> {
@@ -109,16 +127,16 @@ impl<'a> AcceptedCircuit<'a> {
     }
 
     // Question 12.
-    pub fn question_12(&self, instance: &[u64], witness: &[u64], challenges: &[u64]) -> bool
-        ensures { result ≡ q12 (circuit_of self.now.words.now) instance.now witness.now challenges.now }
+    pub fn question_12(&self, inputs: &Inputs) -> bool
+        ensures { result ≡ q12 (circuit_of self.now.words.now) inputs.now.instance.now inputs.now.witness.now inputs.now.challenges.now }
     {
         let values = self.instance_words();
         let columns = num_witness(self.words);
         let rows = rows(self.words);
         let user = num_user(self.words);
         let words = columns * rows;
-        (instance.len() as u64 == values)
-            & (witness.len() as u64 == words)
-            & (challenges.len() as u64 == user + 2)
+        (inputs.instance.len() as u64 == values)
+            & (inputs.witness.len() as u64 == words)
+            & (inputs.challenges.len() as u64 == user + 2)
     }
 }

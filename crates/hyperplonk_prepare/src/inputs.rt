@@ -1,26 +1,35 @@
-// Questions 12 and 13, of the instance, witness and challenge words that stand beside circuit words.
-ghost use Rattle.std.specs.Prelude.{◌≡◌};
+// The instance, witness and challenge words that stand beside circuit words in a build.
+ghost use Rattle.std.specs.Prelude.{◌≡◌, true};
 ghost use Rattle.backend.specs.Circuit.{circuit_of};
 ghost use Rattle.hyperplonk_spec.specs.Build.{q12, q13};
-ghost use Rattle.hyperplonk_prepare.specs.Prepared.{Accepted};
 
-use crate::circuit::AcceptedCircuit;
+use crate::needed::PreparedCircuit;
 use backend_sections::words::all_elements;
 
-// Question 12, for callers that have the words alone.
-pub fn question_12(circuit: &[u64], instance: &[u64], witness: &[u64], challenges: &[u64]) -> bool
-    requires { Accepted circuit.now }
-    ensures { result ≡ q12 (circuit_of circuit.now) instance.now witness.now challenges.now }
-{
-    AcceptedCircuit { words: circuit }.question_12(instance, witness, challenges)
+// The words, of any lengths and values.
+#[derive(Clone, Copy)]
+pub struct Inputs<'a> {
+    pub instance: &'a [u64],
+    pub witness: &'a [u64],
+    pub challenges: &'a [u64],
 }
 
-// Question 13.
-pub fn question_13(instance: &[u64], witness: &[u64], challenges: &[u64]) -> bool
-    ensures { result ≡ q13 instance.now witness.now challenges.now }
-{
-    let first = all_elements(instance);
-    let second = all_elements(witness);
-    let third = all_elements(challenges);
-    first & second & third
+impl<'a> Inputs<'a> {
+    // Question 13.
+    pub fn question_13(&self) -> bool
+        ensures { result ≡ q13 self.now.instance.now self.now.witness.now self.now.challenges.now }
+    {
+        let first = all_elements(self.instance);
+        let second = all_elements(self.witness);
+        let third = all_elements(self.challenges);
+        first & second & third
+    }
+}
+
+// The log that the lent words are: an accepted circuit, and inputs of the lengths that it asks for, so that question 12 is yes.
+#[derive(Drop)]
+pub struct LentLog<'a> {
+    pub prepared: PreparedCircuit<'a>,
+    pub inputs: Inputs<'a>,
+    pub ghost lengths: { q12 (circuit_of prepared.circuit.words.now) inputs.instance.now inputs.witness.now inputs.challenges.now ≡ true },
 }

@@ -9,7 +9,6 @@ ghost use Rattle.backend.specs.Circuit as def;
 ghost use Rattle.preprocessor.specs.Compose.{compose, composed_nodes, params_of};
 ghost use Rattle.hyperplonk_spec.specs.Build.{column_words, q14};
 ghost use Rattle.hyperplonk_spec.specs.Sizes.{composed_visits, most_nodes};
-ghost use Rattle.hyperplonk_prepare.specs.Prepared.{Accepted};
 
 use crate::circuit::AcceptedCircuit;
 use arrayvec::ArrayVec;
@@ -120,13 +119,4 @@ impl<'a> PreparedCircuit<'a> {
         let composed = self.composed_nodes();
         (words <= columns) & (composed * 4 <= nodes)
     }
-}
-
-// The column words needed, for callers that have the words alone.
-pub fn column_words(circuit: &[u64], params: CircuitParams) -> usize
-    requires { Accepted circuit.now × (params ≡ params_of (circuit_of circuit.now)) }
-    ensures { result ≡ column_words (circuit_of circuit.now) }
-{
-    let prepared = PreparedCircuit::new(AcceptedCircuit { words: circuit });
-    prepared.column_words()
 }

@@ -2,41 +2,32 @@
 #![tactic(auto)]
 
 ghost use Rattle.std.specs.Prelude.{◌≡◌};
-ghost use Rattle.hyperplonk_spec.specs.Sizes.{no_sizes, sizes_of, Foretells};
+ghost use Rattle.hyperplonk_spec.specs.Sizes.{sizes_of, Foretells};
 
-use backend_questions::first_no;
 use hyperplonk_prepare::circuit::AcceptedCircuit;
 use hyperplonk_prepare::needed::PreparedCircuit;
 use hyperplonk_spec::Sizes;
 
-// "A refusal returns three zeros after its number."
-fn refused(number: u64) -> Sizes
-    ensures { result ≡ no_sizes number }
-{
-    Sizes {
-        number: number,
-        column_words: 0,
-        nodes: 0,
-        visits: 0,
-    }
-}
-
-// What the circuit asks for: one definition's, for any words; and what it tells of the building call and of an evaluation holds.
+// What the circuit asks for: one definition's, for any words; and what it tells of the building call and of an evaluation holds. "A refusal
+// returns three zeros after its number."
 pub fn sizes(circuit: &[u64]) -> Sizes
     ensures { (result ≡ sizes_of circuit.now) × Foretells circuit.now result }
 {
-    let no = first_no(circuit);
-    if no != 0 {
-        return refused(no);
-    }
-    let prepared = PreparedCircuit::new(AcceptedCircuit { words: circuit });
-    let words = prepared.column_words();
-    let nodes = prepared.composed_nodes();
-    let visits = prepared.composed_visits();
-    Sizes {
-        number: 0,
-        column_words: words,
-        nodes: nodes,
-        visits: visits,
+    match AcceptedCircuit::new(circuit) {
+        Ok(accepted) => {
+            let prepared = PreparedCircuit::new(accepted);
+            Sizes {
+                number: 0,
+                column_words: prepared.column_words(),
+                nodes: prepared.composed_nodes(),
+                visits: prepared.composed_visits(),
+            }
+        }
+        Err(number) => Sizes {
+            number,
+            column_words: 0,
+            nodes: 0,
+            visits: 0,
+        },
     }
 }

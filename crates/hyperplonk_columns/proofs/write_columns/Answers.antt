@@ -2,21 +2,18 @@
 use mathlib.Core.Path.{sym, ◌∙◌}
 use native.Mathlib.Omega.{arith}
 use lib.ListN.{length}
-use Rattle.hyperplonk_columns.proofs.Accepted.{exact_challenges, counts_asked, answer_is, counts_written, counts_behind, all_end, zero_end, none_end}
+use Rattle.hyperplonk_columns.proofs.Accepted.{counts_asked, answer_is, counts_written, counts_behind, all_end, zero_end, none_end}
 use Rattle.hyperplonk_columns.proofs.write_columns.Goals as goal
-
-pub columns_before_m-requires : goal.columns_before_m-requires
-columns_before_m-requires c = (c.args.prepared.now.circuit.accepted, c.copied-copied.ensures, c.requires.inputs, c.requires.room)
 
 pub lookup_m_polys-covered-requires : goal.lookup_m_polys-covered-requires
 lookup_m_polys-covered-requires c =
     let at = c.places_of-at in
-    counts_asked c.args.prepared.now.circuit.words.now c.args.prepared.now.circuit.accepted c.args.prepared.now.params c.args.prepared.now.params_are _ c.group_sizes-sizes.ensures _ _ at.ensures.compressed at.ensures.counts
+    counts_asked c.args.log.now.prepared.circuit.words.now c.args.log.now.prepared.circuit.accepted c.args.log.now.prepared.params c.args.log.now.prepared.params_are _ c.group_sizes-sizes.ensures _ _ at.ensures.compressed at.ensures.counts
     (length c.args.columns.now)
-    c.requires.room
-    c.args.instance.now
-    c.args.witness.now
-    c.args.challenges.now
+    c.requires
+    c.args.log.now.inputs.instance.now
+    c.args.log.now.inputs.witness.now
+    c.args.log.now.inputs.challenges.now
     c.args.columns.now
     _
     c.columns_before_m.ensures
@@ -24,7 +21,7 @@ lookup_m_polys-covered-requires c =
 
 pub clear-requires : goal.clear-requires
 clear-requires c =
-    omega (arith, c.column_words-words.ensures, c.requires.room, c.lookup_m_polys-covered.auto.columns, c.columns_before_m.auto.columns)
+    omega (arith, c.column_words-words.ensures, c.requires, c.lookup_m_polys-covered.auto.columns, c.columns_before_m.auto.columns)
 
 pub shape_of-columns-then-not-covered : goal.shape_of-columns-then-not-covered
 shape_of-columns-then-not-covered c =
@@ -35,29 +32,29 @@ returns-then-not-covered c =
     let at = c.places_of-at in
     let before = c.columns_before_m.ensures in
     let m = c.lookup_m_polys-covered in
-    none_end c.args.prepared.now.circuit.words.now c.args.instance.now c.args.witness.now c.args.challenges.now c.args.prepared.now.circuit.accepted c.args.columns.now _ c.requires.room before
+    none_end c.args.log.now.prepared.circuit.words.now c.args.log.now.inputs.instance.now c.args.log.now.inputs.witness.now c.args.log.now.inputs.challenges.now c.args.log.now.prepared.circuit.accepted c.args.columns.now _ c.requires before
     _
     _
     _
     (sym (c.if-not-covered.true)
-    ∙ answer_is c.args.prepared.now.circuit.words.now c.args.prepared.now.circuit.accepted c.args.prepared.now.params c.args.prepared.now.params_are _ c.group_sizes-sizes.ensures _ _ at.ensures.compressed at.ensures.counts
+    ∙ answer_is c.args.log.now.prepared.circuit.words.now c.args.log.now.prepared.circuit.accepted c.args.log.now.prepared.params c.args.log.now.prepared.params_are _ c.group_sizes-sizes.ensures _ _ at.ensures.compressed at.ensures.counts
     (length c.args.columns.now)
-    c.requires.room
-    c.args.instance.now
-    c.args.witness.now
-    c.args.challenges.now
+    c.requires
+    c.args.log.now.inputs.instance.now
+    c.args.log.now.inputs.witness.now
+    c.args.log.now.inputs.challenges.now
     c.args.columns.now
     _
     _
     m.result
     before
     m.ensures)
-    (counts_behind c.args.prepared.now.circuit.words.now c.args.prepared.now.circuit.accepted c.args.prepared.now.params c.args.prepared.now.params_are _ c.group_sizes-sizes.ensures _ _ at.ensures.compressed at.ensures.counts
+    (counts_behind c.args.log.now.prepared.circuit.words.now c.args.log.now.prepared.circuit.accepted c.args.log.now.prepared.params c.args.log.now.prepared.params_are _ c.group_sizes-sizes.ensures _ _ at.ensures.compressed at.ensures.counts
     (length c.args.columns.now)
-    c.requires.room
-    c.args.instance.now
-    c.args.witness.now
-    c.args.challenges.now
+    c.requires
+    c.args.log.now.inputs.instance.now
+    c.args.log.now.inputs.witness.now
+    c.args.log.now.inputs.challenges.now
     c.args.columns.now
     _
     _
@@ -69,14 +66,11 @@ returns-then-not-covered c =
 
 pub columns_after_m-last-requires : goal.columns_after_m-last-requires
 columns_after_m-last-requires c =
-    record {
-      challenges = exact_challenges _ c.args.instance.now c.args.witness.now c.args.challenges.now c.requires.inputs;
-      room = omega (arith, c.requires.room, c.lookup_m_polys-covered.auto.columns, c.columns_before_m.auto.columns);
-    }
+    omega (arith, c.requires, c.lookup_m_polys-covered.auto.columns, c.columns_before_m.auto.columns)
 
 pub clear-requires-in-Err : goal.clear-requires-in-Err
 clear-requires-in-Err c =
-    omega (arith, c.column_words-words.ensures, c.requires.room, c.columns_after_m-last.auto.columns, c.lookup_m_polys-covered.auto.columns, c.columns_before_m.auto.columns)
+    omega (arith, c.column_words-words.ensures, c.requires, c.columns_after_m-last.auto.columns, c.lookup_m_polys-covered.auto.columns, c.columns_before_m.auto.columns)
 
 pub shape_of-columns-in-Ok : goal.shape_of-columns-in-Ok
 shape_of-columns-in-Ok c =
@@ -88,16 +82,16 @@ returns-in-Ok c =
     let before = c.columns_before_m.ensures in
     let m = c.lookup_m_polys-covered in
     let yes = c.if-not-covered.false in
-    all_end c.args.prepared.now.circuit.words.now c.args.instance.now c.args.witness.now c.args.challenges.now c.args.prepared.now.circuit.accepted c.args.columns.now _ c.requires.room before
+    all_end c.args.log.now.prepared.circuit.words.now c.args.log.now.inputs.instance.now c.args.log.now.inputs.witness.now c.args.log.now.inputs.challenges.now c.args.log.now.prepared.circuit.accepted c.args.columns.now _ c.requires before
     _
     _
     _
-    (counts_written c.args.prepared.now.circuit.words.now c.args.prepared.now.circuit.accepted c.args.prepared.now.params c.args.prepared.now.params_are _ c.group_sizes-sizes.ensures _ _ at.ensures.compressed at.ensures.counts
+    (counts_written c.args.log.now.prepared.circuit.words.now c.args.log.now.prepared.circuit.accepted c.args.log.now.prepared.params c.args.log.now.prepared.params_are _ c.group_sizes-sizes.ensures _ _ at.ensures.compressed at.ensures.counts
     (length c.args.columns.now)
-    c.requires.room
-    c.args.instance.now
-    c.args.witness.now
-    c.args.challenges.now
+    c.requires
+    c.args.log.now.inputs.instance.now
+    c.args.log.now.inputs.witness.now
+    c.args.log.now.inputs.challenges.now
     c.args.columns.now
     _
     _
@@ -106,19 +100,19 @@ returns-in-Ok c =
     m.ensures
     yes)
     (sym yes
-    ∙ answer_is c.args.prepared.now.circuit.words.now c.args.prepared.now.circuit.accepted c.args.prepared.now.params c.args.prepared.now.params_are _ c.group_sizes-sizes.ensures _ _ at.ensures.compressed at.ensures.counts
+    ∙ answer_is c.args.log.now.prepared.circuit.words.now c.args.log.now.prepared.circuit.accepted c.args.log.now.prepared.params c.args.log.now.prepared.params_are _ c.group_sizes-sizes.ensures _ _ at.ensures.compressed at.ensures.counts
     (length c.args.columns.now)
-    c.requires.room
-    c.args.instance.now
-    c.args.witness.now
-    c.args.challenges.now
+    c.requires
+    c.args.log.now.inputs.instance.now
+    c.args.log.now.inputs.witness.now
+    c.args.log.now.inputs.challenges.now
     c.args.columns.now
     _
     _
     m.result
     before
     m.ensures)
-    (c.columns_after_m-last.ensures c.args.instance.now)
+    c.columns_after_m-last.ensures
     c.in-Ok.is
 
 pub shape_of-columns-in-Err : goal.shape_of-columns-in-Err
@@ -131,16 +125,16 @@ returns-in-Err c =
     let before = c.columns_before_m.ensures in
     let m = c.lookup_m_polys-covered in
     let yes = c.if-not-covered.false in
-    zero_end c.args.prepared.now.circuit.words.now c.args.instance.now c.args.witness.now c.args.challenges.now c.args.prepared.now.circuit.accepted c.args.columns.now _ c.requires.room before
+    zero_end c.args.log.now.prepared.circuit.words.now c.args.log.now.inputs.instance.now c.args.log.now.inputs.witness.now c.args.log.now.inputs.challenges.now c.args.log.now.prepared.circuit.accepted c.args.columns.now _ c.requires before
     _
     _
     _
-    (counts_written c.args.prepared.now.circuit.words.now c.args.prepared.now.circuit.accepted c.args.prepared.now.params c.args.prepared.now.params_are _ c.group_sizes-sizes.ensures _ _ at.ensures.compressed at.ensures.counts
+    (counts_written c.args.log.now.prepared.circuit.words.now c.args.log.now.prepared.circuit.accepted c.args.log.now.prepared.params c.args.log.now.prepared.params_are _ c.group_sizes-sizes.ensures _ _ at.ensures.compressed at.ensures.counts
     (length c.args.columns.now)
-    c.requires.room
-    c.args.instance.now
-    c.args.witness.now
-    c.args.challenges.now
+    c.requires
+    c.args.log.now.inputs.instance.now
+    c.args.log.now.inputs.witness.now
+    c.args.log.now.inputs.challenges.now
     c.args.columns.now
     _
     _
@@ -149,19 +143,19 @@ returns-in-Err c =
     m.ensures
     yes)
     (sym yes
-    ∙ answer_is c.args.prepared.now.circuit.words.now c.args.prepared.now.circuit.accepted c.args.prepared.now.params c.args.prepared.now.params_are _ c.group_sizes-sizes.ensures _ _ at.ensures.compressed at.ensures.counts
+    ∙ answer_is c.args.log.now.prepared.circuit.words.now c.args.log.now.prepared.circuit.accepted c.args.log.now.prepared.params c.args.log.now.prepared.params_are _ c.group_sizes-sizes.ensures _ _ at.ensures.compressed at.ensures.counts
     (length c.args.columns.now)
-    c.requires.room
-    c.args.instance.now
-    c.args.witness.now
-    c.args.challenges.now
+    c.requires
+    c.args.log.now.inputs.instance.now
+    c.args.log.now.inputs.witness.now
+    c.args.log.now.inputs.challenges.now
     c.args.columns.now
     _
     _
     m.result
     before
     m.ensures)
-    (c.columns_after_m-last.ensures c.args.instance.now)
+    c.columns_after_m-last.ensures
     _
     _
     c.in-Err.is

@@ -1,4 +1,4 @@
--- `copied_of` meets its contract.
+-- `copied` meets its contract.
 use mathlib.Core.Path.{◌∙◌}
 use native.Mathlib.Omega.{arith}
 use Rattle.hyperplonk_prepare.proofs.Accepted.{laid_counted, laid_of, few_polys}

@@ -1,4 +1,4 @@
--- `degree_of` meets its contract.
+-- `degree` meets its contract.
 use Rattle.hyperplonk_prepare.proofs.Accepted.{laid_of, counted_of, answers}
 use Rattle.hyperplonk_prepare.proofs.Computed.{degrees_fit_is, degree_from}
 use Rattle.hyperplonk_prepare.proofs.circuit.AcceptedCircuit.degree.Goals as goal

@@ -1,4 +1,4 @@
--- `group_sizes_of` meets its contract.
+-- `group_sizes` meets its contract.
 use mathlib.Core.Path.{◌∙◌}
 use Rattle.hyperplonk_prepare.proofs.Accepted.{laid_of}
 use Rattle.hyperplonk_prepare.proofs.Computed.{numbers_good_is, groups_from, sizes_from}

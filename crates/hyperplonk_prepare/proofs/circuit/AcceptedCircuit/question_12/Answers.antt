@@ -19,4 +19,4 @@ pub overflow_add-result : goal.overflow_add-result
 overflow_add-result c = omega (arith, few_user c.args.self.now.words.now c.args.self.now.accepted, c.num_user-user.ensures)
 
 pub returns : goal.returns
-returns c = twelve c.args.self.now.words.now c.args.self.now.accepted c.args.instance.now c.args.witness.now c.args.challenges.now _ _ _ _ c.instance_words-values.ensures c.num_witness-columns.ensures c.rows-rows.ensures c.num_user-user.ensures
+returns c = twelve c.args.self.now.words.now c.args.self.now.accepted c.args.inputs.now.instance.now c.args.inputs.now.witness.now c.args.inputs.now.challenges.now _ _ _ _ c.instance_words-values.ensures c.num_witness-columns.ensures c.rows-rows.ensures c.num_user-user.ensures
