@@ -7,10 +7,9 @@ ghost use Rattle.backend.specs.Circuit.{circuit_of};
 ghost use Rattle.preprocessor.specs.Compose.{composed_words, composed_nodes};
 ghost use Rattle.preprocessor.specs.ComposeWords.{Composed};
 
-use backend_sections::reader::{constraints_of, nodes_of, pairs_of, widths_of};
 use hyperplonk_prepare::needed::PreparedCircuit;
 use preprocessor_compose::compose;
-use preprocessor_compose::words::{CircuitWords, Input};
+use preprocessor_compose::words::Input;
 
 // The words that are composed at a time to be compared.
 const WINDOW: usize = 2048;
@@ -19,22 +18,8 @@ const WINDOW: usize = 2048;
 pub fn compose_nodes(prepared: &PreparedCircuit, from: usize, nodes: &mut [u64]) -> usize
     ensures { Composed from (circuit_of prepared.now.circuit.words.now) nodes.old nodes.new result }
 {
-    let circuit = prepared.circuit.words;
-    let params = prepared.params;
+    let words = prepared.circuit_words();
     let copied = prepared.copied();
-    let sizes = prepared.group_sizes();
-    let user = nodes_of(circuit);
-    let roots = constraints_of(circuit);
-    let widths = widths_of(circuit);
-    let pairs = pairs_of(circuit);
-    let words = CircuitWords {
-        user,
-        roots,
-        sizes,
-        widths,
-        pairs,
-        params,
-    };
     let input = Input {
         words: &words,
         copied,

@@ -9,12 +9,12 @@ ghost use Rattle.backend.specs.Circuit as def;
 ghost use Rattle.preprocessor.specs.Compose.{compose, composed_nodes, params_of};
 ghost use Rattle.hyperplonk_spec.specs.Build.{column_words, q14};
 ghost use Rattle.hyperplonk_spec.specs.Sizes.{composed_visits, most_nodes};
+ghost use Rattle.preprocessor_compose.specs.Input.{AreWordsOf};
 
 use crate::circuit::AcceptedCircuit;
 use arrayvec::ArrayVec;
 use backend::MAX_POLYS;
 use backend_sections::contents::INSTANCE_COUNT;
-use backend_sections::reader::{constraints_of, nodes_of, pairs_of, widths_of};
 use preprocessor::CircuitParams;
 use preprocessor_compose::words::CircuitWords;
 
@@ -73,27 +73,33 @@ impl<'a> PreparedCircuit<'a> {
             * params.rows
     }
 
-    // The nodes of the composed expression, an Item counted as `item`; no more than 2^60 are counted.
-    fn composed_count(&self, item: u64) -> u64
-        requires { item ≤ 1 }
-        ensures { result ≡ min largest_size (weight item (compose (circuit_of self.now.circuit.words.now))) }
+    // The words that its expression is composed from.
+    pub fn circuit_words(&self) -> CircuitWords<'_>
+        ensures params { result.params ≡ params_of (circuit_of self.now.circuit.words.now) }
+        ensures words { AreWordsOf (circuit_of self.now.circuit.words.now) (def.copied (circuit_of self.now.circuit.words.now)) result }
     {
-        let circuit = self.circuit.words;
-        let user = nodes_of(circuit);
-        let roots = constraints_of(circuit);
-        let widths = widths_of(circuit);
-        let pairs = pairs_of(circuit);
+        let laid = self.circuit.circuit().laid();
+        let user = laid.nodes();
+        let roots = laid.constraints();
+        let widths = laid.widths();
+        let pairs = laid.pairs();
         let sizes = self.group_sizes();
-        let params = self.params;
-        let words = CircuitWords {
+        CircuitWords {
             user,
             roots,
             sizes,
             widths,
             pairs,
-            params,
-        };
-        preprocessor_compose::count::composed_nodes(&words, item)
+            params: self.params,
+        }
+    }
+
+    // The nodes of the composed expression, an Item counted as `item`; no more than 2^60 are counted.
+    fn composed_count(&self, item: u64) -> u64
+        requires { item ≤ 1 }
+        ensures { result ≡ min largest_size (weight item (compose (circuit_of self.now.circuit.words.now))) }
+    {
+        preprocessor_compose::count::composed_nodes(&self.circuit_words(), item)
     }
 
     // The nodes that the composed expression takes.

@@ -1,29 +1,5 @@
 -- `composed_count` meets its contract.
-use Rattle.hyperplonk_prepare.proofs.Accepted.{laid_of}
-use Rattle.hyperplonk_prepare.proofs.Computed.{words_from, decoded_from}
 use Rattle.hyperplonk_prepare.proofs.needed.PreparedCircuit.composed_count.Goals as goal
 
-pub nodes_of-user-requires : goal.nodes_of-user-requires
-nodes_of-user-requires c = laid_of c.args.self.now.circuit.words.now c.args.self.now.circuit.accepted
-
-pub constraints_of-roots-requires : goal.constraints_of-roots-requires
-constraints_of-roots-requires c = laid_of c.args.self.now.circuit.words.now c.args.self.now.circuit.accepted
-
-pub widths_of-widths-requires : goal.widths_of-widths-requires
-widths_of-widths-requires c = laid_of c.args.self.now.circuit.words.now c.args.self.now.circuit.accepted
-
-pub pairs_of-pairs-requires : goal.pairs_of-pairs-requires
-pairs_of-pairs-requires c = laid_of c.args.self.now.circuit.words.now c.args.self.now.circuit.accepted
-
-pub invariant_of-words : goal.invariant_of-words
-invariant_of-words c =
-    record {
-      fits = words_from c.args.self.now.circuit.words.now c.args.self.now.circuit.accepted _ _ _ _ _ c.nodes_of-user.ensures c.constraints_of-roots.ensures
-          c.group_sizes-sizes.ensures c.widths_of-widths.ensures c.pairs_of-pairs.ensures _ c.args.self.now.params_are;
-    }
-
 pub returns : goal.returns
-returns c =
-    c.composed_nodes.ensures _ _
-    (decoded_from c.args.self.now.circuit.words.now c.args.self.now.circuit.accepted _ _ _ _ _ c.nodes_of-user.ensures c.constraints_of-roots.ensures
-    c.group_sizes-sizes.ensures c.widths_of-widths.ensures c.pairs_of-pairs.ensures _ c.args.self.now.params_are)
+returns c = c.composed_nodes.ensures _ _ c.circuit_words.ensures.words
