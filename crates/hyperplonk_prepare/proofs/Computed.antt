@@ -2,14 +2,16 @@
 use mathlib.Core.Path.{◌≡◌, sym, ap, ap₂, ◌∙◌}
 use mathlib.Core.Bool.{Bool, true, ◌&&◌}
 use mathlib.Core.List.{List, [], ◌∷◌}
-use Prim.Native.Nat.{ℕ, ◌+◌, ◌-◌, ◌*◌, ◌/◌, ◌^◌, ◌≤◌, min}
+use Prim.Native.Nat.{ℕ, ◌+◌, ◌-◌, ◌*◌, ◌/◌, ◌%◌, ◌^◌, ◌≤◌, ◌<◌, min}
 use native.Mathlib.Omega.{arith}
 use native.Mathlib.Nat.{mul-le-mul}
 use lib.ListN.{length, get_or}
 use lib.Dec.{eqb, leb, ltb}
 use lib.Seq.{take_all}
+use Rattle.std.proofs.Common.{rules}
+use Rattle.std.proofs.lemmas.Grind.{common_steps}
 use Rattle.field.specs.Prime.{P}
-use Rattle.lists.specs.Lists.{all_of, total, concat, All}
+use Rattle.lists.specs.Lists.{all_of, total, concat, ceil_div, All}
 use Rattle.lists.proofs.All.{all_from}
 use Rattle.lists.proofs.Columns.{tabulate_length}
 use Rattle.lists.proofs.Parts.{concat_split}
@@ -53,6 +55,10 @@ total_most : (m : ℕ) (ns : List ℕ) → All (λ n. n ≤ m) ns → total ns �
 unfolding total
 total_most m [] a = omega arith
 total_most m (n ∷ ns) a = let h = total_most m ns a.1 in let b = a.0 in omega arith
+
+-- what `div_ceil` answers
+pub ceil_is : (n d : ℕ) → 0 < d → n / d + min 1 (n % d) ≡ ceil_div n d
+ceil_is n d h = grind (arith, common_steps)
 
 module _ (ws : List ℕ) (a : Accepted ws) where
   -- ---- the copied columns
@@ -113,12 +119,13 @@ module _ (ws : List ℕ) (a : Accepted ws) where
   pub lookups_are : get_or ws 13 0 ≡ num_lookups (circuit_of ws)
   lookups_are = sym (known.widths_are ws a ∙ known.widths_length ws a)
 
-  pub params_from : (polys copies lookups groups user rows degree : ℕ) → polys ≡ num_poly (circuit_of ws) → copies ≡ num_copied (circuit_of ws)
+  pub params_from : (polys copies lookups groups user rows degree parts : ℕ) → polys ≡ num_poly (circuit_of ws) → copies ≡ num_copied (circuit_of ws)
       → lookups ≡ num_lookups (circuit_of ws)
       → groups ≡ num_groups (circuit_of ws)
       → user ≡ num_challenges (circuit_of ws)
       → rows ≡ 2 ^ word_k ws
       → degree ≡ max_degree (circuit_of ws)
+      → parts ≡ ceil_div copies (degree - 1)
       → ◌≡◌ {A = CircuitParams}
       (record {
         num_poly = polys;
@@ -128,11 +135,11 @@ module _ (ws : List ℕ) (a : Accepted ws) where
         num_challenges = user;
         rows = rows;
         chunk_size = degree - 1;
-        num_chunks = (copies + (degree - 1) - 1) / (degree - 1);
+        num_chunks = parts;
       })
       (params_of (circuit_of ws))
   unfolding params_of num_z
-  params_from polys copies lookups groups user rows degree p c l g u r d = rw (p, c, l, g, u, r ∙ sym (known.rows_is ws a), d)
+  params_from polys copies lookups groups user rows degree parts p c l g u r d z = rw (z, p, c, l, g, u, r ∙ sym (known.rows_is ws a), d)
 
   -- the column words
   module _ (v : CircuitParams) (e : v ≡ params_of (circuit_of ws)) where

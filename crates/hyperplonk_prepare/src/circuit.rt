@@ -13,12 +13,11 @@ use crate::inputs::Inputs;
 use arrayvec::ArrayVec;
 use backend::MAX_POLYS;
 use backend_nodes::degrees::{degrees_of, max_degree};
-use backend_questions::first_no;
-use backend_sections::bodies::{num_poly, num_user, num_witness, rows};
+use backend_questions::accepted;
 use backend_sections::contents::{INSTANCE_COUNT, PREPROCESS_COUNT, PREPROCESS_START, WIDTH_COUNT};
 use backend_sections::copied::copied_columns;
 use backend_sections::groups::group_sizes;
-use backend_sections::reader::{cells_of, groups_of, instances_of};
+use backend_sections::reader::Circuit;
 use backend_sections::words::total_to;
 use expression::poly::Layout;
 use preprocessor::CircuitParams;
@@ -38,22 +37,25 @@ impl<'a> AcceptedCircuit<'a> {
     pub fn new(words: &'a [u64]) -> Result<AcceptedCircuit<'a>, u64>
         ensures { IsAnswer words.now result }
     {
-        let no = first_no(words);
-        if no != 0 {
-            return Err(no);
-        }
+        accepted(words)?;
         Ok(AcceptedCircuit { words })
     }
-}
 
-impl<'a> AcceptedCircuit<'a> {
+    // The circuit that questions 1 to 4 make of the words.
+    pub fn circuit(&self) -> Circuit<'a>
+        ensures { result.words ≡ self.now.words }
+    {
+        Circuit { words: self.words }
+    }
+
     // The copied columns of the circuit.
     pub fn copied(&self) -> ArrayVec<u64, MAX_POLYS>
         ensures columns { result.items ≡ def.copied (circuit_of self.now.words.now) }
         ensures few { array_vec_len result ≤ max_polys }
     {
-        let polys = num_poly(self.words);
-        let cells = cells_of(self.words);
+        let circuit = self.circuit();
+        let polys = circuit.num_poly();
+        let cells = circuit.laid().cells();
         copied_columns(cells, polys as usize)
     }
 
@@ -63,7 +65,7 @@ impl<'a> AcceptedCircuit<'a> {
         ensures count { array_vec_len result ≡ num_groups (circuit_of self.now.words.now) }
         ensures few { array_vec_len result ≤ 8 }
     {
-        let numbers = groups_of(self.words);
+        let numbers = self.circuit().laid().groups();
         group_sizes(numbers)
     }
 
@@ -71,10 +73,11 @@ impl<'a> AcceptedCircuit<'a> {
     pub fn layout(&self) -> Layout
         ensures { result ≡ layout_from_words self.now.words.now }
     {
-        let all = rows(self.words);
-        let witness = num_witness(self.words);
+        let circuit = self.circuit();
+        let rows = circuit.laid().rows();
+        let witness = circuit.num_witness();
         Layout {
-            rows: all as usize,
+            rows: rows as usize,
             instances: self.words[INSTANCE_COUNT] as usize,
             preprocess: self.words[PREPROCESS_COUNT] as usize,
             start: self.words[PREPROCESS_START] as usize,
@@ -89,7 +92,7 @@ impl<'a> AcceptedCircuit<'a> {
     fn degree(&self) -> usize
         ensures { result ≡ max_degree (circuit_of self.now.words.now) }
     {
-        let d = degrees_of(self.words);
+        let d = degrees_of(self.circuit());
         let degree = max_degree(d);
         degree as usize
     }
@@ -100,12 +103,13 @@ impl<'a> AcceptedCircuit<'a> {
         requires groups { groups ≡ num_groups (circuit_of self.now.words.now) }
         ensures { result ≡ params_of (circuit_of self.now.words.now) }
     {
-        let polys = num_poly(self.words);
-        let user = num_user(self.words);
-        let rows = rows(self.words);
+        let circuit = self.circuit();
+        let polys = circuit.num_poly();
+        let user = circuit.num_user();
+        let rows = circuit.laid().rows();
         let lookups = self.words[WIDTH_COUNT];
         let part = self.degree() - 1;
-        let parts = (copied + part - 1) / part;
+        let parts = copied.div_ceil(part);
         CircuitParams {
             num_poly: polys as usize,
             num_permutation_polys: copied,
@@ -122,7 +126,7 @@ impl<'a> AcceptedCircuit<'a> {
     fn instance_words(&self) -> u64
         ensures { result ≡ total (circuit_of self.now.words.now).instances }
     {
-        let instances = instances_of(self.words);
+        let instances = self.circuit().laid().instances();
         total_to(instances, 1, 0, instances.len(), 8192)
     }
 
@@ -131,9 +135,10 @@ impl<'a> AcceptedCircuit<'a> {
         ensures { result ≡ q12 (circuit_of self.now.words.now) inputs.now.instance.now inputs.now.witness.now inputs.now.challenges.now }
     {
         let values = self.instance_words();
-        let columns = num_witness(self.words);
-        let rows = rows(self.words);
-        let user = num_user(self.words);
+        let circuit = self.circuit();
+        let columns = circuit.num_witness();
+        let rows = circuit.laid().rows();
+        let user = circuit.num_user();
         let words = columns * rows;
         (inputs.instance.len() as u64 == values)
             & (inputs.witness.len() as u64 == words)

@@ -15,7 +15,6 @@ use crate::circuit::AcceptedCircuit;
 use arrayvec::ArrayVec;
 use backend::MAX_POLYS;
 use backend_sections::contents::INSTANCE_COUNT;
-use backend_sections::reader::{constraints_of, nodes_of, pairs_of, widths_of};
 use preprocessor::CircuitParams;
 use preprocessor_compose::words::CircuitWords;
 
@@ -78,11 +77,11 @@ impl<'a> PreparedCircuit<'a> {
     pub fn circuit_words(&self) -> CircuitWords<'_>
         ensures { DecodedFrom (circuit_of self.now.circuit.words.now) result.params (def.copied (circuit_of self.now.circuit.words.now)) result.user.now result.roots.now result.sizes.now result.widths.now result.pairs.now }
     {
-        let circuit = self.circuit.words;
-        let user = nodes_of(circuit);
-        let roots = constraints_of(circuit);
-        let widths = widths_of(circuit);
-        let pairs = pairs_of(circuit);
+        let laid = self.circuit.circuit().laid();
+        let user = laid.nodes();
+        let roots = laid.constraints();
+        let widths = laid.widths();
+        let pairs = laid.pairs();
         let sizes = self.group_sizes();
         let params = self.params;
         CircuitWords {
