@@ -15,7 +15,7 @@ use Rattle.lists.specs.Lists.{All, write_at, total, write_prefix, any_of}
 use Rattle.lists.proofs.Tests.{and_left, and_right}
 use Rattle.lists.proofs.Columns.{tabulate_length}
 use Rattle.lists.proofs.Over.{drop_more, drop_past}
-use Rattle.backend.specs.Circuit.{Circuit, Section, body_of, circuit_of, rows_of, num_instance, num_witness, num_challenges, copied, num_copied, num_lookups, num_groups, group_sizes, groups_of}
+use Rattle.backend.specs.Circuit.{Circuit, Section, body_of, circuit_of, rows_of, num_instance, num_witness, num_challenges, num_copied, num_lookups, num_groups, group_sizes, groups_of}
 use Rattle.preprocessor.specs.Compose.{num_z, params_of}
 use Rattle.preprocessor.specs.declared.CircuitParams.{CircuitParams}
 use Rattle.prover.specs.Log.{Log}
@@ -294,17 +294,6 @@ module _ (ws instances witness challenges : List ℕ) (q : q12 (circuit_of ws) i
   unfolding circuit_of
   instance_asked =
       let p = placed circuit in (sym (exact_instances circuit instances witness challenges q), omega arith)
-
-  pub permutation_asked : (names : List ℕ) → names ≡ copied circuit → (m : ℕ) → m ≡ n
-      → (names ≡ copied circuit) × (compressed_offset circuit ≤ m)
-  permutation_asked names e m l = let p = placed circuit in (e, omega arith)
-
-  pub compressed_asked : (names : List ℕ) → names ≡ copied circuit → (m : ℕ) → m ≡ n
-      → (length challenges ≡ num_challenges circuit + 2)
-      × (length names ≡ num_copied circuit)
-      × (compressed_offset circuit + num_lookups circuit * 2 * rows_of circuit ≤ m)
-  compressed_asked names e m l =
-      let p = placed circuit in (exact_challenges circuit instances witness challenges q, ap length e, omega arith)
 
 module _ (ws : List ℕ) (a : Accepted ws) (v : CircuitParams) (e : v ≡ params_of (circuit_of ws)) (sizes : List ℕ)
     (s-is : sizes ≡ group_sizes (circuit_of ws).groups) (x y : ℕ) (x-is : x ≡ compressed_offset (circuit_of ws))

@@ -27,12 +27,6 @@ lookup_h_polys-requires c =
     _
     refl
 
-pub z_columns-requires : goal.z_columns-requires
-z_columns-requires c = omega (arith, c.requires, c.lookup_h_polys.auto.columns)
-
-pub shape_of-columns : goal.shape_of-columns
-shape_of-columns c = c.z_columns.auto.columns ∙ c.lookup_h_polys.auto.columns
-
 pub returns : goal.returns
 returns c front =
     let at = c.places_of-at in

@@ -1,6 +1,5 @@
 -- `write_columns` meets its contract: question 15 by the counts, question 17 by h and z.
 use mathlib.Core.Path.{sym, ◌∙◌}
-use native.Mathlib.Omega.{arith}
 use lib.ListN.{length}
 use Rattle.hyperplonk_columns.proofs.Accepted.{counts_asked, answer_is, counts_written, counts_behind, all_end, zero_end, none_end}
 use Rattle.hyperplonk_columns.proofs.write_columns.Goals as goal
@@ -18,14 +17,6 @@ lookup_m_polys-covered-requires c =
     _
     c.columns_before_m.ensures
     c.columns_before_m.auto.columns
-
-pub clear-requires : goal.clear-requires
-clear-requires c =
-    omega (arith, c.column_words-words.ensures, c.requires, c.lookup_m_polys-covered.auto.columns, c.columns_before_m.auto.columns)
-
-pub shape_of-columns-then-not-covered : goal.shape_of-columns-then-not-covered
-shape_of-columns-then-not-covered c =
-    c.clear.auto.columns ∙ c.lookup_m_polys-covered.auto.columns ∙ c.columns_before_m.auto.columns
 
 pub returns-then-not-covered : goal.returns-then-not-covered
 returns-then-not-covered c =
@@ -63,18 +54,6 @@ returns-then-not-covered c =
     m.ensures)
     c.column_words-words.ensures
     c.clear.ensures
-
-pub columns_after_m-last-requires : goal.columns_after_m-last-requires
-columns_after_m-last-requires c =
-    omega (arith, c.requires, c.lookup_m_polys-covered.auto.columns, c.columns_before_m.auto.columns)
-
-pub clear-requires-in-Err : goal.clear-requires-in-Err
-clear-requires-in-Err c =
-    omega (arith, c.column_words-words.ensures, c.requires, c.columns_after_m-last.auto.columns, c.lookup_m_polys-covered.auto.columns, c.columns_before_m.auto.columns)
-
-pub shape_of-columns-in-Ok : goal.shape_of-columns-in-Ok
-shape_of-columns-in-Ok c =
-    c.columns_after_m-last.auto.columns ∙ c.lookup_m_polys-covered.auto.columns ∙ c.columns_before_m.auto.columns
 
 pub returns-in-Ok : goal.returns-in-Ok
 returns-in-Ok c =
@@ -114,10 +93,6 @@ returns-in-Ok c =
     m.ensures)
     c.columns_after_m-last.ensures
     c.in-Ok.is
-
-pub shape_of-columns-in-Err : goal.shape_of-columns-in-Err
-shape_of-columns-in-Err c =
-    c.clear-in-Err.auto.columns ∙ c.columns_after_m-last.auto.columns ∙ c.lookup_m_polys-covered.auto.columns ∙ c.columns_before_m.auto.columns
 
 pub returns-in-Err : goal.returns-in-Err
 returns-in-Err c =

@@ -2,7 +2,6 @@
 use mathlib.Core.Path.{refl, ap}
 use native.Mathlib.Omega.{arith}
 use lib.ListN.{length}
-use Rattle.backend.specs.Circuit.{circuit_of}
 use Rattle.hyperplonk_prepare.proofs.Accepted.{laid_of}
 use Rattle.hyperplonk_columns.proofs.Accepted.{z_room, exact_challenges, user_is, user_few, groups_are, parts_are}
 use Rattle.hyperplonk_columns.proofs.stages.Stages.{zs_fit, z_asks, z_written}
