@@ -3,9 +3,9 @@ ghost use Rattle.std.specs.Prelude.{◌≡◌, ◌≤◌, length, IfSome};
 ghost use Rattle.backend.specs.Circuit.{circuit_of};
 ghost use Rattle.hyperplonk_spec.specs.Build.{column_words};
 
-use backend_questions::first_no;
 use hyperplonk_columns::columns_before_m;
 use hyperplonk_prepare::circuit::AcceptedCircuit;
+use hyperplonk_prepare::inputs::{Inputs, LentLog};
 use hyperplonk_prepare::needed::PreparedCircuit;
 
 // Fills the instance, permutation and compressed columns. None where the circuit words are refused, the words beside them have not the
@@ -20,24 +20,20 @@ pub(crate) fn fill<'a>(
     ensures circuit { IfSome result (λ p. p.circuit.words.now ≡ circuit.now) }
     ensures room { IfSome result (λ p. column_words (circuit_of circuit.now) ≤ length columns.new) }
 {
-    if first_no(circuit) != 0 {
-        return None;
-    }
-    let accepted = AcceptedCircuit { words: circuit };
-    if !accepted.question_12(instance, witness, challenges) {
+    let accepted = AcceptedCircuit::new(circuit).ok()?;
+    let inputs = Inputs {
+        instance,
+        witness,
+        challenges,
+    };
+    if !accepted.question_12(&inputs) {
         return None;
     }
     let prepared = PreparedCircuit::new(accepted);
     if prepared.column_words() > columns.len() {
         return None;
     }
-    columns_before_m(
-        circuit,
-        instance,
-        witness,
-        challenges,
-        columns,
-        prepared.copied(),
-    );
-    Some(prepared)
+    let log = LentLog { prepared, inputs };
+    columns_before_m(&log, columns);
+    Some(log.prepared)
 }

@@ -11,7 +11,6 @@ ghost use Rattle.hyperplonk_columns.specs.Stages.{lent_beta, lent_gamma};
 ghost use Rattle.cli_search.specs.Ground.{word_behind, side_word, first_of};
 
 use backend_sections::contents::K_WORD;
-use backend_sections::reader::groups_of;
 use bh::rotations::place_of;
 use expression::poly::Layout;
 use field::goldilocks::Goldilocks;
@@ -66,7 +65,7 @@ impl<'a> Search<'a> {
             challenges,
             columns,
             names: prepared.copied(),
-            groups: groups_of(circuit.words),
+            groups: circuit.circuit().laid().groups(),
             layout: circuit.layout(),
             k: word_at(circuit.words, K_WORD) as usize,
             lookups: prepared.params.num_lookups,

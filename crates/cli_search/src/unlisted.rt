@@ -9,10 +9,8 @@ use crate::filled::fill;
 use crate::found::{Found, search};
 use crate::search::Search;
 use arrayvec::ArrayVec;
-use backend_sections::reader::{nodes_of, pairs_of, widths_of};
 use expression::value::Point;
 use expression_evaluate::evaluation::Evaluation;
-use expression_walk::node;
 use lists::sum_before;
 
 // A reading: `place` is the row's in the row order, and `values` are those of the lookup's input expressions.
@@ -58,12 +56,12 @@ impl<'a> Search<'a> {
     fn values(&self, lookup: usize, point: Point) -> ArrayVec<u64, 8>
         requires { (lookup < self.now.lookups) × PointInOrder point }
     {
-        let words = self.circuit.words;
-        let nodes = nodes_of(words);
-        let widths = widths_of(words);
-        let pairs = pairs_of(words);
+        let laid = self.circuit.circuit().laid();
+        let nodes = laid.nodes();
+        let widths = laid.widths();
+        let pairs = laid.pairs();
         let over = Evaluation {
-            circuit: words,
+            circuit: self.circuit.words,
             witness: self.witness,
             columns: self.columns,
             challenges: self.challenges,
@@ -73,7 +71,7 @@ impl<'a> Search<'a> {
         let first = sum_before(widths, lookup);
         let mut values = ArrayVec::new();
         for i in first..first + widths[lookup] as usize {
-            let value = node(&over, nodes, pairs[i * 2] as usize);
+            let value = over.value(nodes, pairs[i * 2] as usize);
             values.push(u64::from(value));
         }
         values

@@ -3,12 +3,9 @@ use Rattle.std.proofs.Common.{ℕ, ◌+◌, length, get_or, sym, ap, ◌∙◌, 
 use Rattle.field.specs.Field.{el, val}
 use Rattle.expression.specs.Reader.{LayoutSmall}
 use Rattle.backend.proofs.Answers.{groups_read}
-use Rattle.hyperplonk_prepare.proofs.Accepted.{laid_of, given, few_lookups, few_copied}
+use Rattle.hyperplonk_prepare.proofs.Accepted.{given, few_lookups, few_copied}
 use Rattle.cli_search.proofs.Asked.{user_is, few_user_of, lookups_is, rows_small, room_here}
 use Rattle.cli_search.proofs.search.Search.new.Goals as goal
-
-pub groups_of-requires : goal.groups_of-requires
-groups_of-requires c = let p = c.args.prepared.now in laid_of p.circuit.words.now p.circuit.accepted
 
 pub overflow_add-user : goal.overflow_add-user
 overflow_add-user c =
@@ -21,7 +18,7 @@ invariant_of-result-clause-lookups_are c =
     let p = c.args.prepared.now in lookups_is p.circuit.words.now p.circuit.accepted p.params p.params_are
 
 pub invariant_of-result-clause-groups_are : goal.invariant_of-result-clause-groups_are
-invariant_of-result-clause-groups_are c = c.groups_of.ensures ∙ groups_read c.args.prepared.now.circuit.words.now
+invariant_of-result-clause-groups_are c = (rw (c.laid.ensures, c.circuit.ensures) at c.groups.ensures) ∙ groups_read c.args.prepared.now.circuit.words.now
 
 pub invariant_of-result-clause-beta_is : goal.invariant_of-result-clause-beta_is
 invariant_of-result-clause-beta_is c =
