@@ -6,7 +6,7 @@ pub mod stages;
 ghost use Rattle.std.specs.Prelude.{◌≡◌, ◌≤◌, length, take};
 ghost use Rattle.field.specs.Field.{𝔾};
 ghost use Rattle.lists.specs.Lists.{write_at, write_prefix};
-ghost use Rattle.backend.specs.Circuit.{circuit_of, rows_of};
+ghost use Rattle.backend.specs.Circuit.{circuit_of, rows_of, group_sizes};
 ghost use Rattle.prover.specs.Words.{words_of};
 ghost use Rattle.hyperplonk_spec.specs.Build.{column_words};
 ghost use Rattle.hyperplonk_prepare.specs.Log.{lent_log};
@@ -21,7 +21,7 @@ use hyperplonk_prepare::inputs::LentLog;
 use hyperplonk_prepare::needed::PreparedCircuit;
 use prover::ZeroDenominator;
 use prover_instance::blank_column::clear;
-use prover_lookup::{lookup_h_polys, lookup_m_polys};
+use prover_lookup::Groups;
 
 // Why the columns are not written: an input equals no table row, which gives 15; a denominator is zero, which gives 17
 // (specs/Outcome.antt).
@@ -46,26 +46,24 @@ impl From<Refused> for u64 {
     }
 }
 
-// The words at which the compressed columns, m and h begin.
-#[derive(Clone, Copy)]
-struct Places {
-    compressed: usize,
-    counts: usize,
-    hs: usize,
-}
-
-fn places_of(prepared: &PreparedCircuit) -> Places
+// The groups of lookups, and the words at which their compressed columns, m and h begin.
+fn places_of<'a>(prepared: &'a PreparedCircuit) -> Groups<'a>
+    ensures sizes { result.sizes.now ≡ group_sizes (circuit_of prepared.now.circuit.words.now).groups }
     ensures compressed { result.compressed ≡ compressed_offset (circuit_of prepared.now.circuit.words.now) }
     ensures counts { result.counts ≡ m_offset (circuit_of prepared.now.circuit.words.now) }
     ensures hs { result.hs ≡ h_offset (circuit_of prepared.now.circuit.words.now) }
+    ensures rows { result.rows ≡ prepared.now.params.rows }
 {
+    let sizes = prepared.group_sizes();
     let params = prepared.params;
     let instances = prepared.circuit.words[INSTANCE_COUNT] as usize;
     let named = instances + params.num_permutation_polys;
-    Places {
+    Groups {
+        sizes,
         compressed: named * params.rows,
         counts: (named + params.num_lookups * 2) * params.rows,
         hs: (named + params.num_lookups * 2 + params.num_groups) * params.rows,
+        rows: params.rows,
     }
 }
 
@@ -85,18 +83,9 @@ fn columns_after_m(log: &LentLog, columns: &mut [u64]) -> Result<(), ZeroDenomin
     ensures { take (h_offset (circuit_of log.now.prepared.circuit.words.now)) columns.old ≡ words_of (rows_of (circuit_of log.now.prepared.circuit.words.now)) (polys_through_m 𝔾 (lent_log log.now)) → AfterM (lent_log log.now) columns.old result columns.new }
 {
     let at = places_of(&log.prepared);
-    let sizes = log.prepared.group_sizes();
     let user = log.prepared.params.num_challenges;
     let gamma = Goldilocks::at(log.inputs.challenges, user + 1);
-    lookup_h_polys(
-        columns,
-        sizes,
-        at.compressed,
-        at.counts,
-        at.hs,
-        gamma,
-        log.prepared.params.rows,
-    )?;
+    at.lookup_h_polys(columns, gamma)?;
     z_columns(log, columns)
 }
 
@@ -106,16 +95,9 @@ pub fn write_columns(log: &LentLog, columns: &mut [u64]) -> Result<(), Refused>
     ensures { (result ≡ columns_outcome (lent_log log.now)) × (columns.new ≡ write_prefix (columns_left (lent_log log.now) result) columns.old) }
 {
     columns_before_m(log, columns);
-    let sizes = log.prepared.group_sizes();
     let at = places_of(&log.prepared);
     let words = log.prepared.column_words();
-    let covered = lookup_m_polys(
-        columns,
-        sizes,
-        at.compressed,
-        at.counts,
-        log.prepared.params.rows,
-    );
+    let covered = at.lookup_m_polys(columns);
     if !covered {
         clear(columns, 0, words);
         return Err(Refused::Uncovered);

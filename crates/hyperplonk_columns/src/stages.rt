@@ -14,15 +14,13 @@ ghost use Rattle.hyperplonk_prepare.specs.Prepared.{layout_from_words, permutati
 ghost use Rattle.hyperplonk_columns.specs.Stages.{instance_words, permutation_words, compressed_words, z_words, z_denominators};
 
 use backend_sections::contents::WIDTH_COUNT;
-use backend_sections::reader::{
-    cells_of, instances_of, k_of, lengths_of, nodes_of, pairs_of, widths_of,
-};
+use backend_sections::reader::k_of;
 use field::goldilocks::Goldilocks;
 use hyperplonk_prepare::circuit::AcceptedCircuit;
 use hyperplonk_prepare::inputs::LentLog;
 use preprocessor_permutation::permutation_polys;
 use prover::ZeroDenominator;
-use prover_compressed::{CompressedPolys, lookup_compressed_polys};
+use prover_compressed::{CompressedPolys, Lent};
 use prover_instance::instance_polys;
 use prover_z::{ZColumns, permutation_z_polys};
 
@@ -31,9 +29,9 @@ pub(crate) fn instance_columns(log: &LentLog, columns: &mut [u64])
     requires { column_words (circuit_of log.now.prepared.circuit.words.now) ≤ length columns.old }
     ensures { columns.new ≡ write_at columns.old 0 (instance_words log.now.prepared.circuit.words.now log.now.inputs.instance.now) }
 {
-    let circuit = log.prepared.circuit.words;
-    let k = k_of(circuit) as usize;
-    let lengths = instances_of(circuit);
+    let circuit = log.prepared.circuit;
+    let k = k_of(circuit.words) as usize;
+    let lengths = circuit.circuit().laid().instances();
     instance_polys(k, lengths, log.inputs.instance, columns);
 }
 
@@ -46,8 +44,9 @@ pub(crate) fn permutation_columns(log: &LentLog, columns: &mut [u64])
     let copied = log.prepared.copied();
     let layout = circuit.layout();
     let at = layout.instances * layout.rows;
-    let lengths = lengths_of(circuit.words);
-    let cells = cells_of(circuit.words);
+    let laid = circuit.circuit().laid();
+    let lengths = laid.lengths();
+    let cells = laid.cells();
     permutation_polys(layout.rows, copied, lengths, cells, columns, at);
 }
 
@@ -59,14 +58,22 @@ fn compressed_from<'a>(
     columns: &mut [u64],
     polys: CompressedPolys,
 )
-    requires { (polys.layout ≡ layout_from_words circuit.now.words.now) × (polys.k ≡ (circuit_of circuit.now.words.now).k) × (num_instance (circuit_of circuit.now.words.now) * 2 ^ polys.k ≤ polys.to) × (polys.to + num_lookups (circuit_of circuit.now.words.now) * (2 ^ polys.k + 2 ^ polys.k) ≤ length columns.old) }
+    requires { polys.to + num_lookups (circuit_of circuit.now.words.now) * (2 ^ polys.k + 2 ^ polys.k) ≤ length columns.old }
     ensures { columns.new ≡ write_at columns.old polys.to (words_of (2 ^ polys.k) (compressed_polys_in 𝔾 (environment_from_words circuit.now.words.now witness.now columns.old user.now polys.layout polys.k) (elem polys.beta) (circuit_of circuit.now.words.now).lookups)) }
 {
-    let words = circuit.words;
-    let nodes = nodes_of(words);
-    let widths = widths_of(words);
-    let pairs = pairs_of(words);
-    lookup_compressed_polys(nodes, words, witness, columns, user, widths, pairs, polys);
+    let laid = circuit.circuit().laid();
+    let nodes = laid.nodes();
+    let widths = laid.widths();
+    let pairs = laid.pairs();
+    let lent = Lent {
+        nodes,
+        circuit: circuit.words,
+        witness,
+        challenges: user,
+        widths,
+        pairs,
+    };
+    lent.lookup_compressed_polys(columns, polys);
 }
 
 // The compressed columns, behind the permutation columns: input and table per lookup. The challenges are the user's, then beta and gamma.

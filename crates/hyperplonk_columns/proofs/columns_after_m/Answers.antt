@@ -19,13 +19,13 @@ at-gamma-requires c =
 pub lookup_h_polys-requires : goal.lookup_h_polys-requires
 lookup_h_polys-requires c =
     let at = c.places_of-at in
-    hs_asked c.args.log.now.prepared.circuit.words.now c.args.log.now.prepared.circuit.accepted c.args.log.now.prepared.params c.args.log.now.prepared.params_are _ c.group_sizes-sizes.ensures _ _ at.ensures.compressed at.ensures.counts
+    rw at.ensures.rows (hs_asked c.args.log.now.prepared.circuit.words.now c.args.log.now.prepared.circuit.accepted c.args.log.now.prepared.params c.args.log.now.prepared.params_are _ at.ensures.sizes _ _ at.ensures.compressed at.ensures.counts
     (length c.args.columns.now)
     c.requires
     _
     at.ensures.hs
     _
-    refl
+    refl).3
 
 pub returns : goal.returns
 returns c front =
@@ -35,12 +35,12 @@ returns c front =
     let told = c.in_ok-lookup_h_polys.was in
     z_decides c.args.log.now.prepared.circuit.words.now c.args.log.now.inputs.instance.now c.args.log.now.inputs.witness.now c.args.log.now.inputs.challenges.now c.args.log.now.prepared.circuit.accepted c.args.columns.now c.requires front _ _ _
     (sym told
-    ∙ hs_answer c.args.log.now.prepared.circuit.words.now c.args.log.now.prepared.circuit.accepted c.args.log.now.prepared.params c.args.log.now.prepared.params_are _ c.group_sizes-sizes.ensures _ _ at.ensures.compressed at.ensures.counts
-    (length c.args.columns.now) c.requires _ at.ensures.hs _ c.args.log.now.inputs.instance.now c.args.log.now.inputs.witness.now c.args.log.now.inputs.challenges.now c.args.columns.now _ _ γ front x.ensures)
-    (hs_behind c.args.log.now.prepared.circuit.words.now c.args.log.now.prepared.circuit.accepted c.args.log.now.prepared.params c.args.log.now.prepared.params_are _ c.group_sizes-sizes.ensures _ _ at.ensures.compressed at.ensures.counts
-    (length c.args.columns.now) c.requires _ at.ensures.hs _ c.args.log.now.inputs.instance.now c.args.log.now.inputs.witness.now c.args.log.now.inputs.challenges.now c.args.columns.now _ _ γ front x.ensures)
-    (hs_written c.args.log.now.prepared.circuit.words.now c.args.log.now.prepared.circuit.accepted c.args.log.now.prepared.params c.args.log.now.prepared.params_are _ c.group_sizes-sizes.ensures _ _ at.ensures.compressed at.ensures.counts
-    (length c.args.columns.now) c.requires _ at.ensures.hs _ c.args.log.now.inputs.instance.now c.args.log.now.inputs.witness.now c.args.log.now.inputs.challenges.now c.args.columns.now _ _ γ front x.ensures
+    ∙ hs_answer c.args.log.now.prepared.circuit.words.now c.args.log.now.prepared.circuit.accepted c.args.log.now.prepared.params c.args.log.now.prepared.params_are _ at.ensures.sizes _ _ at.ensures.compressed at.ensures.counts
+    (length c.args.columns.now) c.requires _ at.ensures.hs _ c.args.log.now.inputs.instance.now c.args.log.now.inputs.witness.now c.args.log.now.inputs.challenges.now c.args.columns.now _ _ γ front (rw at.ensures.rows at x.ensures))
+    (hs_behind c.args.log.now.prepared.circuit.words.now c.args.log.now.prepared.circuit.accepted c.args.log.now.prepared.params c.args.log.now.prepared.params_are _ at.ensures.sizes _ _ at.ensures.compressed at.ensures.counts
+    (length c.args.columns.now) c.requires _ at.ensures.hs _ c.args.log.now.inputs.instance.now c.args.log.now.inputs.witness.now c.args.log.now.inputs.challenges.now c.args.columns.now _ _ γ front (rw at.ensures.rows at x.ensures))
+    (hs_written c.args.log.now.prepared.circuit.words.now c.args.log.now.prepared.circuit.accepted c.args.log.now.prepared.params c.args.log.now.prepared.params_are _ at.ensures.sizes _ _ at.ensures.compressed at.ensures.counts
+    (length c.args.columns.now) c.requires _ at.ensures.hs _ c.args.log.now.inputs.instance.now c.args.log.now.inputs.witness.now c.args.log.now.inputs.challenges.now c.args.columns.now _ _ γ front (rw at.ensures.rows at x.ensures)
     told)
     x.auto.columns
     (c.z_columns.ensures.answer, c.z_columns.ensures.written)
@@ -58,7 +58,7 @@ returns-in_err-lookup_h_polys c front =
     (sym (only_error _ c.from_residual.ensures.0))
     (h_stopped c.args.log.now.prepared.circuit.words.now c.args.log.now.inputs.instance.now c.args.log.now.inputs.witness.now c.args.log.now.inputs.challenges.now c.args.log.now.prepared.circuit.accepted c.args.columns.now c.requires front _
     (sym told
-    ∙ hs_answer c.args.log.now.prepared.circuit.words.now c.args.log.now.prepared.circuit.accepted c.args.log.now.prepared.params c.args.log.now.prepared.params_are _ c.group_sizes-sizes.ensures _ _ at.ensures.compressed at.ensures.counts
-    (length c.args.columns.now) c.requires _ at.ensures.hs _ c.args.log.now.inputs.instance.now c.args.log.now.inputs.witness.now c.args.log.now.inputs.challenges.now c.args.columns.now _ _ γ front x.ensures)
-    (hs_behind c.args.log.now.prepared.circuit.words.now c.args.log.now.prepared.circuit.accepted c.args.log.now.prepared.params c.args.log.now.prepared.params_are _ c.group_sizes-sizes.ensures _ _ at.ensures.compressed at.ensures.counts
-    (length c.args.columns.now) c.requires _ at.ensures.hs _ c.args.log.now.inputs.instance.now c.args.log.now.inputs.witness.now c.args.log.now.inputs.challenges.now c.args.columns.now _ _ γ front x.ensures))
+    ∙ hs_answer c.args.log.now.prepared.circuit.words.now c.args.log.now.prepared.circuit.accepted c.args.log.now.prepared.params c.args.log.now.prepared.params_are _ at.ensures.sizes _ _ at.ensures.compressed at.ensures.counts
+    (length c.args.columns.now) c.requires _ at.ensures.hs _ c.args.log.now.inputs.instance.now c.args.log.now.inputs.witness.now c.args.log.now.inputs.challenges.now c.args.columns.now _ _ γ front (rw at.ensures.rows at x.ensures))
+    (hs_behind c.args.log.now.prepared.circuit.words.now c.args.log.now.prepared.circuit.accepted c.args.log.now.prepared.params c.args.log.now.prepared.params_are _ at.ensures.sizes _ _ at.ensures.compressed at.ensures.counts
+    (length c.args.columns.now) c.requires _ at.ensures.hs _ c.args.log.now.inputs.instance.now c.args.log.now.inputs.witness.now c.args.log.now.inputs.challenges.now c.args.columns.now _ _ γ front (rw at.ensures.rows at x.ensures)))

@@ -1,7 +1,7 @@
 -- What the stages ask for and write, from accepted circuit words.
 use mathlib.Core.Path.{◌≡◌, sym, ap, ap₂, ◌∙◌, subst}
 use mathlib.Core.List.{List, map}
-use Prim.Native.Nat.{ℕ, ◌+◌, ◌-◌, ◌*◌, ◌/◌, ◌^◌, ◌≤◌, ◌<◌}
+use Prim.Native.Nat.{ℕ, ◌+◌, ◌-◌, ◌*◌, ◌/◌, ◌%◌, ◌^◌, ◌≤◌, ◌<◌}
 use native.Mathlib.Omega.{arith}
 use native.Mathlib.Nat.{mul_assoc, add-mul, mul-le-mul, mul-le-mul_right}
 use lib.ListN.{length, get_or, take}
@@ -19,7 +19,7 @@ use Rattle.prover.specs.Running.{z_of}
 use Rattle.prover.specs.Words.{words_of}
 use Rattle.prover.specs.Denominators.{some_zero, factor_denominators}
 use Rattle.prover.specs.Answers.{Outcome, outcome_of, outcome_words}
-use Rattle.prover.specs.Lent.{Given, Behind, environment_from_words, compressed_polys_in, ratio_in_words}
+use Rattle.prover.specs.Lent.{Given, environment_from_words, compressed_polys_in, ratio_in_words}
 use Rattle.prover_z.specs.Factors.{denominator_in_words}
 use Rattle.prover.proofs.Lent.{lookups_are}
 use Rattle.hyperplonk_prepare.specs.Prepared.{Accepted, layout_from_words, permutation_offset, compressed_offset, z_offset}
@@ -166,24 +166,23 @@ module _ (ws : List ℕ) (a : Accepted ws) where
       ∙ label_words)
 
   -- ---- compressed columns
-  pub compressed_asks : (l : Layout) (k to : ℕ) (nodes widths pairs columns : List ℕ) → l ≡ layout_from_words ws → k ≡ (circuit_of ws).k
-      → nodes ≡ body_of ws Section.nodes → widths ≡ body_of ws Section.widths → pairs ≡ body_of ws Section.pairs
-      → num_instance (circuit_of ws) * 2 ^ k ≤ to → to + num_lookups (circuit_of ws) * (2 ^ k + 2 ^ k) ≤ length columns
-      → Behind k l nodes columns to (length widths * (2 ^ k + 2 ^ k)) × (total widths * 2 ≤ length pairs)
-  compressed_asks l k to nodes widths pairs columns is ek en ew ep before room = (
-    record {
-      whole = rw en (accepted.nodes_whole ws a);
-      positive = (let h = accepted.k_pos ws a in let e = accepted.k_is ws a in omega arith);
-      small = (let h = accepted.k_few ws a in let e = accepted.k_is ws a in omega arith);
-      given = rw ek (given_of l is);
-      before = rw (instances_of_is l is) before;
-      room = rw (ap length ew ∙ sym (accepted.widths_are ws a)) room;
-    },
+  pub compressed_given : (l : Layout) (k : ℕ) → l ≡ layout_from_words ws → k ≡ word_k ws → ((0 < k) × (k < 21)) × Given k l
+  compressed_given l k is ek =
+      let p = accepted.k_pos ws a in
+      let f = accepted.k_few ws a in
+      ((omega arith, omega arith), rw (ek ∙ sym (accepted.k_is ws a)) (given_of l is))
+
+  pub compressed_asks : (nodes widths pairs : List ℕ) → nodes ≡ body_of ws Section.nodes → widths ≡ body_of ws Section.widths
+      → pairs ≡ body_of ws Section.pairs
+      → (length nodes % 4 ≡ 0) × (total widths * 2 ≤ length pairs) × (length widths ≡ num_lookups (circuit_of ws))
+  compressed_asks nodes widths pairs en ew ep = (
+    rw en (accepted.nodes_whole ws a),
     (let t = accepted.pairs_total ws a in
         let n = accepted.pairs_length ws a in
         let w = ap total ew in
         let p = ap length ep in
         omega arith),
+    ap length ew ∙ sym (accepted.widths_are ws a),
   )
 
   pub compressed_written : (l : Layout) (k to : ℕ) (β : 𝔾.F) (nodes widths pairs witness user d new : List ℕ)

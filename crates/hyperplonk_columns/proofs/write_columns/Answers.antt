@@ -7,7 +7,7 @@ use Rattle.hyperplonk_columns.proofs.write_columns.Goals as goal
 pub lookup_m_polys-covered-requires : goal.lookup_m_polys-covered-requires
 lookup_m_polys-covered-requires c =
     let at = c.places_of-at in
-    counts_asked c.args.log.now.prepared.circuit.words.now c.args.log.now.prepared.circuit.accepted c.args.log.now.prepared.params c.args.log.now.prepared.params_are _ c.group_sizes-sizes.ensures _ _ at.ensures.compressed at.ensures.counts
+    let q = counts_asked c.args.log.now.prepared.circuit.words.now c.args.log.now.prepared.circuit.accepted c.args.log.now.prepared.params c.args.log.now.prepared.params_are _ at.ensures.sizes _ _ at.ensures.compressed at.ensures.counts
     (length c.args.columns.now)
     c.requires
     c.args.log.now.inputs.instance.now
@@ -17,6 +17,8 @@ lookup_m_polys-covered-requires c =
     _
     c.columns_before_m.ensures
     c.columns_before_m.auto.columns
+    in
+    rw at.ensures.rows (q.1, q.2, q.3)
 
 pub returns-then-not-covered : goal.returns-then-not-covered
 returns-then-not-covered c =
@@ -28,7 +30,7 @@ returns-then-not-covered c =
     _
     _
     (sym (c.if-not-covered.true)
-    ∙ answer_is c.args.log.now.prepared.circuit.words.now c.args.log.now.prepared.circuit.accepted c.args.log.now.prepared.params c.args.log.now.prepared.params_are _ c.group_sizes-sizes.ensures _ _ at.ensures.compressed at.ensures.counts
+    ∙ answer_is c.args.log.now.prepared.circuit.words.now c.args.log.now.prepared.circuit.accepted c.args.log.now.prepared.params c.args.log.now.prepared.params_are _ at.ensures.sizes _ _ at.ensures.compressed at.ensures.counts
     (length c.args.columns.now)
     c.requires
     c.args.log.now.inputs.instance.now
@@ -39,8 +41,8 @@ returns-then-not-covered c =
     _
     m.result
     before
-    m.ensures)
-    (counts_behind c.args.log.now.prepared.circuit.words.now c.args.log.now.prepared.circuit.accepted c.args.log.now.prepared.params c.args.log.now.prepared.params_are _ c.group_sizes-sizes.ensures _ _ at.ensures.compressed at.ensures.counts
+    (rw at.ensures.rows at m.ensures))
+    (counts_behind c.args.log.now.prepared.circuit.words.now c.args.log.now.prepared.circuit.accepted c.args.log.now.prepared.params c.args.log.now.prepared.params_are _ at.ensures.sizes _ _ at.ensures.compressed at.ensures.counts
     (length c.args.columns.now)
     c.requires
     c.args.log.now.inputs.instance.now
@@ -51,7 +53,7 @@ returns-then-not-covered c =
     _
     m.result
     before
-    m.ensures)
+    (rw at.ensures.rows at m.ensures))
     c.column_words-words.ensures
     c.clear.ensures
 
@@ -65,7 +67,7 @@ returns-in-Ok c =
     _
     _
     _
-    (counts_written c.args.log.now.prepared.circuit.words.now c.args.log.now.prepared.circuit.accepted c.args.log.now.prepared.params c.args.log.now.prepared.params_are _ c.group_sizes-sizes.ensures _ _ at.ensures.compressed at.ensures.counts
+    (counts_written c.args.log.now.prepared.circuit.words.now c.args.log.now.prepared.circuit.accepted c.args.log.now.prepared.params c.args.log.now.prepared.params_are _ at.ensures.sizes _ _ at.ensures.compressed at.ensures.counts
     (length c.args.columns.now)
     c.requires
     c.args.log.now.inputs.instance.now
@@ -76,10 +78,10 @@ returns-in-Ok c =
     _
     m.result
     before
-    m.ensures
+    (rw at.ensures.rows at m.ensures)
     yes)
     (sym yes
-    ∙ answer_is c.args.log.now.prepared.circuit.words.now c.args.log.now.prepared.circuit.accepted c.args.log.now.prepared.params c.args.log.now.prepared.params_are _ c.group_sizes-sizes.ensures _ _ at.ensures.compressed at.ensures.counts
+    ∙ answer_is c.args.log.now.prepared.circuit.words.now c.args.log.now.prepared.circuit.accepted c.args.log.now.prepared.params c.args.log.now.prepared.params_are _ at.ensures.sizes _ _ at.ensures.compressed at.ensures.counts
     (length c.args.columns.now)
     c.requires
     c.args.log.now.inputs.instance.now
@@ -90,7 +92,7 @@ returns-in-Ok c =
     _
     m.result
     before
-    m.ensures)
+    (rw at.ensures.rows at m.ensures))
     c.columns_after_m-last.ensures
     c.in-Ok.is
 
@@ -104,7 +106,7 @@ returns-in-Err c =
     _
     _
     _
-    (counts_written c.args.log.now.prepared.circuit.words.now c.args.log.now.prepared.circuit.accepted c.args.log.now.prepared.params c.args.log.now.prepared.params_are _ c.group_sizes-sizes.ensures _ _ at.ensures.compressed at.ensures.counts
+    (counts_written c.args.log.now.prepared.circuit.words.now c.args.log.now.prepared.circuit.accepted c.args.log.now.prepared.params c.args.log.now.prepared.params_are _ at.ensures.sizes _ _ at.ensures.compressed at.ensures.counts
     (length c.args.columns.now)
     c.requires
     c.args.log.now.inputs.instance.now
@@ -115,10 +117,10 @@ returns-in-Err c =
     _
     m.result
     before
-    m.ensures
+    (rw at.ensures.rows at m.ensures)
     yes)
     (sym yes
-    ∙ answer_is c.args.log.now.prepared.circuit.words.now c.args.log.now.prepared.circuit.accepted c.args.log.now.prepared.params c.args.log.now.prepared.params_are _ c.group_sizes-sizes.ensures _ _ at.ensures.compressed at.ensures.counts
+    ∙ answer_is c.args.log.now.prepared.circuit.words.now c.args.log.now.prepared.circuit.accepted c.args.log.now.prepared.params c.args.log.now.prepared.params_are _ at.ensures.sizes _ _ at.ensures.compressed at.ensures.counts
     (length c.args.columns.now)
     c.requires
     c.args.log.now.inputs.instance.now
@@ -129,7 +131,7 @@ returns-in-Err c =
     _
     m.result
     before
-    m.ensures)
+    (rw at.ensures.rows at m.ensures))
     c.columns_after_m-last.ensures
     _
     _

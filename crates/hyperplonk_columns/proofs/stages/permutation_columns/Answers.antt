@@ -1,6 +1,5 @@
 -- `permutation_columns` meets its contract.
 use native.Mathlib.Omega.{arith}
-use Rattle.hyperplonk_prepare.proofs.Accepted as accepted
 use Prim.Native.Nat.{◌≤◌}
 use lib.ListN.{length}
 use Rattle.backend.specs.Circuit.{circuit_of}
@@ -12,18 +11,12 @@ use Rattle.hyperplonk_columns.proofs.stages.permutation_columns.Goals as goal
 pub overflow_mul-at : goal.overflow_mul-at
 overflow_mul-at c = omega (arith, permutations_fit c.args.log.now.prepared.circuit.words.now c.args.log.now.prepared.circuit.accepted _ c.layout-layout.ensures)
 
-pub lengths_of-lengths-requires : goal.lengths_of-lengths-requires
-lengths_of-lengths-requires c = accepted.laid_of c.args.log.now.prepared.circuit.words.now c.args.log.now.prepared.circuit.accepted
-
-pub cells_of-cells-requires : goal.cells_of-cells-requires
-cells_of-cells-requires c = accepted.laid_of c.args.log.now.prepared.circuit.words.now c.args.log.now.prepared.circuit.accepted
-
 pub permutation_polys-requires : goal.permutation_polys-requires
 permutation_polys-requires c =
     let room : compressed_offset (circuit_of c.args.log.now.prepared.circuit.words.now) ≤ length c.args.columns.now = let p = placed (circuit_of c.args.log.now.prepared.circuit.words.now) in omega (arith, c.requires, p.permutations, p.compressed, p.counts, p.hs, p.zs) in
-    let p = permutation_asks c.args.log.now.prepared.circuit.words.now c.args.log.now.prepared.circuit.accepted _ _ _ _ c.args.columns.now c.layout-layout.ensures c.copied-copied.ensures c.lengths_of-lengths.ensures c.cells_of-cells.ensures room in
+    let p = permutation_asks c.args.log.now.prepared.circuit.words.now c.args.log.now.prepared.circuit.accepted _ _ _ _ c.args.columns.now c.layout-layout.ensures c.copied-copied.ensures (rw (c.laid-laid.ensures, c.circuit.ensures) at c.lengths-lengths.ensures) (rw (c.laid-laid.ensures, c.circuit.ensures) at c.cells-cells.ensures) room in
     record { walkable = p.0; lengths_value = p.1.0; rows_in_bounds = p.1.1 }
 
 pub returns : goal.returns
 returns c =
-    permutation_written c.args.log.now.prepared.circuit.words.now c.args.log.now.prepared.circuit.accepted _ _ _ _ _ _ c.layout-layout.ensures c.copied-copied.ensures c.lengths_of-lengths.ensures c.cells_of-cells.ensures c.permutation_polys.ensures
+    permutation_written c.args.log.now.prepared.circuit.words.now c.args.log.now.prepared.circuit.accepted _ _ _ _ _ _ c.layout-layout.ensures c.copied-copied.ensures (rw (c.laid-laid.ensures, c.circuit.ensures) at c.lengths-lengths.ensures) (rw (c.laid-laid.ensures, c.circuit.ensures) at c.cells-cells.ensures) c.permutation_polys.ensures
