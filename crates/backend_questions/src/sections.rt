@@ -6,7 +6,7 @@ ghost use Rattle.backend.specs.Questions.{rounds_good, values_small, q5, q6, q9}
 use backend_sections::contents::{CONSTRAINT_COUNT, LENGTH_COUNT, WIDTH_COUNT};
 use backend_sections::reader::{Circuit, Laid};
 use backend_sections::words::{all_below, all_elements, all_positive, is_element};
-use expression::kind;
+use expression::kind::Kind;
 
 // "Has every round a witness column, every round but the last a challenge"
 fn rounds_good(laid: Laid) -> bool
@@ -36,7 +36,7 @@ fn values_small(nodes: &[u64]) -> bool
     for i in 0..nodes.len() / 4 {
         let kind = nodes[i * 4];
         let value = nodes[i * 4 + 3];
-        let held = (kind == kind::CONSTANT) | (kind == kind::SCALED);
+        let held = (kind == Kind::Constant as u64) | (kind == Kind::Scaled as u64);
         let bad = held & !is_element(value);
         if bad {
             return false;

@@ -6,9 +6,9 @@ ghost use Rattle.expression.specs.Written.{most_words, ExprWritten, WrittenList}
 ghost use Rattle.preprocessor.specs.ComposeWords.{exprs_from, num_constraints};
 
 use crate::words::Input;
-use expression::kind;
+use expression::kind::Kind;
 use expression_write::operations::{item, list_end, list_head};
-use expression_write::{Listed, copy_expr, push};
+use expression_write::{Listed, copy_expr, push_node};
 use lists::sum_before;
 use preprocessor_constraints::factors::Copied;
 use preprocessor_constraints::group::Group;
@@ -94,7 +94,7 @@ impl Input<'_> {
         let params = self.words.params;
         let n = num_constraints(self.words.roots.len(), Numbers { params });
         if n == 0 {
-            return push(out, from, at, kind::CONSTANT, 0, 0, 0);
+            return push_node(out, from, at, Kind::Constant, 0, 0, 0);
         }
         if n == 1 {
             return self.constraint(out, from, 0, at);

@@ -14,9 +14,9 @@ ghost use Rattle.preprocessor.specs.ComposeWords.{exprs_from, Composed};
 ghost use Rattle.preprocessor_compose.specs.Input.{zero_of, outer_of, tree_of, IsInputOf};
 
 use crate::words::Input;
-use expression::kind;
+use expression::kind::Kind;
 use expression_write::operations::{item, list_end, list_head, product, query};
-use expression_write::{Listed, push};
+use expression_write::{Listed, push_node};
 
 impl Input<'_> {
     // The zero check: the constraints by powers of alpha, times EqXY(0).
@@ -25,7 +25,7 @@ impl Input<'_> {
         ensures { ExprWritten from (zero_of self.now) at out.old out.new result }
     {
         let x = self.constraint_powers(out, from, at);
-        let y = push(out, from, x, kind::EQ_XY, 0, 0, 0);
+        let y = push_node(out, from, x, Kind::EqXy, 0, 0, 0);
         product(out, from, x, y)
     }
 

@@ -4,9 +4,9 @@ ghost use Rattle.expression.specs.Expr.{Expr};
 ghost use Rattle.expression.specs.Written.{most_words, ExprWritten};
 
 use crate::{Numbers, Span};
-use expression::kind;
+use expression::kind::Kind;
 use expression_write::operations::{challenge, product, query, sum};
-use expression_write::push;
+use expression_write::push_node;
 
 // The copied columns, each by its polynomial's number, with the circuit's numbers.
 #[derive(Clone, Copy)]
@@ -36,8 +36,8 @@ impl Copied<'_> {
         match side {
             Side::Identity => {
                 let label = (i * params.rows) as u64;
-                let x = push(out, from, at, kind::CONSTANT, 0, 0, label);
-                let id = push(out, from, x, kind::IDENTITY, 0, 0, 0);
+                let x = push_node(out, from, at, Kind::Constant, 0, 0, label);
+                let id = push_node(out, from, x, Kind::Identity, 0, 0, 0);
                 sum(out, from, x, id)
             }
             Side::Permutation => query(out, from, at, (params.num_poly + i) as u64),

@@ -8,9 +8,9 @@ ghost use Rattle.preprocessor.specs.ComposeWords.{side_tree, exprs_from, IsNode}
 ghost use Rattle.preprocessor_constraints.specs.Unique.{nodes-prop};
 
 use crate::Span;
-use expression::kind;
+use expression::kind::Kind;
 use expression_write::operations::{challenge, item, list_end, list_head, sum};
-use expression_write::{Listed, copy_expr, push};
+use expression_write::{Listed, copy_expr, push_node};
 use lists::sum_before;
 
 // What a lookup looks up, and where: a pair of roots has one of each.
@@ -85,7 +85,7 @@ impl Lookups<'_> {
         ensures { ExprWritten from (distribute_powers (exprs_of self.now roots.first roots.count) (Expr.challenge self.now.beta)) at out.old out.new result }
     {
         if roots.count == 0 {
-            return push(out, from, at, kind::CONSTANT, 0, 0, 0);
+            return push_node(out, from, at, Kind::Constant, 0, 0, 0);
         }
         if roots.count == 1 {
             let n = self.pairs[roots.first] as usize;

@@ -7,10 +7,10 @@ ghost use Rattle.preprocessor.specs.Compose.{next_tree, chunk, start_tree};
 
 use crate::factors::{Copied, Side};
 use crate::{Numbers, Span};
-use expression::kind;
+use expression::kind::Kind;
 use expression::node::SIGNED_ONE;
 use expression_write::operations::{negated, product, query, sum};
-use expression_write::push;
+use expression_write::push_node;
 
 impl Numbers {
     // The number of the first z.
@@ -30,7 +30,7 @@ impl Numbers {
         if i + 1 < self.params.num_chunks {
             return query(out, from, at, (z + (i + 1)) as u64);
         }
-        push(out, from, at, kind::POLYNOMIAL, z as u64, 0, SIGNED_ONE)
+        push_node(out, from, at, Kind::Polynomial, z as u64, 0, SIGNED_ONE)
     }
 
     // The copied columns of part i.
@@ -51,9 +51,9 @@ impl Numbers {
         requires { (at + 6) * 4 ≤ most_words }
         ensures { ExprWritten from (start_tree self.now.params) at out.old out.new result }
     {
-        let l = push(out, from, at, kind::LAGRANGE, 0, 0, SIGNED_ONE);
+        let l = push_node(out, from, at, Kind::Lagrange, 0, 0, SIGNED_ONE);
         let z = query(out, from, l, self.first_z() as u64);
-        let one = push(out, from, z, kind::CONSTANT, 0, 0, 1);
+        let one = push_node(out, from, z, Kind::Constant, 0, 0, 1);
         let n = negated(out, from, one);
         let s = sum(out, from, z, n);
         product(out, from, l, s)

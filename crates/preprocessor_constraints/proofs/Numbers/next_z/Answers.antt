@@ -8,4 +8,4 @@ returns-then-i-self c =
 
 pub returns : goal.returns
 returns c =
-    parts.around_written c.args.self.now.params c.args.i _ (omega (arith, c.first_z-z.ensures)) (omega (arith, c.if-i-self.false)) c.push.ensures
+    parts.around_written c.args.self.now.params c.args.i _ (omega (arith, c.first_z-z.ensures)) (omega (arith, c.if-i-self.false)) c.push_node.ensures

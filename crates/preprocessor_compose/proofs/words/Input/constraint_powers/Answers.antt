@@ -16,7 +16,7 @@ returns-then-n-eq0 c =
     let es = constraints_of a in
     let long = trees.constraints_length v a.copied.now w.user.now w.roots.now w.sizes.now w.widths.now w.pairs.now in
     let b = Expr.challenge (v.num_challenges + 2) in
-    lists.powers_none b es (long ∙ sym c.num_constraints-n.ensures ∙ c.if-n-eq0.true) c.push.ensures
+    lists.powers_none b es (long ∙ sym c.num_constraints-n.ensures ∙ c.if-n-eq0.true) c.push_node.ensures
 
 pub constraint-requires : goal.constraint-requires
 constraint-requires c =

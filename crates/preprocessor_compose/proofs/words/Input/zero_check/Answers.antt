@@ -12,8 +12,8 @@ constraint_powers-x-requires c =
     let q = trees.zero_size w.params (constraints_of a) in
     omega (arith, c.requires)
 
-pub push-y-requires : goal.push-y-requires
-push-y-requires c =
+pub push_node-y-requires : goal.push_node-y-requires
+push_node-y-requires c =
     let a = c.args.self.now in
     let w = a.words.now in
     let q = trees.zero_size w.params (constraints_of a) in
@@ -24,8 +24,8 @@ product-requires c =
     let a = c.args.self.now in
     let w = a.words.now in
     let q = trees.zero_size w.params (constraints_of a) in
-    omega (arith, c.requires, c.constraint_powers-x.ensures.number, c.push-y.ensures.number)
+    omega (arith, c.requires, c.constraint_powers-x.ensures.number, c.push_node-y.ensures.number)
 
 pub returns : goal.returns
 unfolding zero_tree
-returns c = written.written_product c.constraint_powers-x.ensures (written.written_eq_xy c.push-y.ensures) c.product.ensures
+returns c = written.written_product c.constraint_powers-x.ensures (written.written_eq_xy c.push_node-y.ensures) c.product.ensures

@@ -19,7 +19,7 @@ returns-then-roots-eq0 c =
     let es = side_exprs a.user.now a.pairs.now c.args.roots.first c.args.roots.count in
     let long = trees.side_length a.user.now a.pairs.now c.args.roots.first c.args.roots.count in
     let b = Expr.challenge a.beta in
-    lists.powers_none b es (long ∙ c.if-roots-eq0.true) c.push.ensures
+    lists.powers_none b es (long ∙ c.if-roots-eq0.true) c.push_node.ensures
 
 pub copy_expr-requires : goal.copy_expr-requires
 copy_expr-requires c =
