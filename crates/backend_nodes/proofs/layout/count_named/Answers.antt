@@ -7,38 +7,20 @@ use borrow.Author.Tests.{eq-eqb, ne_eqb}
 use Rattle.expression.specs.Nodes.{kind_of}
 use Rattle.backend.specs.Layout.{plain, as_item}
 use Rattle.backend_nodes.proofs.layout.Nodes.{leaf}
-use Rattle.backend_nodes.proofs.layout.Counts.{tally_kind, tally_none, tally_item, tally_both, tally_is, room_less, room_after}
+use Rattle.backend_nodes.proofs.layout.Counts.{tally_kind, tally_none, tally_item, tally_both, tally_is, room_after}
 use Rattle.backend_nodes.proofs.layout.count_named.Goals as goal
-
-pub count_name-requires : goal.count_name-requires
-count_name-requires c = room_less _ 2 1 c.requires (omega arith)
-
-pub count_name-requires-in-8 : goal.count_name-requires-in-8
-count_name-requires-in-8 c = room_less _ 2 1 c.requires (omega arith)
 
 pub count_name-requires-in-8-2 : goal.count_name-requires-in-8-2
 count_name-requires-in-8-2 c =
     room_after c.args.counts.now _ (plain c.args.first ∷ []) 2 1 c.requires c.count_name-in-8.ensures (omega arith)
 
-pub count_name-requires-in-9 : goal.count_name-requires-in-9
-count_name-requires-in-9 c = room_less _ 2 1 c.requires (omega arith)
-
 pub count_name-requires-in-9-2 : goal.count_name-requires-in-9-2
 count_name-requires-in-9-2 c =
     room_after c.args.counts.now _ (plain c.args.first ∷ []) 2 1 c.requires c.count_name-in-9.ensures (omega arith)
 
-pub count_name-requires-in-10 : goal.count_name-requires-in-10
-count_name-requires-in-10 c = room_less _ 2 1 c.requires (omega arith)
-
-pub count_name-requires-in-11 : goal.count_name-requires-in-11
-count_name-requires-in-11 c = room_less _ 2 1 c.requires (omega arith)
-
 pub count_name-requires-in-11-2 : goal.count_name-requires-in-11-2
 count_name-requires-in-11-2 c =
     room_after c.args.counts.now _ (plain c.args.first ∷ []) 2 1 c.requires c.count_name-in-11.ensures (omega arith)
-
-pub count_name-requires-in-12 : goal.count_name-requires-in-12
-count_name-requires-in-12 c = room_less _ 2 1 c.requires (omega arith)
 
 pub count_name-requires-then-value-ne0 : goal.count_name-requires-then-value-ne0
 count_name-requires-then-value-ne0 c =
