@@ -50,25 +50,12 @@ pub fn question_3(circuit: &[u64]) -> bool
 fn entry_words(k: u64, s: usize) -> u64
     ensures { result ≡ entry k (section_at s) % 2 ^ 64 }
 {
-    if s == PREPROCESS {
-        if k < 64 {
-            return 1 << k;
-        }
-        return 0;
+    match s {
+        PREPROCESS => { if k < 64 { 1 << k } else { 0 } }
+        NODES => 4,
+        ROUNDS | PAIRS | CELLS => 2,
+        _ => 1,
     }
-    if s == NODES {
-        return 4;
-    }
-    if s == ROUNDS {
-        return 2;
-    }
-    if s == PAIRS {
-        return 2;
-    }
-    if s == CELLS {
-        return 2;
-    }
-    1
 }
 
 // The words of a section, room + 1 where they are more than the room.

@@ -1,5 +1,5 @@
 use mathlib.Core.Path.{sym, ◌∙◌}
-use Rattle.lists.proofs.Walks.{walk_none, walk_more, walk_done, walk_fails}
+use Rattle.lists.proofs.Walks.{walk_none, walk_more, walk_fails}
 use Rattle.backend.specs.Layout.{node_count, in_place}
 use Rattle.backend_nodes.proofs.layout.all_in_place.Goals as goal
 
@@ -16,8 +16,3 @@ loop-n-preserved c =
     let a = c.args in
     walk_more (in_place a.nodes.now) (λ i. i) (node_count a.nodes.now) c.loop-n.n c.loop-n.invariant c.loop-n-test.true
     (sym c.in_place.ensures ∙ c.if-not-in_place.false)
-
-pub returns : goal.returns
-returns c =
-    let a = c.args in
-    walk_done (in_place a.nodes.now) (λ i. i) (node_count a.nodes.now) c.loop-n.n c.loop-n.invariant c.loop-n-test.false

@@ -2,9 +2,6 @@
 use Rattle.backend_nodes.proofs.layout.Counts.{tally_name, tally_past}
 use Rattle.backend_nodes.proofs.layout.count_name.Goals as goal
 
-pub overflow_add-counts : goal.overflow_add-counts
-overflow_add-counts c = record { fits = c.requires.each c.args.n c.if-n-lt1024.true }
-
 pub returns-then-n-lt1024 : goal.returns-then-n-lt1024
 returns-then-n-lt1024 c = tally_name c.args.counts.now c.args.n c.requires.places c.if-n-lt1024.true
 

@@ -1,5 +1,5 @@
 -- The roots passed are counted.
-use Rattle.backend_nodes.proofs.layout.Counts.{rooted_none, rooted_room, rooted_more, rooted_all}
+use Rattle.backend_nodes.proofs.layout.Counts.{rooted_none, rooted_room, rooted_more}
 use Rattle.backend_nodes.proofs.layout.count_roots.Goals as goal
 
 pub loop-root-init : goal.loop-root-init
@@ -12,7 +12,3 @@ count_name-requires c =
 pub loop-root-preserved : goal.loop-root-preserved
 loop-root-preserved c =
     rooted_more c.args.roots.now c.args.counts.now c.loop-root.counts c.loop-root.root-index c.loop-root.invariant c.loop-root-test.true c.count_name.new.counts c.count_name.ensures
-
-pub returns : goal.returns
-returns c =
-    rooted_all c.args.roots.now c.args.counts.now c.loop-root.counts c.loop-root.root-index c.loop-root.invariant c.loop-root-test.false

@@ -7,7 +7,7 @@ use borrow.Author.Rules.{rules}
 use borrow.Author.Tests.{eq-eqb, ne_eqb}
 use lib.Dec.{eqb}
 use lib.ListN.{get_or}
-use Rattle.lists.proofs.Walks.{walk_none, walk_more, walk_done, walk_fails}
+use Rattle.lists.proofs.Walks.{walk_none, walk_more, walk_fails}
 use Rattle.backend.specs.Layout.{node_count, once}
 use Rattle.backend_nodes.proofs.layout.Counts.{room_nodes, room_first, room_second, all_counted}
 use Rattle.backend_nodes.proofs.layout.named_once.Goals as goal
@@ -39,8 +39,3 @@ loop-n-preserved c =
     let a = c.args in
     walk_more (once a.nodes.now (a.constraints.now ++ a.pairs.now)) (λ i. i) (node_count a.nodes.now) c.loop-n.n c.loop-n.invariant c.loop-n-test.true
     (ap (λ (t : ℕ). eqb t 1) (sym ((all_counted c.args.nodes.now c.args.constraints.now c.args.pairs.now c.requires (omega arith) _ refl c.count_nodes.new.counts c.count_nodes.ensures c.count_roots.new.counts c.count_roots.ensures c.count_roots-2.new.counts c.count_roots-2.ensures) c.loop-n.n ((search rules)))) ∙ eq-eqb (get_or c.count_roots-2.new.counts c.loop-n.n 0) 1 c.if-counts-n-ne1.false)
-
-pub returns : goal.returns
-returns c =
-    let a = c.args in
-    walk_done (once a.nodes.now (a.constraints.now ++ a.pairs.now)) (λ i. i) (node_count a.nodes.now) c.loop-n.n c.loop-n.invariant c.loop-n-test.false

@@ -1,17 +1,10 @@
 use mathlib.Core.Path.{sym, ◌∙◌}
-use native.Mathlib.Omega.{arith}
 use Rattle.lists.proofs.Walks.{walk_none, walk_more, walk_done, walk_fails}
 use Rattle.backend.proofs.Alike.{group_alike_is}
 use Rattle.backend_questions.proofs.groups.group_alike.Goals as goal
 
 pub loop-i-init : goal.loop-i-init
 loop-i-init c = walk_none _ _ _
-
-pub overflow_add-first : goal.overflow_add-first
-overflow_add-first c = let l = c.loop-i-test.true in let p = c.requires.0 in let g = c.well_formed in omega arith
-
-pub same_tables-requires : goal.same_tables-requires
-same_tables-requires c = (let l = c.loop-i-test.true in let p = c.requires.0 in omega arith, let l = c.loop-i-test.true in let p = c.requires.0 in omega arith)
 
 pub returns-then-not-same_tables : goal.returns-then-not-same_tables
 returns-then-not-same_tables c = walk_fails _ _ _ _ c.loop-i-test.true (sym c.same_tables.ensures ∙ c.if-not-same_tables.true) ∙ group_alike_is c.args.lookups.nodes.now c.args.lookups.widths.now c.args.lookups.pairs.now c.args.first c.args.n c.requires.1

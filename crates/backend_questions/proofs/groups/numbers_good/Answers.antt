@@ -2,7 +2,6 @@ use mathlib.Core.Path.{◌≡◌, sym, ◌∙◌}
 use mathlib.Core.Bool.{Bool, true, false}
 use mathlib.Core.List.{List}
 use Prim.Native.Nat.{ℕ}
-use native.Mathlib.Omega.{arith}
 use lib.Dec.{eqb}
 use lib.ListN.{length}
 use borrow.Author.Tests.{eq-eqb, eqb-true}
@@ -20,12 +19,6 @@ returns-then-numbers-ne0 c = numbers_first _ (some _ _ c.is_empty.ensures c.if-i
 
 pub loop-i-init : goal.loop-i-init
 loop-i-init c = followed_first _ (some _ _ c.is_empty.ensures c.if-is_empty.false) c.if-numbers-ne0.false
-
-pub overflow_sub-before : goal.overflow_sub-before
-overflow_sub-before c = c.loop-i.invariant.some
-
-pub bounds-numbers-i : goal.bounds-numbers-i
-bounds-numbers-i c = let t = c.loop-i-test.true in omega arith
 
 pub returns-then-number-before : goal.returns-then-number-before
 returns-then-number-before c = breaks_low _ _ c.loop-i.invariant c.loop-i-test.true c.if-number-before.true

@@ -8,12 +8,6 @@ use Rattle.backend_questions.proofs.groups.same_tables.Goals as goal
 pub returns-then-width-other : goal.returns-then-width-other
 returns-then-width-other c = tables_unlike c.args.lookups.nodes.now c.args.lookups.widths.now c.args.lookups.pairs.now c.args.i c.args.f c.if-width-other.true
 
-pub sum_before-first-requires : goal.sum_before-first-requires
-sum_before-first-requires c = let q = c.requires.0 in let p = c.args.lookups.all_pairs in let g = c.well_formed in (omega arith, omega arith)
-
-pub sum_before-second-requires : goal.sum_before-second-requires
-sum_before-second-requires c = let q = c.requires.1 in let p = c.args.lookups.all_pairs in let g = c.well_formed in (omega arith, omega arith)
-
 pub loop-t-init : goal.loop-t-init
 loop-t-init c = walk_none _ _ _
 

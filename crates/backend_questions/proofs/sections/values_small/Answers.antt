@@ -1,4 +1,4 @@
-use Rattle.lists.proofs.Walks.{walk_none, walk_more, walk_done, walk_fails}
+use Rattle.lists.proofs.Walks.{walk_none, walk_more, walk_fails}
 use Rattle.backend.proofs.Numbers.{value_large, value_small}
 use Rattle.backend_questions.proofs.sections.values_small.Goals as goal
 
@@ -14,6 +14,3 @@ pub loop-i-preserved : goal.loop-i-preserved
 loop-i-preserved c =
     walk_more _ _ _ c.loop-i.i c.loop-i.invariant c.loop-i-test.true
     (value_small c.args.nodes.now c.loop-i.i _ c.is_element.ensures.below c.if-bad.false)
-
-pub returns : goal.returns
-returns c = walk_done _ _ _ c.loop-i.i c.loop-i.invariant c.loop-i-test.false

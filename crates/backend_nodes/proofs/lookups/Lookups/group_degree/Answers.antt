@@ -16,20 +16,11 @@ loop-i-init c = added_none c.args.self.nodes.now c.args.self.widths.now c.args.s
 pub side_degree-sum-requires : goal.side_degree-sum-requires
 side_degree-sum-requires c = (added_room c.args.self.nodes.now c.args.self.widths.now c.args.self.pairs.now c.args.first c.args.n c.args.self.all_pairs c.requires.0 _ _ _ c.loop-i.invariant c.loop-i-test.true, omega arith)
 
-pub overflow_add-sum : goal.overflow_add-sum
-overflow_add-sum c = let v = c.loop-i.invariant in let u = v.upto in let w = v.low in let t = c.loop-i-test.true in let f = c.requires.1.1.0 in let r = c.side_degree-sum.ensures in omega arith
-
 pub overflow_add-next : goal.overflow_add-next
 overflow_add-next c = let q = added_room c.args.self.nodes.now c.args.self.widths.now c.args.self.pairs.now c.args.first c.args.n c.args.self.all_pairs c.requires.0 _ _ _ c.loop-i.invariant c.loop-i-test.true in let g = c.side_degree-sum.type_inv in omega arith
 
 pub loop-i-preserved : goal.loop-i-preserved
 loop-i-preserved c = added_more c.args.self.nodes.now c.args.self.widths.now c.args.self.pairs.now c.args.first c.args.n c.requires.0 _ _ _ _ c.loop-i.invariant c.loop-i-test.true c.side_degree-sum.ensures
-
-pub overflow_add-sum-2 : goal.overflow_add-sum-2
-overflow_add-sum-2 c = let v = c.loop-i.invariant in let u = v.upto in let w = v.low in let f = c.requires.1.1.0 in omega arith
-
-pub overflow_add-sum-3 : goal.overflow_add-sum-3
-overflow_add-sum-3 c = let v = c.loop-i.invariant in let u = v.upto in let w = v.low in let f = c.requires.1.1.0 in let r = c.side_degree-table.ensures in omega arith
 
 pub returns : goal.returns
 returns c =
