@@ -14,8 +14,7 @@ use bh::{row_after, rows_of};
 use expression::poly::Layout;
 use expression::value::Point;
 use expression_degree::degree_of;
-use expression_evaluate::value;
-use expression_nodes::index;
+use expression_evaluate::evaluation::Evaluation;
 use expression_query::used_queries;
 use lists::word_at;
 
@@ -48,59 +47,69 @@ fn layout_from(k: usize, words: &[u64]) -> Layout
 {
     Layout {
         rows: rows_of(k),
-        instances: index(word_at(words, 0)),
-        preprocess: index(word_at(words, 1)),
-        start: index(word_at(words, 2)),
-        witness: index(word_at(words, 3)),
-        permutations: index(word_at(words, 4)),
-        skipped: index(word_at(words, 5)),
-        rest: index(word_at(words, 6)),
+        instances: word_at(words, 0) as usize,
+        preprocess: word_at(words, 1) as usize,
+        start: word_at(words, 2) as usize,
+        witness: word_at(words, 3) as usize,
+        permutations: word_at(words, 4) as usize,
+        skipped: word_at(words, 5) as usize,
+        rest: word_at(words, 6) as usize,
     }
+}
+
+// The words that are lent for the values of an expression: those of the nodes, those that a node may read, where the polynomials stand
+// (seven words from `instances` on, as a Layout has them), and EqXY's value at each row.
+#[derive(Clone, Copy)]
+pub struct Lent<'a> {
+    pub nodes: &'a [u64],
+    pub circuit: &'a [u64],
+    pub witness: &'a [u64],
+    pub columns: &'a [u64],
+    pub challenges: &'a [u64],
+    pub layout: &'a [u64],
+    pub eq: &'a [u64],
 }
 
 // What is evaluated at every row: node n, over polynomials of 2^k rows that stand as `layout` says.
 #[derive(Clone, Copy)]
-struct EveryRow {
+struct EveryRow<'a> {
+    lent: Lent<'a>,
     layout: Layout,
     k: usize,
     n: usize,
+    ghost there: { n * 4 + 4 ≤ length lent.nodes.now },
+    ghost small: { LayoutSmall layout },
+    ghost order: { (0 < k) × (k < 21) },
 }
 
-// The value of a node at every row, through the row order once.
-fn values<'a>(
-    nodes: &'a [u64],
-    circuit: &'a [u64],
-    witness: &'a [u64],
-    columns: &'a [u64],
-    challenges: &'a [u64],
-    eq: &[u64],
-    of: EveryRow,
-    out: &mut [u64],
-)
-    requires { (of.n * 4 + 4 ≤ length nodes.now) × LayoutSmall of.layout × (0 < of.k) × (of.k < 21) × (2 ^ of.k ≤ length out.old) }
-    ensures { out.new ≡ write_at out.old 0 (tabulate (value_word nodes.now circuit.now witness.now columns.now challenges.now of.layout of.k eq.now of.n) (2 ^ of.k)) }
-{
-    let rows = rows_of(of.k);
-    let mut row: usize = 0;
-    for place in 0..rows {
-        let e = word_at(eq, row);
-        let x = value(
-            nodes,
-            circuit,
-            witness,
-            columns,
-            challenges,
-            of.layout,
-            Point {
-                k: of.k,
-                row: row,
-                place: place,
-                eq: e,
-            },
-            of.n,
-        );
-        out[row] = x.to_u64();
-        row = row_after(row, place, of.k);
+impl EveryRow<'_> {
+    // The value of the node at every row, through the row order once.
+    fn values(&self, out: &mut [u64])
+        requires { 2 ^ self.now.k ≤ length out.old }
+        ensures { out.new ≡ write_at out.old 0 (tabulate (value_word self.now.lent.nodes.now self.now.lent.circuit.now self.now.lent.witness.now self.now.lent.columns.now self.now.lent.challenges.now self.now.layout self.now.k self.now.lent.eq.now self.now.n) (2 ^ self.now.k)) }
+    {
+        let lent = self.lent;
+        let rows = rows_of(self.k);
+        let mut row: usize = 0;
+        for place in 0..rows {
+            let e = word_at(lent.eq, row);
+            let over = Evaluation {
+                circuit: lent.circuit,
+                witness: lent.witness,
+                columns: lent.columns,
+                challenges: lent.challenges,
+                layout: self.layout,
+                point: Point {
+                    k: self.k,
+                    row,
+                    place,
+                    eq: e,
+                },
+            };
+            let x = over.value(lent.nodes, self.n);
+            out[row] = u64::from(x);
+            row = row_after(row, place, self.k);
+        }
     }
 }
 
@@ -111,39 +120,31 @@ fn small_layout(words: &[u64]) -> bool
     (words.len() == 7) & all_below(words, 1048577)
 }
 
-// The value of node n at every row, over the first 2^k words of `out`; `eq` has EqXY's value at each row. Where k, the layout or n
-// is out of range, or `out` is short, it stays as it is.
-pub fn expression_values<'a>(
-    k: usize,
-    nodes: &'a [u64],
-    circuit: &'a [u64],
-    witness: &'a [u64],
-    columns: &'a [u64],
-    challenges: &'a [u64],
-    layout: &[u64],
-    eq: &[u64],
-    n: usize,
-    out: &mut [u64],
-)
-    ensures { out.new ≡ values_into k nodes.now circuit.now witness.now columns.now challenges.now layout.now eq.now n out.old }
-{
-    let order = (1 <= k) & (k <= 20);
-    if !order {
-        return;
+impl Lent<'_> {
+    // The value of node n at every row, over the first 2^k words of `out`. Where k, the layout or n is out of range, or `out` is short, it
+    // stays as it is.
+    pub fn expression_values(&self, k: usize, n: usize, out: &mut [u64])
+        ensures { out.new ≡ values_into k self.now.nodes.now self.now.circuit.now self.now.witness.now self.now.columns.now self.now.challenges.now self.now.layout.now self.now.eq.now n out.old }
+    {
+        let order = (1 <= k) & (k <= 20);
+        if !order {
+            return;
+        }
+        if !small_layout(self.layout) {
+            return;
+        }
+        let room = (n < self.nodes.len() / 4) & (rows_of(k) <= out.len());
+        if !room {
+            return;
+        }
+        let of = EveryRow {
+            lent: *self,
+            layout: layout_from(k, self.layout),
+            k,
+            n,
+        };
+        of.values(out);
     }
-    if !small_layout(layout) {
-        return;
-    }
-    let room = (n < nodes.len() / 4) & (rows_of(k) <= out.len());
-    if !room {
-        return;
-    }
-    let of = EveryRow {
-        layout: layout_from(k, layout),
-        k: k,
-        n: n,
-    };
-    values(nodes, circuit, witness, columns, challenges, eq, of, out);
 }
 
 // Questions 1 to 11: the first no, 0 if there is none.

@@ -7,6 +7,8 @@ ghost use Rattle.expression.specs.Queries.{queries_into};
 ghost use Rattle.backend.specs.Questions.{circuit_questions};
 ghost use Rattle.oracle_entry.specs.Entry.{degree_at, queries_at, values_into};
 
+use oracle_entry::Lent;
+
 #[unsafe(no_mangle)]
 pub extern "C" fn expression_degree(nodes: &[u64], n: usize) -> u64
     ensures { result ≡ degree_at nodes.now n }
@@ -42,9 +44,16 @@ pub extern "C" fn expression_values<'a>(
 )
     ensures { out.new ≡ values_into k nodes.now circuit.now witness.now columns.now challenges.now layout.now eq.now n out.old }
 {
-    oracle_entry::expression_values(
-        k, nodes, circuit, witness, columns, challenges, layout, eq, n, out,
-    );
+    let lent = Lent {
+        nodes,
+        circuit,
+        witness,
+        columns,
+        challenges,
+        layout,
+        eq,
+    };
+    lent.expression_values(k, n, out);
 }
 
 #[unsafe(no_mangle)]
