@@ -1,1 +1,1 @@
-mod Cycle
+pub mod Laws
