@@ -201,13 +201,13 @@ module _ (ws : List ℕ) (a : Accepted ws) where
 
   pub compressed_room : (l : Layout) (k n : ℕ) (columns : List ℕ) → l ≡ layout_from_words ws → k ≡ word_k ws → n ≡ num_copied (circuit_of ws)
       → compressed_offset (circuit_of ws) + num_lookups (circuit_of ws) * 2 * rows_of (circuit_of ws) ≤ length columns
-      → (k ≡ (circuit_of ws).k) × (num_instance (circuit_of ws) * 2 ^ k ≤ (l.instances + n) * l.rows)
+      → (k ≡ (circuit_of ws).k) × (l.instances * 2 ^ k ≤ (l.instances + n) * l.rows)
       × ((l.instances + n) * l.rows + num_lookups (circuit_of ws) * (2 ^ k + 2 ^ k) ≤ length columns)
   compressed_room l k n columns is ek e room =
       let c : Circuit = circuit_of ws in
       let same : k ≡ c.k = ek ∙ sym (accepted.k_is ws a) in (
         same,
-        rw (compressed_at_is l is n e, same) (mul-le-mul_right (rows_of c) (omega arith)),
+        rw (rows_of_is l is, same) (mul-le-mul_right (rows_of c) (omega arith)),
         rw (compressed_at_is l is n e, same)
             (let d : num_lookups c * 2 * rows_of c ≡ num_lookups c * (2 * rows_of c) = mul_assoc (num_lookups c) 2 (rows_of c) in
             let f : num_lookups c * (2 * rows_of c) ≡ num_lookups c * (rows_of c + rows_of c) = ap (λ (x : ℕ). num_lookups c * x) (omega arith) in

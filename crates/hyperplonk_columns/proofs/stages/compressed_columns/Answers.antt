@@ -6,7 +6,7 @@ use Prim.Native.Nat.{◌+◌, ◌*◌, ◌≤◌}
 use Rattle.backend.specs.Circuit.{Circuit, circuit_of, rows_of, num_lookups}
 use Rattle.hyperplonk_prepare.specs.Prepared.{compressed_offset}
 use Rattle.hyperplonk_columns.proofs.Accepted.{placed, exact_challenges, user_is}
-use Rattle.hyperplonk_columns.proofs.stages.Stages.{instances_of_is, compressed_fit, compressed_given, compressed_room, compressed_all}
+use Rattle.hyperplonk_columns.proofs.stages.Stages.{compressed_fit, compressed_given, compressed_room, compressed_all}
 use Rattle.hyperplonk_columns.proofs.stages.compressed_columns.Goals as goal
 
 pub at-beta-requires : goal.at-beta-requires
@@ -28,7 +28,7 @@ invariant_of-polys c =
     let room : compressed_offset k + num_lookups k * 2 * rows_of k ≤ length c.args.columns.now = let p = placed (circuit_of c.args.log.now.prepared.circuit.words.now) in omega (arith, c.requires, p.compressed, p.counts, p.hs, p.zs) in
     let r = compressed_room c.args.log.now.prepared.circuit.words.now c.args.log.now.prepared.circuit.accepted _ _ _ c.args.columns.now l.ensures c.k_of-k.ensures (ap length c.copied-copied.ensures) room in
     let q = compressed_given c.args.log.now.prepared.circuit.words.now c.args.log.now.prepared.circuit.accepted _ _ l.ensures c.k_of-k.ensures in
-    record { small = q.0; given = q.1; before = rw (instances_of_is c.args.log.now.prepared.circuit.words.now c.args.log.now.prepared.circuit.accepted _ l.ensures) r.1 }
+    record { small = q.0; given = q.1; before = r.1 }
 
 pub compressed_from-requires : goal.compressed_from-requires
 compressed_from-requires c =
