@@ -3,10 +3,10 @@
 
 pub mod records;
 
-ghost use Rattle.std.specs.Prelude.{◌≡◌, ◌+◌, ◌*◌, ◌/◌, ◌^◌, ◌≤◌, ◌<◌, length, get_or, set};
+ghost use Rattle.std.specs.Prelude.{◌≡◌, ◌+◌, ◌*◌, ◌/◌, ◌^◌, ◌≤◌, ◌<◌, length};
 ghost use Rattle.lists.specs.Lists.{All, range, write_at, split, total};
-ghost use Rattle.backend.specs.Circuit.{Cell, cells_of, max_polys};
-ghost use Rattle.preprocessor.specs.Permutation.{Once, Starts, Walkable, CycleIn, Walked, cell_word, permutation_columns};
+ghost use Rattle.backend.specs.Circuit.{cells_of, max_polys};
+ghost use Rattle.preprocessor.specs.Permutation.{Once, Starts, Walkable, permutation_columns};
 
 use crate::records::walk;
 use backend::MAX_POLYS;

@@ -5,21 +5,12 @@ use Rattle.preprocessor_permutation.specs.Cells.{cell_of}
 use Rattle.preprocessor_permutation.proofs.records.Laws as cycle
 use Rattle.preprocessor_permutation.proofs.records.walk.Goals as goal
 
-pub cell-last-requires : goal.cell-last-requires
-cell-last-requires g c = omega (arith, c.requires.nonzero, c.count-count.ensures)
-
 pub cell_label-label-requires : goal.cell_label-label-requires
 cell_label-label-requires g c =
     cycle.cell c.args.starts.now (g.C.Cycle.cells c.args.cycle) (c.count-count.result - 1) (omega (arith, c.requires.nonzero, c.count-count.ensures)) (cell_of c.cell-last.result)
     (c.cell-last.ensures cycle.none)
     (length c.args.columns.now)
     c.requires.all
-
-pub loop-i-init : goal.loop-i-init
-loop-i-init g c = along_start c.args.starts.now (g.C.Cycle.cells c.args.cycle) c.args.columns.now c.cell_label-label.result
-
-pub cell-next-requires : goal.cell-next-requires
-cell-next-requires g c = omega (arith, c.count-count.ensures)
 
 pub exchange-label-requires : goal.exchange-label-requires
 exchange-label-requires g c =
