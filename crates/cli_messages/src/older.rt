@@ -2,20 +2,20 @@
 use crate::refusal::stands;
 use backend_sections::contents::FIRST_START;
 use cli_faults::older::{OLDER_CONTENTS, older_fault};
-use cli_texts::files;
+use cli_texts::host::Host;
 use lists::word_at;
 use std::io;
-use std::io::Stderr;
 use std::rt::{Env, Files};
 
 // The argument that names the circuit's file.
 const CIRCUIT: usize = 2;
 
 // Where the layout is left.
-fn leaves(rt: &(impl Files + Env), err: Stderr, circuit: &[u64], place: usize) -> io::Result<()> {
+fn leaves<R: Files + Env>(host: &Host<R>, circuit: &[u64], place: usize) -> io::Result<()> {
+    let err = host.err;
     print!(err; " (contents of 20 words, then nine sections without gaps that end the words): ")?;
     if place < circuit.len() {
-        stands(rt, err, place)?;
+        stands(host, place)?;
         print!(err; ", its value {}, does not fit", word_at(circuit, place))?;
     } else {
         print!(err; "words follow the last section")?;
@@ -24,21 +24,22 @@ fn leaves(rt: &(impl Files + Env), err: Stderr, circuit: &[u64], place: usize) -
 }
 
 // Says so of words for which `is_older` is no.
-pub fn not_older(rt: &(impl Files + Env), err: Stderr, circuit: &[u64]) -> io::Result<()> {
-    files::name(rt, err, CIRCUIT)?;
+pub fn not_older<R: Files + Env>(host: &Host<R>, circuit: &[u64]) -> io::Result<()> {
+    let err = host.err;
+    host.name(CIRCUIT)?;
     if circuit.len() < OLDER_CONTENTS {
         println!(err;
             ": there are {} words, at least 20 are needed",
             circuit.len()
         )?;
-        return files::line_ends(rt, err, CIRCUIT);
+        return host.line_ends(CIRCUIT);
     }
     if word_at(circuit, FIRST_START) == 22 {
         print!(err; ": these words have the layout with groups already")?;
     } else {
         print!(err; ": these words do not have the layout from before groups")?;
         if let Some(place) = older_fault(circuit) {
-            leaves(rt, err, circuit, place)?;
+            leaves(host, circuit, place)?;
         }
     }
     println!(err; "; nothing is rewritten")

@@ -3,6 +3,7 @@ use std::io;
 use std::io::Stderr;
 
 // The question of a number; 16 is the last of document 01's.
+// Kept: the numbers are document 01's names of the questions, and each chooses only a text.
 fn question(number: u64) -> &'static str {
     match number {
         1 => "Are there 22 words or more?",

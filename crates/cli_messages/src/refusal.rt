@@ -5,7 +5,7 @@ use cli_faults::fault::place_of;
 use cli_faults::older::is_older;
 use cli_reasons::section::{section_name, section_of};
 use cli_reasons::{groups, late, layout, starts};
-use cli_texts::files;
+use cli_texts::host::Host;
 use lists::word_at;
 use std::io;
 use std::io::Stderr;
@@ -15,6 +15,7 @@ use std::rt::{Env, Files};
 const CIRCUIT: usize = 2;
 
 // Which of a node's words it is.
+// Kept: `part` is a place among the node's four words, and chooses only a text.
 fn node_word(err: Stderr, part: u64) -> io::Result<()> {
     match part {
         0 => print!(err; " (its kind)"),
@@ -35,25 +36,26 @@ fn node_of(err: Stderr, circuit: &[u64], at: u64) -> io::Result<()> {
 }
 
 // A word's number, and its line where that can be told.
-pub(crate) fn stands(rt: &(impl Files + Env), err: Stderr, place: usize) -> io::Result<()> {
+pub(crate) fn stands<R: Files + Env>(host: &Host<R>, place: usize) -> io::Result<()> {
+    let err = host.err;
     print!(err; "word {place}")?;
-    if let Some(line) = files::line_of(rt, CIRCUIT, place) {
+    if let Some(line) = host.line_of(CIRCUIT, place) {
         print!(err; ", line {line}")?;
     }
     Ok(())
 }
 
 // The first offending word: its number, line, value and section.
-fn offending(
-    rt: &(impl Files + Env),
-    err: Stderr,
+fn offending<R: Files + Env>(
+    host: &Host<R>,
     circuit: &[u64],
     no: u64,
     place: usize,
 ) -> io::Result<()> {
-    files::name(rt, err, CIRCUIT)?;
+    let err = host.err;
+    host.name(CIRCUIT)?;
     print!(err; ": the first offending word is ")?;
-    stands(rt, err, place)?;
+    stands(host, place)?;
     print!(err; ", its value {}; it stands in ", word_at(circuit, place))?;
     section_name(err, section_of(circuit, place as u64))?;
     if no > 4 {
@@ -63,23 +65,20 @@ fn offending(
 }
 
 // A cell that stood in its cycle before.
-fn again(rt: &(impl Files + Env), err: Stderr, circuit: &[u64], place: usize) -> io::Result<()> {
+fn again<R: Files + Env>(host: &Host<R>, circuit: &[u64], place: usize) -> io::Result<()> {
+    let err = host.err;
     if let Some(before) = late::stood_before(circuit, place) {
         print!(err; "the same cell stands in its cycle before, at ")?;
-        stands(rt, err, before)?;
+        stands(host, before)?;
         println!(err; "")?;
     }
     Ok(())
 }
 
 // What is wrong with the first offending word.
-fn why(
-    rt: &(impl Files + Env),
-    err: Stderr,
-    circuit: &[u64],
-    no: u64,
-    place: usize,
-) -> io::Result<()> {
+// Kept: the numbers are document 01's names of the questions, and each chooses only what is said.
+fn why<R: Files + Env>(host: &Host<R>, circuit: &[u64], no: u64, place: usize) -> io::Result<()> {
+    let err = host.err;
     match no {
         2 => starts::size_why(err, circuit),
         3 => starts::limit_why(err, circuit, place),
@@ -94,14 +93,15 @@ fn why(
         _ => late::cell_why(err, circuit, place),
     }?;
     if no == 11 {
-        again(rt, err, circuit, place)?;
+        again(host, circuit, place)?;
     }
     Ok(())
 }
 
 // Too few words, or more or fewer than the contents say.
-fn length(rt: &(impl Files + Env), err: Stderr, circuit: &[u64], no: u64) -> io::Result<()> {
-    files::name(rt, err, CIRCUIT)?;
+fn length<R: Files + Env>(host: &Host<R>, circuit: &[u64], no: u64) -> io::Result<()> {
+    let err = host.err;
+    host.name(CIRCUIT)?;
     if no == 1 {
         println!(err;
             ": there are {} words, at least 22 are needed",
@@ -110,29 +110,31 @@ fn length(rt: &(impl Files + Env), err: Stderr, circuit: &[u64], no: u64) -> io:
     } else {
         starts::length_why(err, circuit)?;
     }
-    files::line_ends(rt, err, CIRCUIT)
+    host.line_ends(CIRCUIT)
 }
 
 // Says so of words that have the layout from before groups.
-fn hint(rt: &(impl Files + Env), err: Stderr, circuit: &[u64]) -> io::Result<()> {
+fn hint<R: Files + Env>(host: &Host<R>, circuit: &[u64]) -> io::Result<()> {
+    let err = host.err;
     if is_older(circuit) {
-        files::name(rt, err, CIRCUIT)?;
+        host.name(CIRCUIT)?;
         print!(err; ": these words have the layout from before groups; hyperplonk_cli regroup ")?;
-        files::name(rt, err, CIRCUIT)?;
+        host.name(CIRCUIT)?;
         println!(err; " rewrites them")?;
     }
     Ok(())
 }
 
 // Says all of it.
-pub fn refusal(rt: &(impl Files + Env), err: Stderr, circuit: &[u64], no: u64) -> io::Result<()> {
+pub fn refusal<R: Files + Env>(host: &Host<R>, circuit: &[u64], no: u64) -> io::Result<()> {
+    let err = host.err;
     question::answered_no(err, no)?;
     match place_of(circuit, no) {
-        None => length(rt, err, circuit, no)?,
+        None => length(host, circuit, no)?,
         Some(place) => {
-            offending(rt, err, circuit, no, place)?;
-            why(rt, err, circuit, no, place)?;
+            offending(host, circuit, no, place)?;
+            why(host, circuit, no, place)?;
         }
     }
-    hint(rt, err, circuit)
+    hint(host, circuit)
 }

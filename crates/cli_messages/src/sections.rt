@@ -16,43 +16,26 @@ fn size(out: Stdout, b: Bounds, stated: u64) -> io::Result<()> {
     Ok(())
 }
 
-// A count and another after it, each with its name.
-fn two(out: Stdout, first: &str, n: u64, second: &str, m: u64) -> io::Result<()> {
-    println!(out; "{first}{n}{second}{m}")
-}
-
 fn columns(out: Stdout, b: Bounds) -> io::Result<()> {
     let instances = b.word(INSTANCE_COUNT);
     let values = sum_of(b.words, b.word(INSTANCE_START) as usize, 1, instances);
-    two(
-        out,
-        "instance columns: ",
-        instances,
-        ", values in all: ",
-        values,
-    )?;
+    println!(out; "instance columns: {instances}, values in all: {values}")?;
     println!(out; "preprocess columns: {}", b.word(PREPROCESS_COUNT))?;
-    print!(out; "rounds: {}", b.rounds)?;
-    two(
-        out,
-        ", witness columns in all: ",
-        b.witness,
-        ", user challenges in all: ",
-        b.user,
+    println!(out;
+        "rounds: {}, witness columns in all: {}, user challenges in all: {}",
+        b.rounds, b.witness, b.user
     )
 }
 
 fn expressions(out: Stdout, b: Bounds) -> io::Result<()> {
     println!(out; "nodes: {}", b.nodes)?;
     println!(out; "constraints: {}", b.constraints)?;
-    two(
-        out,
-        "lookups: ",
+    println!(out;
+        "lookups: {}, pairs in all: {}",
         b.word(WIDTH_COUNT),
-        ", pairs in all: ",
-        b.word(PAIR_COUNT),
+        b.word(PAIR_COUNT)
     )?;
-    two(out, "cycles: ", b.lengths, ", cells in all: ", b.cells)
+    println!(out; "cycles: {}, cells in all: {}", b.lengths, b.cells)
 }
 
 // The sections with their counts.

@@ -2,80 +2,119 @@
 use backend_sections::contents::{INSTANCE_COUNT, INSTANCE_START, K_WORD};
 use backend_sections::words::is_element;
 use cli_faults::bounds::{bounds_of, sum_of};
-use cli_texts::files;
+use cli_texts::host::Host;
 use field::MODULUS;
 use lists::word_at;
 use std::io;
-use std::io::Stderr;
 use std::rt::{Env, Files};
 
-// The arguments of build and of check that name the files.
-const BUILD_INSTANCE: usize = 3;
+// The words that build is lent.
+#[derive(Clone, Copy)]
+pub struct Log<'a> {
+    pub circuit: &'a [u64],
+    pub instance: &'a [u64],
+    pub witness: &'a [u64],
+    pub challenges: &'a [u64],
+}
 
-const BUILD_WITNESS: usize = 4;
+// The words that check is lent.
+#[derive(Clone, Copy)]
+pub struct Sum<'a> {
+    pub circuit: &'a [u64],
+    pub witness: &'a [u64],
+    pub columns: &'a [u64],
+    pub nodes: &'a [u64],
+    pub challenges: &'a [u64],
+    pub y: &'a [u64],
+}
 
-const BUILD_CHALLENGES: usize = 5;
+// Words, the argument that names their file, and what they are called.
+#[derive(Clone, Copy)]
+struct Named<'a> {
+    argument: usize,
+    name: &'static str,
+    words: &'a [u64],
+}
 
-const CHECK_WITNESS: usize = 3;
+impl<'a> Named<'a> {
+    fn new(argument: usize, name: &'static str, words: &'a [u64]) -> Named<'a> {
+        Named {
+            argument,
+            name,
+            words,
+        }
+    }
 
-const CHECK_CHALLENGES: usize = 4;
+    // Says so and answers true where the length is not the one needed.
+    fn has_other_length<R: Files + Env>(self, host: &Host<R>, needed: u64) -> io::Result<bool> {
+        let given = self.words.len() as u64;
+        if given == needed {
+            return Ok(false);
+        }
+        host.name(self.argument)?;
+        println!(host.err; ": {} words given: {given}, needed: {needed}", self.name)?;
+        if given < needed {
+            host.line_ends(self.argument)?;
+        }
+        Ok(true)
+    }
 
-const CHECK_Y: usize = 5;
+    // Says so and answers true where a word is p or more.
+    fn has_large<R: Files + Env>(self, host: &Host<R>) -> io::Result<bool> {
+        let Some(at) = self.words.iter().position(|word| !is_element(*word)) else {
+            return Ok(false);
+        };
+        host.name(self.argument)?;
+        if let Some(line) = host.line_of(self.argument, at) {
+            print!(host.err; ", line {line}")?;
+        }
+        println!(host.err;
+            ": {} word {at} is {}, at most p - 1, which is {}",
+            self.name,
+            word_at(self.words, at),
+            MODULUS - 1
+        )?;
+        Ok(true)
+    }
+}
 
+// The argument of check that names the file of columns and nodes.
 const CHECK_OUT: usize = 6;
 
-// Says so and answers true where the length is not the one needed.
-fn lengths(
-    rt: &(impl Files + Env),
-    err: Stderr,
-    argument: usize,
-    name: &str,
-    given: usize,
-    needed: u64,
-) -> io::Result<bool> {
-    if given as u64 == needed {
-        return Ok(false);
+impl<'a> Log<'a> {
+    fn instance(&self) -> Named<'a> {
+        Named::new(3, "instance", self.instance)
     }
-    files::name(rt, err, argument)?;
-    println!(err; ": {name} words given: {given}, needed: {needed}")?;
-    if (given as u64) < needed {
-        files::line_ends(rt, err, argument)?;
+
+    fn witness(&self) -> Named<'a> {
+        Named::new(4, "witness", self.witness)
     }
-    Ok(true)
+
+    fn challenges(&self) -> Named<'a> {
+        Named::new(5, "challenge", self.challenges)
+    }
 }
 
-// The place of the first word that is p or more.
-fn first_large(words: &[u64]) -> Option<usize> {
-    words.iter().position(|word| !is_element(*word))
-}
-
-// The file, and the line of a word where it can be told.
-fn line(rt: &(impl Files + Env), err: Stderr, argument: usize, place: usize) -> io::Result<()> {
-    files::name(rt, err, argument)?;
-    if let Some(line) = files::line_of(rt, argument, place) {
-        print!(err; ", line {line}")?;
+impl<'a> Sum<'a> {
+    fn witness(&self) -> Named<'a> {
+        Named::new(3, "witness", self.witness)
     }
-    print!(err; ": ")
-}
 
-// Says so and answers true where a word is p or more.
-fn large(
-    rt: &(impl Files + Env),
-    err: Stderr,
-    argument: usize,
-    name: &str,
-    words: &[u64],
-) -> io::Result<bool> {
-    let Some(at) = first_large(words) else {
-        return Ok(false);
-    };
-    line(rt, err, argument, at)?;
-    println!(err;
-        "{name} word {at} is {}, at most p - 1, which is {}",
-        word_at(words, at),
-        MODULUS - 1
-    )?;
-    Ok(true)
+    fn challenges(&self) -> Named<'a> {
+        Named::new(4, "challenge", self.challenges)
+    }
+
+    fn y(&self) -> Named<'a> {
+        Named::new(5, "y", self.y)
+    }
+
+    fn columns(&self) -> Named<'a> {
+        Named::new(CHECK_OUT, "column", self.columns)
+    }
+
+    fn nodes(&self) -> Named<'a> {
+        Named::new(CHECK_OUT, "node", self.nodes)
+    }
 }
 
 // The witness words needed.
@@ -93,80 +132,33 @@ fn instance_words(circuit: &[u64]) -> u64 {
     )
 }
 
-fn build_lengths(
-    rt: &(impl Files + Env),
-    err: Stderr,
-    circuit: &[u64],
-    instance: usize,
-    witness: usize,
-    challenges: usize,
-    user: u64,
-) -> io::Result<()> {
-    let needed = user.wrapping_add(2);
-    lengths(
-        rt,
-        err,
-        BUILD_INSTANCE,
-        "instance",
-        instance,
-        instance_words(circuit),
-    )?;
-    lengths(
-        rt,
-        err,
-        BUILD_WITNESS,
-        "witness",
-        witness,
-        witness_words(circuit),
-    )?;
-    lengths(rt, err, BUILD_CHALLENGES, "challenge", challenges, needed)?;
+// Of a build that was refused by 12, given how many challenges of the user's there are.
+fn build_lengths<R: Files + Env>(host: &Host<R>, log: &Log, user: u64) -> io::Result<()> {
+    let instance = log.instance();
+    instance.has_other_length(host, instance_words(log.circuit))?;
+    let witness = log.witness();
+    witness.has_other_length(host, witness_words(log.circuit))?;
+    let challenges = log.challenges();
+    challenges.has_other_length(host, user.wrapping_add(2))?;
     Ok(())
 }
 
 // Of a build that was refused by 12 or 13.
-pub fn build_values(
-    rt: &(impl Files + Env),
-    err: Stderr,
-    circuit: &[u64],
-    instance: &[u64],
-    witness: &[u64],
-    challenges: &[u64],
+pub fn build_values<R: Files + Env>(
+    host: &Host<R>,
+    log: &Log,
     user: u64,
     no: u64,
 ) -> io::Result<()> {
     if no == 12 {
-        build_lengths(
-            rt,
-            err,
-            circuit,
-            instance.len(),
-            witness.len(),
-            challenges.len(),
-            user,
-        )?;
+        build_lengths(host, log, user)?;
     }
     if no == 13 {
-        large(rt, err, BUILD_INSTANCE, "instance", instance)?;
-        large(rt, err, BUILD_WITNESS, "witness", witness)?;
-        large(rt, err, BUILD_CHALLENGES, "challenge", challenges)?;
+        log.instance().has_large(host)?;
+        log.witness().has_large(host)?;
+        log.challenges().has_large(host)?;
     }
     Ok(())
-}
-
-// Are all of these below p? Says so where one is not.
-fn all_small(
-    rt: &(impl Files + Env),
-    err: Stderr,
-    witness: &[u64],
-    columns: &[u64],
-    challenges: &[u64],
-    y: &[u64],
-) -> io::Result<bool> {
-    let first = large(rt, err, CHECK_WITNESS, "witness", witness)?;
-    let second = large(rt, err, CHECK_OUT, "column", columns)?;
-    let third = large(rt, err, CHECK_CHALLENGES, "challenge", challenges)?;
-    let fourth = large(rt, err, CHECK_Y, "y", y)?;
-    Ok(!(first | second | third | fourth))
 }
 
 // The lengths that a circuit asks for: column words, nodes, user challenges.
@@ -177,51 +169,34 @@ pub struct Needed {
     pub user: usize,
 }
 
+// Have all words of a check the lengths needed? Says so where some have not.
+fn all_exact<R: Files + Env>(host: &Host<R>, sum: &Sum, needed: Needed) -> io::Result<bool> {
+    let user = (needed.user as u64).wrapping_add(3);
+    let k = word_at(sum.circuit, K_WORD);
+    let first = sum
+        .witness()
+        .has_other_length(host, witness_words(sum.circuit))?;
+    let second = sum.columns().has_other_length(host, needed.columns as u64)?;
+    let third = sum.nodes().has_other_length(host, needed.nodes << 2)?;
+    let fourth = sum.challenges().has_other_length(host, user)?;
+    let fifth = sum.y().has_other_length(host, k)?;
+    Ok(!(first | second | third | fourth | fifth))
+}
+
+// Are all values below p? Says so where one is not.
+fn all_small<R: Files + Env>(host: &Host<R>, sum: &Sum) -> io::Result<bool> {
+    let first = sum.witness().has_large(host)?;
+    let second = sum.columns().has_large(host)?;
+    let third = sum.challenges().has_large(host)?;
+    let fourth = sum.y().has_large(host)?;
+    Ok(!(first | second | third | fourth))
+}
+
 // Of a row sum that was refused by 16.
-pub fn sum_values(
-    rt: &(impl Files + Env),
-    err: Stderr,
-    circuit: &[u64],
-    witness: &[u64],
-    columns: &[u64],
-    nodes: &[u64],
-    challenges: &[u64],
-    y: &[u64],
-    s: Needed,
-) -> io::Result<()> {
-    let user = (s.user as u64).wrapping_add(3);
-    let first = lengths(
-        rt,
-        err,
-        CHECK_WITNESS,
-        "witness",
-        witness.len(),
-        witness_words(circuit),
-    )?;
-    let second = lengths(
-        rt,
-        err,
-        CHECK_OUT,
-        "column",
-        columns.len(),
-        s.columns as u64,
-    )?;
-    let third = lengths(rt, err, CHECK_OUT, "node", nodes.len(), s.nodes << 2)?;
-    let fourth = lengths(
-        rt,
-        err,
-        CHECK_CHALLENGES,
-        "challenge",
-        challenges.len(),
-        user,
-    )?;
-    let fifth = lengths(rt, err, CHECK_Y, "y", y.len(), word_at(circuit, K_WORD))?;
-    if first | second | third | fourth | fifth {
-        return Ok(());
-    }
-    if all_small(rt, err, witness, columns, challenges, y)? {
-        files::name(rt, err, CHECK_OUT)?;
-        println!(err; ": the node words are not those that building writes")?;
+pub fn sum_values<R: Files + Env>(host: &Host<R>, sum: &Sum, needed: Needed) -> io::Result<()> {
+    if all_exact(host, sum, needed)? && all_small(host, sum)? {
+        host.name(CHECK_OUT)?;
+        println!(host.err; ": the node words are not those that building writes")?;
     }
     Ok(())
 }

@@ -1,10 +1,10 @@
 // What circuit words have and ask for, in words; and for refused ones which question was answered no, and where.
 use crate::shape::{Rooms, Shape, shape_of};
-use backend::MAX_POLYS;
 use cli_messages::refusal::refusal;
 use cli_messages::sections::sections;
+use cli_texts::host::Host;
 use std::io;
-use std::io::{Stderr, Stdout};
+use std::io::Stdout;
 use std::rt::{Env, Files};
 
 // A list of numbers, each after a blank.
@@ -16,19 +16,21 @@ fn numbers(out: Stdout, list: &[u64]) -> io::Result<()> {
 }
 
 fn copied(out: Stdout, s: &Shape) -> io::Result<()> {
-    print!(out; "copied columns: {}", s.copied)?;
-    if s.copied > 0 {
+    let polynomials = s.prepared.copied();
+    print!(out; "copied columns: {}", polynomials.len())?;
+    if !polynomials.is_empty() {
         print!(out; ", polynomials")?;
     }
-    numbers(out, &s.of[..s.copied.min(MAX_POLYS)])
+    numbers(out, polynomials)
 }
 
 fn groups(out: Stdout, s: &Shape) -> io::Result<()> {
-    print!(out; "groups of lookups: {}", s.groups)?;
-    if s.groups > 0 {
+    let sizes = s.prepared.group_sizes();
+    print!(out; "groups of lookups: {}", sizes.len())?;
+    if !sizes.is_empty() {
         print!(out; ", lookups in each:")?;
     }
-    numbers(out, &s.sizes[..s.groups.min(8)])
+    numbers(out, sizes)
 }
 
 // Whether the copied columns are cut alike, and the stack that build and check need.
@@ -48,8 +50,9 @@ fn cut_and_stack(out: Stdout, s: &Shape) -> io::Result<()> {
 // What an accepted circuit asks for.
 fn needs(out: Stdout, s: &Shape) -> io::Result<()> {
     groups(out, s)?;
-    println!(out; "D: {}", s.part.wrapping_add(1))?;
-    println!(out; "N: {}", s.parts)?;
+    let cuts = s.cuts();
+    println!(out; "D: {}", cuts.part.wrapping_add(1))?;
+    println!(out; "N: {}", cuts.parts)?;
     copied(out, s)?;
     println!(out; "column words needed: {}", s.column_words)?;
     println!(out; "nodes needed: {}, node words: {}", s.nodes, s.nodes << 2)?;
@@ -57,12 +60,8 @@ fn needs(out: Stdout, s: &Shape) -> io::Result<()> {
 }
 
 // Says all of it.
-pub fn explain(
-    rt: &(impl Files + Env),
-    out: Stdout,
-    err: Stderr,
-    circuit: &[u64],
-) -> io::Result<()> {
+pub fn explain<R: Files + Env>(host: &Host<R>, circuit: &[u64]) -> io::Result<()> {
+    let out = host.out;
     let asked = shape_of(circuit);
     if !matches!(asked, Err(1..=4)) {
         sections(out, circuit)?;
@@ -73,6 +72,6 @@ pub fn explain(
             cut_and_stack(out, &s)?;
             println!(out; "questions 1 to 11 and 18 are answered yes")
         }
-        Err(no) => refusal(rt, err, circuit, no),
+        Err(no) => refusal(host, circuit, no),
     }
 }

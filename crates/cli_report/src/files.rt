@@ -14,10 +14,8 @@ pub fn write_words(to: &mut impl Write, words: &[u64], each: usize) -> io::Resul
         return Err(unwritten());
     }
     for part in words.chunks(each) {
-        match line_of(part) {
-            Ok(line) => to.write_all(line.as_str().as_bytes())?,
-            Err(_) => return Err(unwritten()),
-        }
+        let line = line_of(part).map_err(|_| unwritten())?;
+        to.write_all(line.as_str().as_bytes())?;
     }
     Ok(())
 }

@@ -4,10 +4,10 @@ use crate::line::name_beside;
 use crate::shape::Shape;
 use crate::write_out::write_out;
 use cli_texts::files::unnamed;
+use cli_texts::host::Host;
 use cli_texts::say;
 use std::fs::{OpenFile, OpenOptions};
 use std::io::{ErrorKind, Print, Read, Seek, SeekFrom, Stderr, Write};
-use std::process::Process;
 use std::rt::{Env, Files};
 use std::{fs, io, process};
 
@@ -16,20 +16,16 @@ use std::{fs, io, process};
 pub struct Built<'a> {
     pub columns: &'a [u64],
     pub nodes: &'a [u64],
-    pub shape: Shape,
+    pub shape: &'a Shape<'a>,
 }
 
 // Does what is open begin as a file that `build` wrote? What has no place to read from, as a pipe or a terminal, is not read.
 fn is_built(file: &mut (impl Read + Seek)) -> bool {
     let mut first = [0u8; 26];
-    match file.seek(SeekFrom::Current(0)) {
-        Ok(0) => {}
-        _ => return false,
+    if !matches!(file.seek(SeekFrom::Current(0)), Ok(0)) {
+        return false;
     }
-    match file.read_exact(&mut first) {
-        Ok(()) => first == *b"# columns, words to each: ",
-        Err(_) => false,
-    }
+    file.read_exact(&mut first).is_ok() && first == *b"# columns, words to each: "
 }
 
 // May the file be written? Not where something else stands there; says so.
@@ -59,8 +55,7 @@ fn fill(file: &mut (impl Write + OpenFile), built: &Built) -> io::Result<()> {
 
 // Fills, closes and renames the file beside; where that fails there is none any more, and it says why.
 fn through<R: Files>(
-    rt: &R,
-    err: Stderr,
+    host: &Host<R>,
     path: &str,
     beside: &str,
     file: R::File,
@@ -69,24 +64,19 @@ fn through<R: Files>(
     let mut file = file;
     let filled = fill(&mut file, built);
     drop(file);
-    let done = match filled {
-        Ok(()) => fs::rename(rt, beside, path),
-        Err(why) => Err(why),
-    };
-    let Err(why) = done else {
+    let Err(why) = filled.and_then(|()| fs::rename(host.rt, beside, path)) else {
         return Ok(true);
     };
-    let _ = fs::remove_file(rt, beside);
-    say::fail(err, path.as_bytes(), &why)?;
-    println!(err;
+    let _ = fs::remove_file(host.rt, beside);
+    say::fail(host.err, path.as_bytes(), &why)?;
+    println!(host.err;
         "{path}: the columns and nodes could not be written whole; what stood there is as before"
     )?;
     Ok(false)
 }
 
-fn write_beside(
-    rt: &impl Files,
-    err: Stderr,
+fn write_beside<R: Files>(
+    host: &Host<R>,
     path: &str,
     beside: &str,
     built: &Built,
@@ -94,42 +84,31 @@ fn write_beside(
     match OpenOptions::new()
         .write(true)
         .create_new(true)
-        .open(rt, beside)
+        .open(host.rt, beside)
     {
-        Ok(file) => through(rt, err, path, beside, file, built),
+        Ok(file) => through(host, path, beside, file, built),
         Err(why) => {
-            say::fail(err, path.as_bytes(), &why)?;
+            say::fail(host.err, path.as_bytes(), &why)?;
             Ok(false)
         }
     }
 }
 
-fn write_path(
-    rt: &impl Files,
-    process: Process,
-    err: Stderr,
-    path: &str,
-    built: &Built,
-) -> io::Result<bool> {
-    if !is_free(rt, err, path)? {
+fn write_path<R: Files>(host: &Host<R>, path: &str, built: &Built) -> io::Result<bool> {
+    if !is_free(host.rt, host.err, path)? {
         return Ok(false);
     }
-    match name_beside(path, process::id(process)) {
-        Ok(beside) => write_beside(rt, err, path, beside.as_str(), built),
+    match name_beside(path, process::id(host.process)) {
+        Ok(beside) => write_beside(host, path, beside.as_str(), built),
         Err(_) => Ok(false),
     }
 }
 
 // Writes what was built to the file that an argument names; answers whether it stands there.
-pub fn write(
-    rt: &(impl Files + Env),
-    process: Process,
-    err: Stderr,
-    argument: usize,
-    built: &Built,
-) -> io::Result<bool> {
+pub fn write<R: Files + Env>(host: &Host<R>, argument: usize, built: &Built) -> io::Result<bool> {
+    let err = host.err;
     let mut path = [0u8; 4096];
-    let n = match rt.arg(argument, &mut path) {
+    let n = match host.rt.arg(argument, &mut path) {
         Ok(n) => n,
         Err(why) => {
             unnamed(err, why)?;
@@ -137,7 +116,7 @@ pub fn write(
         }
     };
     match str::from_utf8(&path[..n]) {
-        Ok(text) => write_path(rt, process, err, text, built),
+        Ok(text) => write_path(host, text, built),
         Err(_) => {
             Print::write_all(&err, &path[..n])?;
             println!(err; ": the name is no UTF-8 text")?;

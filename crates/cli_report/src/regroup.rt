@@ -4,9 +4,10 @@ use crate::files::write_words;
 use backend_sections::contents::{FIRST_START, GROUPS, K_WORD, STATED_WORD, WIDTH_COUNT};
 use cli_faults::older::{OLDER_CONTENTS, is_older};
 use cli_messages::older::not_older;
+use cli_texts::host::Host;
 use lists::word_at;
 use std::io;
-use std::io::{Stderr, Stdout};
+use std::io::Stdout;
 use std::rt::{Env, Files};
 
 // 2 more.
@@ -55,17 +56,12 @@ fn write_regrouped(out: Stdout, circuit: &[u64]) -> io::Result<()> {
 }
 
 // Rewrites the words, or says why not.
-pub fn regroup(
-    rt: &(impl Files + Env),
-    out: Stdout,
-    err: Stderr,
-    circuit: &[u64],
-) -> io::Result<()> {
+pub fn regroup<R: Files + Env>(host: &Host<R>, circuit: &[u64]) -> io::Result<()> {
     if !is_older(circuit) {
-        return not_older(rt, err, circuit);
+        return not_older(host, circuit);
     }
-    match write_regrouped(out, circuit) {
+    match write_regrouped(host.out, circuit) {
         Ok(()) => Ok(()),
-        Err(_) => println!(err; "standard output: the words could not be written whole"),
+        Err(_) => println!(host.err; "standard output: the words could not be written whole"),
     }
 }

@@ -1,18 +1,16 @@
 // What circuit words have and ask for, once questions 1 to 11 and 18 have been put to them; what they ask for is told by `sizes`.
-ghost use Rattle.std.specs.Prelude.{◌≡◌};
-ghost use Rattle.backend.specs.Circuit.{circuit_of, num_copied};
-ghost use Rattle.hyperplonk_prepare.specs.Prepared.{Accepted};
-
 use crate::cuts::Cuts;
-use backend::MAX_POLYS;
-use hyperplonk_prepare::{circuit_params, copied_of, group_sizes_of};
+use backend_sections::contents::INSTANCE_COUNT;
+use hyperplonk_prepare::circuit::AcceptedCircuit;
+use hyperplonk_prepare::needed::PreparedCircuit;
 use hyperplonk_sizes::sizes;
 use hyperplonk_spec::Sizes;
+use lists::word_at;
 
 // The column words and the nodes up to which the smaller rooms of the program do.
-const HALF: usize = 98304;
+pub const HALF_COLUMNS: usize = 98304;
 
-const HALF_NODES: usize = 4190;
+pub const HALF_NODES: usize = 4190;
 
 // Which rooms of the program do.
 #[derive(Clone, Copy, PartialEq, Eq)]
@@ -21,79 +19,58 @@ pub enum Rooms {
     Whole,
 }
 
-// What accepted circuit words ask for. `of` has the copied columns' polynomials, and `sizes` how many lookups each group has;
-// `part` is D - 1, `parts` is N.
-#[derive(Clone, Copy)]
-pub struct Shape {
-    pub instances: usize,
-    pub copied: usize,
-    pub of: [u64; MAX_POLYS],
-    pub lookups: usize,
-    pub groups: usize,
-    pub sizes: [u64; 8],
-    pub user: usize,
-    pub rows: usize,
-    pub part: usize,
-    pub parts: usize,
+// Accepted circuit words, and what they ask for.
+#[derive(Drop)]
+pub struct Shape<'a> {
+    pub prepared: PreparedCircuit<'a>,
     pub column_words: usize,
     pub nodes: u64,
     pub visits: u64,
     pub rooms: Rooms,
 }
 
-impl Shape {
+impl<'a> Shape<'a> {
+    // How many instance columns there are.
+    pub fn instances(&self) -> usize {
+        word_at(self.prepared.circuit.words, INSTANCE_COUNT) as usize
+    }
+
+    // How many challenges are the user's.
+    pub fn user(&self) -> usize {
+        self.prepared.params.num_challenges
+    }
+
     // Both cuts of the copied columns.
     pub fn cuts(&self) -> Cuts {
+        let params = self.prepared.params;
         Cuts {
-            copied: self.copied,
-            part: self.part,
-            parts: self.parts,
+            copied: params.num_permutation_polys,
+            part: params.chunk_size,
+            parts: params.num_chunks,
         }
     }
 }
 
 fn rooms_of(told: Sizes) -> Rooms {
-    if told.column_words <= HALF && told.nodes <= HALF_NODES {
+    if told.column_words <= HALF_COLUMNS && told.nodes <= HALF_NODES {
         Rooms::Half
     } else {
         Rooms::Whole
     }
 }
 
-fn accepted(circuit: &[u64], count: usize, of: [u64; MAX_POLYS], told: Sizes) -> Shape
-    requires { Accepted circuit.now × (count ≡ num_copied (circuit_of circuit.now)) }
-{
-    let params = circuit_params(circuit, count);
-    let grouped = group_sizes_of(circuit);
-    let instances = lists::word_at(circuit, 3);
-    let mut sizes = [0; 8];
-    sizes[..grouped.len()].copy_from_slice(grouped.as_slice());
-    Shape {
-        instances: instances as usize,
-        copied: count,
-        of: of,
-        lookups: params.num_lookups,
-        groups: grouped.len(),
-        sizes: sizes,
-        user: params.num_challenges,
-        rows: params.rows,
-        part: params.chunk_size,
-        parts: params.num_chunks,
-        column_words: told.column_words,
-        nodes: told.nodes as u64,
-        visits: told.visits as u64,
-        rooms: rooms_of(told),
-    }
-}
-
 // What circuit words ask for; the number of the first question answered no for refused ones.
-pub fn shape_of(circuit: &[u64]) -> Result<Shape, u64> {
+pub fn shape_of<'a>(circuit: &'a [u64]) -> Result<Shape<'a>, u64> {
     let told = sizes(circuit);
     if told.number != 0 {
         return Err(told.number);
     }
-    let copied = copied_of(circuit);
-    let mut of = [0; MAX_POLYS];
-    of[..copied.len()].copy_from_slice(copied.as_slice());
-    Ok(accepted(circuit, copied.len(), of, told))
+    let accepted = AcceptedCircuit { words: circuit };
+    Ok(Shape {
+        prepared: PreparedCircuit::new(accepted),
+        column_words: told.column_words,
+        nodes: told.nodes as u64,
+        visits: told.visits as u64,
+        rooms: rooms_of(told),
+    })
 }

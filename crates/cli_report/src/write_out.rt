@@ -28,17 +28,19 @@ fn lookup_title(to: &mut impl Write, c: usize, lookups: usize, groups: usize) ->
 
 // Which column it is: instance, permutation, then the others.
 fn column_title(to: &mut impl Write, c: usize, s: &Shape) -> io::Result<()> {
-    if c < s.instances {
+    let instances = s.instances();
+    if c < instances {
         return writeln!(to, "# instance column {c}");
     }
-    let p = c - s.instances;
-    if p >= s.copied {
-        return lookup_title(to, p - s.copied, s.lookups, s.groups);
+    let p = c - instances;
+    let copied = s.prepared.copied();
+    match copied.get(p) {
+        Some(polynomial) => writeln!(to, "# permutation column of polynomial {polynomial}"),
+        None => {
+            let params = s.prepared.params;
+            lookup_title(to, p - copied.len(), params.num_lookups, params.num_groups)
+        }
     }
-    let Some(polynomial) = s.of.get(p) else {
-        return Err(unwritten());
-    };
-    writeln!(to, "# permutation column of polynomial {polynomial}")
 }
 
 // Writes each column with its title.
@@ -47,11 +49,12 @@ fn write_columns(to: &mut impl Write, columns: &[u64], s: &Shape) -> io::Result<
     if words.is_empty() {
         return Ok(());
     }
-    if s.rows == 0 {
+    let rows = s.prepared.params.rows;
+    if rows == 0 {
         return Err(unwritten());
     }
-    for (c, column) in words.chunks(s.rows).enumerate() {
-        if column.len() < s.rows {
+    for (c, column) in words.chunks(rows).enumerate() {
+        if column.len() < rows {
             return Err(unwritten());
         }
         column_title(to, c, s)?;
@@ -62,8 +65,8 @@ fn write_columns(to: &mut impl Write, columns: &[u64], s: &Shape) -> io::Result<
 
 // Writes the columns and then the nodes, each under a comment line; an error where not all of it was written.
 pub fn write_out(to: &mut impl Write, built: &Built) -> io::Result<()> {
-    let s = &built.shape;
-    writeln!(to, "# columns, words to each: {}", s.rows)?;
+    let s = built.shape;
+    writeln!(to, "# columns, words to each: {}", s.prepared.params.rows)?;
     write_columns(to, built.columns, s)?;
     writeln!(to, "# nodes (kind first second value): {}", s.nodes)?;
     let words = (s.nodes << 2) as usize;

@@ -1,6 +1,7 @@
 // Files of words, read, and told of by name, line and token.
 ghost use Rattle.std.specs.Prelude.{◌≤◌, length, IfOk, IfSome};
 
+use crate::host::Host;
 use crate::parts::find_in;
 use crate::{lines, say, token};
 use decimal::{Fault, Wrong, start, take_bytes, take_end};
@@ -117,34 +118,6 @@ pub fn unnamed(to: Stderr, why: FillError) -> io::Result<()> {
     }
 }
 
-// Reads the words of the file that an argument names; answers how many it has, if nothing is wrong.
-pub fn read(
-    rt: &(impl Files + Env),
-    to: Stderr,
-    argument: usize,
-    words: &mut [u64],
-) -> io::Result<Option<usize>>
-    ensures { IfOk result (λ got. IfSome got (λ count. count ≤ length words.new)) }
-{
-    let mut path = [0u8; 4096];
-    match rt.arg(argument, &mut path) {
-        Ok(n) => read_file(rt, to, &path[..n], words),
-        Err(why) => {
-            unnamed(to, why)?;
-            Ok(None)
-        }
-    }
-}
-
-// Says the name of the file.
-pub fn name(rt: &impl Env, to: Stderr, argument: usize) -> io::Result<()> {
-    let mut path = [0u8; 4096];
-    match rt.arg(argument, &mut path) {
-        Ok(n) => Print::write_all(&to, &path[..n]),
-        Err(_) => Ok(()),
-    }
-}
-
 // Opens the file once more, unless it can't be or can't be read from its start, as a pipe.
 fn open_again<R: Files + Env>(rt: &R, argument: usize) -> Option<R::File> {
     let mut path = [0u8; 4096];
@@ -154,11 +127,6 @@ fn open_again<R: Files + Env>(rt: &R, argument: usize) -> Option<R::File> {
         return None;
     }
     Some(file)
-}
-
-// The line of a word of the file, none where it can't be told.
-pub fn line_of(rt: &(impl Files + Env), argument: usize, place: usize) -> Option<u64> {
-    lines::line_at(&mut open_again(rt, argument)?, place)
 }
 
 // Have the lines of an open file carriage returns alone, so that a # takes the rest of it?
@@ -173,16 +141,47 @@ fn returns_alone(file: &mut impl Read) -> bool {
     returns && hashes && !matches!(fed, Ok(Some(())))
 }
 
-// Says so of a file that has too few words for this reason.
-pub fn line_ends(rt: &(impl Files + Env), to: Stderr, argument: usize) -> io::Result<()> {
-    let Some(mut file) = open_again(rt, argument) else {
-        return Ok(());
-    };
-    if returns_alone(&mut file) {
-        name(rt, to, argument)?;
-        println!(to;
-            ": its lines end in carriage returns alone, so that the first # makes the rest a comment; save it with line feeds"
-        )?;
+// The file that an argument names.
+impl<'a, R: Files + Env> Host<'a, R> {
+    // Reads its words; answers how many it has, if nothing is wrong.
+    pub fn read(&self, argument: usize, words: &mut [u64]) -> io::Result<Option<usize>>
+        ensures { IfOk result (λ got. IfSome got (λ count. count ≤ length words.new)) }
+    {
+        let mut path = [0u8; 4096];
+        match self.rt.arg(argument, &mut path) {
+            Ok(n) => read_file(self.rt, self.err, &path[..n], words),
+            Err(why) => {
+                unnamed(self.err, why)?;
+                Ok(None)
+            }
+        }
     }
-    Ok(())
+
+    // Says its name.
+    pub fn name(&self, argument: usize) -> io::Result<()> {
+        let mut path = [0u8; 4096];
+        match self.rt.arg(argument, &mut path) {
+            Ok(n) => Print::write_all(&self.err, &path[..n]),
+            Err(_) => Ok(()),
+        }
+    }
+
+    // The line of one of its words, none where it can't be told.
+    pub fn line_of(&self, argument: usize, place: usize) -> Option<u64> {
+        lines::line_at(&mut open_again(self.rt, argument)?, place)
+    }
+
+    // Says so where it has too few words since its lines end in carriage returns alone.
+    pub fn line_ends(&self, argument: usize) -> io::Result<()> {
+        let Some(mut file) = open_again(self.rt, argument) else {
+            return Ok(());
+        };
+        if returns_alone(&mut file) {
+            self.name(argument)?;
+            println!(self.err;
+                ": its lines end in carriage returns alone, so that the first # makes the rest a comment; save it with line feeds"
+            )?;
+        }
+        Ok(())
+    }
 }

@@ -2,6 +2,7 @@
 #![tactic(auto)]
 
 pub mod files;
+pub mod host;
 mod lines;
 mod parts;
 pub mod say;

@@ -2,8 +2,8 @@
 // the wearer's sheet to the knee.
 ghost use Rattle.std.specs.Prelude.{◌<◌};
 
-use crate::commands::Log;
 use crate::found::tell;
+use cli_messages::values::Log;
 use cli_report::cuts::Cuts;
 use cli_report::shape::shape_of;
 use cli_report::verdict::verdict;
@@ -93,10 +93,7 @@ fn show(out: Stdout, log: &Log, columns: &[u64]) -> io::Result<()> {
 
 // Both cuts of the copied columns of the circuit, which is not refused.
 fn cuts_of(circuit: &[u64]) -> Cuts {
-    match shape_of(circuit) {
-        Ok(s) => s.cuts(),
-        Err(_) => Cuts::default(),
-    }
+    shape_of(circuit).map(|s| s.cuts()).unwrap_or_default()
 }
 
 fn sum_up(
@@ -156,7 +153,7 @@ fn run_changed(out: Stdout, circuit: &[u64], changed: Option<(usize, u64)>) -> i
         change(&mut witness, at, value);
     }
     let log = Log {
-        circuit: circuit,
+        circuit,
         instance: &[],
         witness: &witness,
         challenges: &[1000003, 777],

@@ -1,7 +1,8 @@
 // What a build's number does not say: for 15 the readings that stand in no row of their table, for 17 the denominators that are 0.
-use crate::commands::Log;
 use backend_sections::contents::{INSTANCE_COUNT, PREPROCESS_COUNT};
+use cli_messages::values::Log;
 use cli_search::denominators::ZeroDenominator;
+use cli_search::found::Found;
 use cli_search::unlisted::Unlisted;
 use cli_search::{Column, denominators, unlisted};
 use lists::word_at;
@@ -24,19 +25,17 @@ fn stands(to: &impl Print, row: usize, place: usize) -> io::Result<()> {
 }
 
 // Names the first reading.
-fn readings(to: &impl Print, u: Unlisted) -> io::Result<()> {
-    if u.count == 0 {
-        return Ok(());
-    }
+fn readings(to: &impl Print, found: &Found<Unlisted>) -> io::Result<()> {
+    let u = &found.first;
     print!(to; "lookup {}", u.lookup)?;
     stands(to, u.row, u.place)?;
     print!(to; "the reading (")?;
-    values(to, &u.values[..u.width.min(8)])?;
+    values(to, u.values.as_slice())?;
     println!(to; ") stands in no row of the table")?;
-    if u.count > 1 {
+    if found.count > 1 {
         println!(to;
             "readings that stand in no row of their table, in all: {}",
-            u.count
+            found.count
         )?;
     }
     Ok(())
@@ -74,45 +73,53 @@ fn denominator(of: Column) -> &'static str {
 }
 
 // Names the first denominator.
-fn zeros(to: &impl Print, circuit: &[u64], z: ZeroDenominator) -> io::Result<()> {
-    if z.count == 0 {
-        return Ok(());
-    }
+fn zeros(to: &impl Print, circuit: &[u64], found: &Found<ZeroDenominator>) -> io::Result<()> {
+    let z = found.first;
     column(to, circuit, z.of, z.poly)?;
     stands(to, z.row, z.place)?;
     println!(to; "{} is 0", denominator(z.of))?;
-    if z.count > 1 {
-        println!(to; "denominators that are 0, in all: {}", z.count)?;
+    if found.count > 1 {
+        println!(to; "denominators that are 0, in all: {}", found.count)?;
     }
     Ok(())
 }
 
+// The readings that stand in no row of their table.
+fn tell_readings(to: &impl Print, log: &Log, columns: &mut [u64]) -> io::Result<()> {
+    match unlisted::find(
+        log.circuit,
+        log.instance,
+        log.witness,
+        log.challenges,
+        columns,
+    ) {
+        Some(found) => readings(to, &found),
+        None => Ok(()),
+    }
+}
+
+// The denominators that are 0.
+fn tell_zeros(to: &impl Print, log: &Log, columns: &mut [u64]) -> io::Result<()> {
+    if let Some(found) = denominators::find(
+        log.circuit,
+        log.instance,
+        log.witness,
+        log.challenges,
+        columns,
+    ) {
+        zeros(to, log.circuit, &found)?;
+    }
+    println!(to;
+        "this is no fault of the log: draw other challenges beta and gamma, and build anew"
+    )
+}
+
 // Of words that build refused by a number. The column buffer is written to.
+// Kept: the numbers are document 01's names of the questions, and each chooses only what is said.
 pub fn tell(to: &impl Print, log: &Log, columns: &mut [u64], number: u64) -> io::Result<()> {
     match number {
-        15 => readings(
-            to,
-            unlisted::find(
-                log.circuit,
-                log.instance,
-                log.witness,
-                log.challenges,
-                columns,
-            ),
-        ),
-        17 => {
-            let z = denominators::find(
-                log.circuit,
-                log.instance,
-                log.witness,
-                log.challenges,
-                columns,
-            );
-            zeros(to, log.circuit, z)?;
-            println!(to;
-                "this is no fault of the log: draw other challenges beta and gamma, and build anew"
-            )
-        }
+        15 => tell_readings(to, log, columns),
+        17 => tell_zeros(to, log, columns),
         _ => Ok(()),
     }
 }

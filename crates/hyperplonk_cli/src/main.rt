@@ -9,21 +9,11 @@ mod found;
 mod rooms;
 mod usage;
 
+use cli_texts::host::Host;
 use rooms::{Task, over_files};
 use std::env::FillError;
 use std::io;
-use std::io::{Stderr, Stdout};
-use std::process::Process;
 use std::rt::{Env, Files};
-
-// What the program holds of the system besides its arguments and files: where it writes, and the process, whose number stands in
-// the name of the file beside OUT.
-#[derive(Clone, Copy)]
-pub struct Host {
-    pub process: Process,
-    pub out: Stdout,
-    pub err: Stderr,
-}
 
 // What the program is asked for.
 #[derive(Clone, Copy, PartialEq, Eq)]
@@ -78,25 +68,24 @@ fn asks_help(rt: &impl Env) -> bool {
 }
 
 // Runs the command of this name, which so many arguments follow.
-fn run(rt: &(impl Files + Env), host: Host, name: &[u8], given: usize) -> io::Result<()> {
+fn run<R: Files + Env>(host: &Host<R>, name: &[u8], given: usize) -> io::Result<()> {
     let Some(command) = Command::of(name) else {
         return usage::unknown(host.err, name);
     };
-    if command == Command::Help || asks_help(rt) {
-        return usage::help(host.out);
-    }
-    if given != command.wanted() {
-        return usage::miscounted(host.err, name, given, command.wanted());
-    }
     match command {
-        Command::Files(task) => over_files(rt, host, task),
-        Command::Version => usage::version(host.out),
         Command::Help => usage::help(host.out),
+        _ if asks_help(host.rt) => usage::help(host.out),
+        _ if given != command.wanted() => {
+            usage::miscounted(host.err, name, given, command.wanted())
+        }
+        Command::Files(task) => over_files(host, task),
+        Command::Version => usage::version(host.out),
     }
 }
 
 fn main(rt: HostRuntime) -> io::Result<()> {
     let host = Host {
+        rt: &rt,
         process: rt.process(),
         out: rt.stdout(),
         err: rt.stderr(),
@@ -107,5 +96,5 @@ fn main(rt: HostRuntime) -> io::Result<()> {
     }
     let mut name = [0u8; 4096];
     let n = rt.arg(1, &mut name).unwrap_or(0);
-    run(&rt, host, &name[..n], arguments - 2)
+    run(&host, &name[..n], arguments - 2)
 }

@@ -3,12 +3,12 @@
 // of 1024; 184 columns of 1024 words and 11,295 nodes; a file of what was built has both.
 ghost use Rattle.std.specs.Prelude.{◌<◌, ◌^◌};
 
-use crate::{Host, commands};
+use crate::commands;
 use cli_messages::refusal::refusal;
 use cli_report::explain;
 use cli_report::regroup::regroup;
-use cli_report::shape::{Rooms, Shape, shape_of};
-use cli_texts::files::read;
+use cli_report::shape::{HALF_COLUMNS, HALF_NODES, Rooms, Shape, shape_of};
+use cli_texts::host::Host;
 use std::io;
 use std::rt::{Env, Files};
 
@@ -27,19 +27,17 @@ const INSTANCE: usize = 8184;
 
 const WITNESS: usize = 32768;
 
-// Half the rooms: the column words, the node words, and the words of both.
-const HALF_COLUMNS: usize = 98304;
+// Half the rooms: the node words, and the words of columns and nodes.
+const HALF_NODE_WORDS: usize = 4 * HALF_NODES;
 
-const HALF_NODES: usize = 16760;
-
-const HALF_BUILT: usize = 115064;
+const HALF_BUILT: usize = HALF_COLUMNS + HALF_NODE_WORDS;
 
 // All of them.
 const COLUMNS: usize = 188416;
 
-const NODES: usize = 45180;
+const NODE_WORDS: usize = 45180;
 
-const BUILT: usize = 233596;
+const BUILT: usize = COLUMNS + NODE_WORDS;
 
 // Room for so many words.
 fn room<const WORDS: usize>() -> [u64; WORDS] {
@@ -48,11 +46,10 @@ fn room<const WORDS: usize>() -> [u64; WORDS] {
 
 // Runs build in rooms of these sizes. That it is not inlined keeps the compiler from putting the rooms of all sizes into one frame.
 #[inline(never)]
-fn build_in<const C: usize, const N: usize>(
-    rt: &(impl Files + Env),
-    host: Host,
+fn build_in<const C: usize, const N: usize, R: Files + Env>(
+    host: &Host<R>,
     circuit: &[u64],
-    s: Shape,
+    s: &Shape,
 ) -> io::Result<()>
     requires columns { C < 2 ^ 32 }
     requires nodes { N < 2 ^ 32 }
@@ -67,26 +64,25 @@ fn build_in<const C: usize, const N: usize>(
         columns: &mut columns,
         nodes: &mut nodes,
     };
-    commands::build(rt, host, circuit, s, rooms)
+    commands::build(host, circuit, s, rooms)
 }
 
 // Runs check in rooms of these sizes, which is not inlined either.
 #[inline(never)]
-fn check_in<const B: usize>(
-    rt: &(impl Files + Env),
-    host: Host,
+fn check_in<const B: usize, R: Files + Env>(
+    host: &Host<R>,
     circuit: &[u64],
-    s: Shape,
+    s: &Shape,
 ) -> io::Result<()>
     requires { B < 2 ^ 32 }
 {
     let mut witness = room::<WITNESS>();
     let mut built = room::<B>();
-    commands::check(rt, host, circuit, s, &mut witness, &mut built)
+    commands::check(host, circuit, s, &mut witness, &mut built)
 }
 
 // Asks the questions; what the circuit asks for, unless it is refused, which is said.
-fn asked(rt: &(impl Files + Env), host: Host, circuit: &[u64]) -> io::Result<Option<Shape>> {
+fn asked<'a, R: Files + Env>(host: &Host<R>, circuit: &'a [u64]) -> io::Result<Option<Shape<'a>>> {
     println!(host.out; "asking")?;
     match shape_of(circuit) {
         Ok(s) => {
@@ -94,48 +90,48 @@ fn asked(rt: &(impl Files + Env), host: Host, circuit: &[u64]) -> io::Result<Opt
             Ok(Some(s))
         }
         Err(no) => {
-            refusal(rt, host.err, circuit, no)?;
+            refusal(host, circuit, no)?;
             Ok(None)
         }
     }
 }
 
 // Runs build in the smallest rooms that do.
-fn build(rt: &(impl Files + Env), host: Host, circuit: &[u64]) -> io::Result<()> {
-    let Some(s) = asked(rt, host, circuit)? else {
+fn build<R: Files + Env>(host: &Host<R>, circuit: &[u64]) -> io::Result<()> {
+    let Some(s) = asked(host, circuit)? else {
         return Ok(());
     };
     match s.rooms {
-        Rooms::Half => build_in::<HALF_COLUMNS, HALF_NODES>(rt, host, circuit, s),
-        Rooms::Whole => build_in::<COLUMNS, NODES>(rt, host, circuit, s),
+        Rooms::Half => build_in::<HALF_COLUMNS, HALF_NODE_WORDS, R>(host, circuit, &s),
+        Rooms::Whole => build_in::<COLUMNS, NODE_WORDS, R>(host, circuit, &s),
     }
 }
 
 // Runs check in the smallest rooms that do.
-fn check(rt: &(impl Files + Env), host: Host, circuit: &[u64]) -> io::Result<()> {
-    let Some(s) = asked(rt, host, circuit)? else {
+fn check<R: Files + Env>(host: &Host<R>, circuit: &[u64]) -> io::Result<()> {
+    let Some(s) = asked(host, circuit)? else {
         return Ok(());
     };
     match s.rooms {
-        Rooms::Half => check_in::<HALF_BUILT>(rt, host, circuit, s),
-        Rooms::Whole => check_in::<BUILT>(rt, host, circuit, s),
+        Rooms::Half => check_in::<HALF_BUILT, R>(host, circuit, &s),
+        Rooms::Whole => check_in::<BUILT, R>(host, circuit, &s),
     }
 }
 
 // Reads the circuit, which argument 2 names, and runs the command on it.
-pub fn over_files(rt: &(impl Files + Env), host: Host, task: Task) -> io::Result<()> {
+pub fn over_files<R: Files + Env>(host: &Host<R>, task: Task) -> io::Result<()> {
     let mut circuit = room::<CIRCUIT>();
     if matches!(task, Task::Build | Task::Check) {
         println!(host.out; "reading the circuit")?;
     }
-    let Some(n) = read(rt, host.err, 2, &mut circuit)? else {
+    let Some(n) = host.read(2, &mut circuit)? else {
         return Ok(());
     };
     let circuit = &circuit[..n];
     match task {
-        Task::Explain => explain::explain(rt, host.out, host.err, circuit),
-        Task::Regroup => regroup(rt, host.out, host.err, circuit),
-        Task::Build => build(rt, host, circuit),
-        Task::Check => check(rt, host, circuit),
+        Task::Explain => explain::explain(host, circuit),
+        Task::Regroup => regroup(host, circuit),
+        Task::Build => build(host, circuit),
+        Task::Check => check(host, circuit),
     }
 }
