@@ -12,7 +12,7 @@ use hyperplonk_prepare::needed::PreparedCircuit;
 // lengths, or the buffer has no room for all columns.
 pub(crate) fn fill<'a>(
     circuit: &'a [u64],
-    instance: &[u64],
+    instance: &'a [u64],
     witness: &'a [u64],
     challenges: &'a [u64],
     columns: &mut [u64],
