@@ -32,7 +32,7 @@ fn columns(out: Stdout, b: Bounds) -> io::Result<()> {
         values,
     )?;
     println!(out; "preprocess columns: {}", b.word(PREPROCESS_COUNT))?;
-    print!(out; "rounds: {}", b.rounds)?;
+    print!(out; "rounds: {}", b.rounds.count)?;
     two(
         out,
         ", witness columns in all: ",
@@ -43,8 +43,8 @@ fn columns(out: Stdout, b: Bounds) -> io::Result<()> {
 }
 
 fn expressions(out: Stdout, b: Bounds) -> io::Result<()> {
-    println!(out; "nodes: {}", b.nodes)?;
-    println!(out; "constraints: {}", b.constraints)?;
+    println!(out; "nodes: {}", b.nodes.count)?;
+    println!(out; "constraints: {}", b.constraints.count)?;
     two(
         out,
         "lookups: ",
@@ -52,7 +52,13 @@ fn expressions(out: Stdout, b: Bounds) -> io::Result<()> {
         ", pairs in all: ",
         b.word(PAIR_COUNT),
     )?;
-    two(out, "cycles: ", b.lengths, ", cells in all: ", b.cells)
+    two(
+        out,
+        "cycles: ",
+        b.lengths.count,
+        ", cells in all: ",
+        b.cells.count,
+    )
 }
 
 // The sections with their counts.
