@@ -9,7 +9,30 @@ use lists::word_at;
 // How many sections there are.
 pub const SECTIONS: usize = 10;
 
-// The words, starts and counts, and the sums that questions 7 to 11 and 18 go by.
+// Entries of as many words each: where the first begins, and how many there are.
+#[derive(Clone, Copy)]
+pub struct Entries {
+    pub start: usize,
+    pub size: usize,
+    pub count: u64,
+}
+
+impl Entries {
+    // Where entry j begins.
+    pub fn at(self, j: u64) -> usize {
+        self.start.wrapping_add(self.size.wrapping_mul(j as usize))
+    }
+
+    // Each entry's second word and what follows, up to the next entry's.
+    pub(crate) fn from_second(self) -> Entries {
+        Entries {
+            start: self.start.wrapping_add(1),
+            ..self
+        }
+    }
+}
+
+// The words, the entries of the sections, and the sums that questions 7 to 11 and 18 go by. A pair's two words are an entry each.
 #[derive(Clone, Copy)]
 pub struct Bounds<'a> {
     pub words: &'a [u64],
@@ -18,20 +41,14 @@ pub struct Bounds<'a> {
     pub polys: u64,
     pub witness: u64,
     pub user: u64,
-    pub rounds: u64,
-    pub nodes_start: usize,
-    pub nodes: u64,
-    pub constraints_start: usize,
-    pub constraints: u64,
-    pub widths_start: usize,
-    pub lookups: u64,
-    pub pairs_start: usize,
-    pub pair_words: u64,
-    pub lengths_start: usize,
-    pub lengths: u64,
-    pub cells_start: usize,
-    pub cells: u64,
-    pub groups_start: usize,
+    pub rounds: Entries,
+    pub nodes: Entries,
+    pub constraints: Entries,
+    pub widths: Entries,
+    pub pairs: Entries,
+    pub lengths: Entries,
+    pub cells: Entries,
+    pub groups: Entries,
 }
 
 impl<'a> Bounds<'a> {
@@ -43,8 +60,13 @@ impl<'a> Bounds<'a> {
     // The words of the nodes; none where the starts do not say.
     pub(crate) fn node_words(self) -> &'a [u64] {
         self.words
-            .get(self.nodes_start..self.constraints_start)
+            .get(self.nodes.start..self.constraints.start)
             .unwrap_or(&[])
+    }
+
+    // The sum of the entries' first words, 2^64 - 1 where it is more.
+    pub fn sum(self, entries: Entries) -> u64 {
+        sum_of(self.words, entries.start, entries.size, entries.count)
     }
 }
 
@@ -55,47 +77,49 @@ pub(crate) fn at_most_all(circuit: &[u64], count: u64) -> u64 {
 
 // The sum of every `step`-th word of `count`, from a place on, 2^64 - 1 where it is more.
 pub fn sum_of(circuit: &[u64], start: usize, step: usize, count: u64) -> u64 {
-    let mut sum: u64 = 0;
-    let mut at = start;
-    for _ in 0..at_most_all(circuit, count) {
-        sum = sum.saturating_add(word_at(circuit, at));
-        at = at.wrapping_add(step);
-    }
-    sum
+    let entries = Entries {
+        start,
+        size: step,
+        count,
+    };
+    (0..at_most_all(circuit, count))
+        .map(|j| word_at(circuit, entries.at(j)))
+        .fold(0, u64::saturating_add)
 }
 
-// 2^k, 0 for a k of 64 or more.
-pub(crate) fn rows_of(k: u64) -> u64 {
-    if k < 64 { 1 << k } else { 0 }
+// A count times 2^k, 0 for a k of 64 or more.
+pub fn by_rows(count: u64, k: u64) -> u64 {
+    if k < 64 { count << k } else { 0 }
 }
 
 pub fn bounds_of(circuit: &[u64]) -> Bounds<'_> {
+    let entries = |start, size, count| Entries {
+        start: word_at(circuit, start) as usize,
+        size,
+        count: word_at(circuit, count),
+    };
     let k = word_at(circuit, K_WORD);
-    let rounds_start = word_at(circuit, ROUND_START) as usize;
-    let rounds = word_at(circuit, ROUND_COUNT);
-    let witness = sum_of(circuit, rounds_start, 2, rounds);
-    let user = sum_of(circuit, rounds_start.wrapping_add(1), 2, rounds);
+    let rounds = entries(ROUND_START, 2, ROUND_COUNT);
+    let witness = sum_of(circuit, rounds.start, 2, rounds.count);
+    let user = sum_of(circuit, rounds.start.wrapping_add(1), 2, rounds.count);
     let given = word_at(circuit, INSTANCE_COUNT).wrapping_add(word_at(circuit, PREPROCESS_COUNT));
     Bounds {
         words: circuit,
         k,
-        rows: rows_of(k),
+        rows: by_rows(1, k),
         polys: given.wrapping_add(witness),
         witness,
         user,
         rounds,
-        nodes_start: word_at(circuit, NODE_START) as usize,
-        nodes: word_at(circuit, NODE_COUNT),
-        constraints_start: word_at(circuit, CONSTRAINT_START) as usize,
-        constraints: word_at(circuit, CONSTRAINT_COUNT),
-        widths_start: word_at(circuit, WIDTH_START) as usize,
-        lookups: word_at(circuit, WIDTH_COUNT),
-        pairs_start: word_at(circuit, PAIR_START) as usize,
-        pair_words: word_at(circuit, PAIR_COUNT) << 1,
-        lengths_start: word_at(circuit, LENGTH_START) as usize,
-        lengths: word_at(circuit, LENGTH_COUNT),
-        cells_start: word_at(circuit, CELL_START) as usize,
-        cells: word_at(circuit, CELL_COUNT),
-        groups_start: word_at(circuit, GROUP_START) as usize,
+        nodes: entries(NODE_START, 4, NODE_COUNT),
+        constraints: entries(CONSTRAINT_START, 1, CONSTRAINT_COUNT),
+        widths: entries(WIDTH_START, 1, WIDTH_COUNT),
+        pairs: Entries {
+            count: word_at(circuit, PAIR_COUNT) << 1,
+            ..entries(PAIR_START, 1, PAIR_COUNT)
+        },
+        lengths: entries(LENGTH_START, 1, LENGTH_COUNT),
+        cells: entries(CELL_START, 2, CELL_COUNT),
+        groups: entries(GROUP_START, 1, WIDTH_COUNT),
     }
 }

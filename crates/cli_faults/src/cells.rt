@@ -1,48 +1,43 @@
 // Faults of cells, for question 11.
 use crate::bounds::Bounds;
 
-// The first cell of the cycle that cell j stands in.
-fn cycle_of(b: Bounds, j: u64) -> u64 {
-    let mut first: u64 = 0;
-    let mut at = b.lengths_start;
-    for _ in 0..b.lengths {
-        let next = first.wrapping_add(b.word(at));
-        if j < next {
-            return first;
+impl Bounds<'_> {
+    // The first cell of the cycle that cell j stands in.
+    fn cycle_of(self, j: u64) -> u64 {
+        let mut first: u64 = 0;
+        for i in 0..self.lengths.count {
+            let next = first.wrapping_add(self.word(self.lengths.at(i)));
+            if j < next {
+                return first;
+            }
+            first = next;
         }
-        first = next;
-        at = at.wrapping_add(1);
+        first
     }
-    first
-}
 
-// Where the cells from `first` to before j have that of j.
-fn seen(b: Bounds, first: u64, j: u64, cell: usize) -> Option<usize> {
-    let polynomial = b.word(cell);
-    let row = b.word(cell.wrapping_add(1));
-    let mut at = b.cells_start.wrapping_add((first << 1) as usize);
-    for _ in first..j {
-        if b.word(at) == polynomial && b.word(at.wrapping_add(1)) == row {
+    // Do the cells that stand at two places have the same polynomial and row?
+    fn is_same_cell(self, at: usize, other: usize) -> bool {
+        let row = self.word(at.wrapping_add(1));
+        self.word(at) == self.word(other) && row == self.word(other.wrapping_add(1))
+    }
+
+    // Where cell j stood before in its cycle.
+    pub fn stood(self, j: u64) -> Option<usize> {
+        let cell = self.cells.at(j);
+        (self.cycle_of(j)..j)
+            .find(|i| self.is_same_cell(self.cells.at(*i), cell))
+            .map(|i| self.cells.at(i))
+    }
+
+    // Question 11, of cell j, which stands at a place.
+    pub(crate) fn cell_fault(self, at: usize, j: u64) -> Option<usize> {
+        let row = at.wrapping_add(1);
+        if self.polys <= self.word(at) {
             return Some(at);
         }
-        at = at.wrapping_add(2);
+        if self.word(row) == 0 || self.rows <= self.word(row) {
+            return Some(row);
+        }
+        self.stood(j).map(|_| at)
     }
-    None
-}
-
-// Where cell j, which stands at a place, stood before in its cycle.
-pub fn stood(b: Bounds, at: usize, j: u64) -> Option<usize> {
-    seen(b, cycle_of(b, j), j, at)
-}
-
-// Question 11, of cell j, which stands at a place.
-pub(crate) fn cell_fault(b: Bounds, at: usize, j: u64) -> Option<usize> {
-    let row = at.wrapping_add(1);
-    if b.polys <= b.word(at) {
-        return Some(at);
-    }
-    if b.word(row) == 0 || b.rows <= b.word(row) {
-        return Some(row);
-    }
-    stood(b, at, j).map(|_| at)
 }

@@ -1,50 +1,15 @@
 // Degrees, for question 10.
 use crate::bounds::Bounds;
-use crate::groups::{first_of, lookup_start, lookups_in, width_of};
 use backend_sections::contents::STATED_WORD;
 
 // The degree of a group, where that of a root is known only to be above 1024: more than 1 and nine times 1024.
 pub const ABOVE: u64 = 9218;
-
-// The degree of a root, up to 1025; 0 where there is no such node.
-pub fn degree_of(b: Bounds, root: u64) -> u64 {
-    let nodes = b.node_words();
-    if root >= (nodes.len() / 4) as u64 {
-        return 0;
-    }
-    expression_degree::degree_of(nodes, root as usize)
-}
-
-// A constraint's root whose degree is too large.
-pub(crate) fn degree_fault(b: Bounds, at: usize) -> Option<usize> {
-    let degree = degree_of(b, b.word(at));
-    let stated = b.word(STATED_WORD);
-    if 1024 < degree || stated != 0 && stated <= degree {
-        return Some(at);
-    }
-    None
-}
 
 // Which side of a lookup's pairs.
 #[derive(Clone, Copy)]
 enum Side {
     Input,
     Table,
-}
-
-// The largest degree of a lookup's inputs or tables, up to 1025.
-fn lookup_degree(b: Bounds, i: u64, side: Side) -> u64 {
-    let start = lookup_start(b, i);
-    let mut at = match side {
-        Side::Input => start,
-        Side::Table => start.wrapping_add(1),
-    };
-    let mut most: u64 = 0;
-    for _ in 0..width_of(b, i) {
-        most = most.max(degree_of(b, b.word(at)));
-        at = at.wrapping_add(2);
-    }
-    most
 }
 
 // The sum, ABOVE where one of the two is more than 1024 or ABOVE.
@@ -55,20 +20,48 @@ fn degrees_sum(sum: u64, degree: u64) -> u64 {
     sum.wrapping_add(degree)
 }
 
-// The degree of the constraint of the group that begins with lookup `first`: 1, those of the inputs and that of the table.
-pub fn group_degree(b: Bounds, first: u64) -> u64 {
-    let mut sum = degrees_sum(1, lookup_degree(b, first, Side::Table));
-    for n in 0..lookups_in(b, first) {
-        let i = first.wrapping_add(n);
-        sum = degrees_sum(sum, lookup_degree(b, i, Side::Input));
+impl Bounds<'_> {
+    // The degree of a root, up to 1025; none where there is no such node.
+    pub fn degree_of(self, root: u64) -> Option<u64> {
+        let nodes = self.node_words();
+        if root >= (nodes.len() / 4) as u64 {
+            return None;
+        }
+        Some(expression_degree::degree_of(nodes, root as usize))
     }
-    sum
-}
 
-// The place of the first pair of a group whose degree is too large; i is the number of its first lookup. None for another lookup.
-pub(crate) fn group_fault(b: Bounds, i: u64) -> Option<usize> {
-    if first_of(b, i) == i && 1024 < group_degree(b, i) {
-        return Some(lookup_start(b, i));
+    // A constraint's root whose degree is too large.
+    pub(crate) fn degree_fault(self, at: usize) -> Option<usize> {
+        let degree = self.degree_of(self.word(at))?;
+        let stated = self.word(STATED_WORD);
+        (1024 < degree || stated != 0 && stated <= degree).then_some(at)
     }
-    None
+
+    // The largest degree of a lookup's inputs or tables, up to 1025.
+    fn lookup_degree(self, i: u64, side: Side) -> u64 {
+        let pairs = self.pairs_of(i);
+        let roots = match side {
+            Side::Input => pairs,
+            Side::Table => pairs.from_second(),
+        };
+        (0..roots.count)
+            .filter_map(|j| self.degree_of(self.word(roots.at(j))))
+            .max()
+            .unwrap_or(0)
+    }
+
+    // The degree of the constraint of the group that begins with lookup `first`: 1, those of the inputs and that of the table.
+    pub fn group_degree(self, first: u64) -> u64 {
+        let table = degrees_sum(1, self.lookup_degree(first, Side::Table));
+        (0..self.lookups_in(first))
+            .map(|n| self.lookup_degree(first.wrapping_add(n), Side::Input))
+            .fold(table, degrees_sum)
+    }
+
+    // The place of the first pair of a group whose degree is too large; i is the number of its first lookup. None for another
+    // lookup.
+    pub(crate) fn group_fault(self, i: u64) -> Option<usize> {
+        let large = self.first_of(i) == i && 1024 < self.group_degree(i);
+        large.then(|| self.pairs_of(i).start)
+    }
 }

@@ -1,47 +1,47 @@
 // How often and by which words a node is named, for question 7.
 use crate::bounds::Bounds;
-use crate::nodes::{names_first, uses_second};
+use crate::nodes::{NodeWord, names_first, uses_second};
 
-// Does the word at a place name a node, as word `part` of a node, from 0?
-fn node_names(b: Bounds, place: usize, part: usize) -> bool {
-    let at = place.wrapping_sub(part);
-    let kind = b.word(at);
-    let value = b.word(at.wrapping_add(3));
-    match part {
-        1 => names_first(kind),
-        2 => uses_second(kind, value),
-        _ => false,
+impl Bounds<'_> {
+    // Does the word at a place of the nodes name a node?
+    fn node_names(self, place: usize) -> bool {
+        let (n, word) = self.node_word(place);
+        let node = self.node(n);
+        match word {
+            NodeWord::First => names_first(node.kind),
+            NodeWord::Second => uses_second(node.kind, node.value),
+            NodeWord::Kind | NodeWord::Value => false,
+        }
     }
-}
 
-// Does the word at a place name a node: in the nodes, or as a root?
-fn names(b: Bounds, place: usize) -> bool {
-    if place < b.constraints_start {
-        let part = place.wrapping_sub(b.nodes_start) % 4;
-        return node_names(b, place, part);
+    // Does the word at a place name a node: in the nodes, or as a root?
+    fn names(self, place: usize) -> bool {
+        if place < self.constraints.start {
+            return self.node_names(place);
+        }
+        let constraint = place.wrapping_sub(self.constraints.start) as u64;
+        constraint < self.constraints.count || self.pairs.start <= place
     }
-    let constraint = place.wrapping_sub(b.constraints_start) as u64;
-    constraint < b.constraints || b.pairs_start <= place
-}
 
-// Does the word at a place name node n?
-fn is_name(b: Bounds, place: usize, n: u64) -> bool {
-    b.word(place) == n && names(b, place)
-}
+    // Does the word at a place name node n?
+    fn is_name(self, place: usize, n: u64) -> bool {
+        self.word(place) == n && self.names(place)
+    }
 
-// The first place from one on that names node n.
-pub fn next_name(b: Bounds, from: usize, n: u64) -> Option<usize> {
-    (from..b.lengths_start).find(|at| is_name(b, *at, n))
-}
+    // The first place from one on that names node n.
+    pub fn next_name(self, from: usize, n: u64) -> Option<usize> {
+        (from..self.lengths.start).find(|at| self.is_name(*at, n))
+    }
 
-// How often node n is named.
-pub fn times(b: Bounds, n: u64) -> u64 {
-    (b.nodes_start..b.lengths_start)
-        .filter(|at| is_name(b, *at, n))
-        .count() as u64
-}
+    // How often node n is named.
+    pub fn times(self, n: u64) -> u64 {
+        (self.nodes.start..self.lengths.start)
+            .filter(|at| self.is_name(*at, n))
+            .count() as u64
+    }
 
-// "each is named exactly once, by a node or as a root"
-pub(crate) fn once_fault(b: Bounds, at: usize, n: u64) -> Option<usize> {
-    if times(b, n) == 1 { None } else { Some(at) }
+    // "each is named exactly once, by a node or as a root"
+    pub(crate) fn once_fault(self, at: usize, n: u64) -> Option<usize> {
+        (self.times(n) != 1).then_some(at)
+    }
 }

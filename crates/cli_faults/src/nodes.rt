@@ -6,7 +6,45 @@ use expression::kind::{
     CHALLENGE, CONSTANT, DISTRIBUTE_POWERS, EQ_XY, LAGRANGE, NEGATED, POLYNOMIAL, PRODUCT, SCALED,
     SUM,
 };
-use expression::node::SIGNED_OFFSET;
+use expression::node::{Node, SIGNED_OFFSET};
+use std::fmt;
+
+// The words of a node, in their order.
+#[derive(Clone, Copy)]
+pub enum NodeWord {
+    Kind,
+    First,
+    Second,
+    Value,
+}
+
+impl NodeWord {
+    // The word that stands so many words after the start of the nodes.
+    pub fn of(offset: usize) -> NodeWord {
+        match offset % 4 {
+            0 => NodeWord::Kind,
+            1 => NodeWord::First,
+            2 => NodeWord::Second,
+            _ => NodeWord::Value,
+        }
+    }
+
+    // Its place in a node that begins at a place.
+    pub(crate) fn in_node(self, at: usize) -> usize {
+        at.wrapping_add(self as usize)
+    }
+}
+
+impl fmt::Display for NodeWord {
+    fn fmt<W: fmt::Write>(&self, f: &mut fmt::Formatter<W>) -> fmt::Result {
+        f.write_str(match self {
+            NodeWord::Kind => "kind",
+            NodeWord::First => "first",
+            NodeWord::Second => "second",
+            NodeWord::Value => "value",
+        })
+    }
+}
 
 // What is wrong with a word of a node: it is not used, and not 0; it is above the largest value; it names a node that is not lower, an
 // Item, a node that is no Item, the last Item.
@@ -18,17 +56,6 @@ pub enum Wrong {
     Item,
     NoItem,
     LastItem,
-}
-
-// Question 6: Constants and scalars below p.
-pub(crate) fn value_fault(b: Bounds, at: usize) -> Option<usize> {
-    let kind = b.word(at);
-    let value = at.wrapping_add(3);
-    let held = kind == CONSTANT || kind == SCALED;
-    if held && !is_element(b.word(value)) {
-        return Some(value);
-    }
-    None
 }
 
 // Is it one of the kinds?
@@ -65,100 +92,9 @@ pub fn largest(kind: u64) -> u64 {
     }
 }
 
-// The place of node n's first word.
-fn node_at(b: Bounds, n: u64) -> usize {
-    b.nodes_start.wrapping_add((n << 2) as usize)
-}
-
-// What is wrong with n as the number of a node below `limit` that is an Item, or is none, as asked.
-pub(crate) fn name_wrong(b: Bounds, limit: u64, n: u64, item: bool) -> Option<Wrong> {
-    if limit <= n {
-        return Some(Wrong::High);
-    }
-    let is_item = b.word(node_at(b, n)) == kind::ITEM;
-    match (is_item, item) {
-        (true, false) => Some(Wrong::Item),
-        (false, true) => Some(Wrong::NoItem),
-        _ => None,
-    }
-}
-
 // Does the kind name a node first?
 pub(crate) fn names_first(kind: u64) -> bool {
     (NEGATED..=kind::ITEM).contains(&kind)
-}
-
-// What is wrong with the first word of node n, which begins at a place: "an unused word is 0", "A node names lower nodes only",
-// and an Item is "named only as the second of kind 11 or 12".
-pub fn first_wrong(b: Bounds, at: usize, n: u64) -> Option<Wrong> {
-    let kind = b.word(at);
-    let first = b.word(at.wrapping_add(1));
-    if !uses_first(kind) && first != 0 {
-        return Some(Wrong::Unused);
-    }
-    if names_first(kind) {
-        return name_wrong(b, n, first, false);
-    }
-    None
-}
-
-// Is the node the last Item, by its value?
-fn is_last(b: Bounds, n: u64) -> bool {
-    b.word(node_at(b, n).wrapping_add(3)) != 1
-}
-
-// What is wrong with the Item that kind 11 or 12 names second: after 11 it is not the last.
-fn item_wrong(b: Bounds, limit: u64, kind: u64, n: u64) -> Option<Wrong> {
-    let wrong = name_wrong(b, limit, n, true);
-    if wrong.is_none() && kind == DISTRIBUTE_POWERS && is_last(b, n) {
-        return Some(Wrong::LastItem);
-    }
-    wrong
-}
-
-// What is wrong with the second word of node n. Of an Item whose value is above 1 it is not known whether it names another.
-pub fn second_wrong(b: Bounds, at: usize, n: u64) -> Option<Wrong> {
-    let kind = b.word(at);
-    let second = b.word(at.wrapping_add(2));
-    let value = b.word(at.wrapping_add(3));
-    if !uses_second(kind, value) {
-        let known = kind != kind::ITEM || value == 0;
-        if known && second != 0 {
-            return Some(Wrong::Unused);
-        }
-        return None;
-    }
-    if kind < DISTRIBUTE_POWERS {
-        return name_wrong(b, n, second, false);
-    }
-    item_wrong(b, n, kind, second)
-}
-
-// What is wrong with the value of a node.
-pub fn value_wrong(b: Bounds, at: usize) -> Option<Wrong> {
-    let kind = b.word(at);
-    let value = b.word(at.wrapping_add(3));
-    if !uses_value(kind) && value != 0 {
-        return Some(Wrong::Unused);
-    }
-    if largest(kind) < value {
-        return Some(Wrong::Large);
-    }
-    None
-}
-
-// Question 7, of one node by itself: kind, first, second and value in this order.
-pub(crate) fn layout_fault(b: Bounds, at: usize, n: u64) -> Option<usize> {
-    if !is_kind(b.word(at)) {
-        return Some(at);
-    }
-    if first_wrong(b, at, n).is_some() {
-        return Some(at.wrapping_add(1));
-    }
-    if second_wrong(b, at, n).is_some() {
-        return Some(at.wrapping_add(2));
-    }
-    value_wrong(b, at).map(|_| at.wrapping_add(3))
 }
 
 // Is a kept rotation from -k to k?
@@ -166,15 +102,104 @@ fn is_near(kept: u64, k: u64) -> bool {
     kept.abs_diff(SIGNED_OFFSET) <= k
 }
 
-// Question 8.
-pub(crate) fn range_fault(b: Bounds, at: usize) -> Option<usize> {
-    let first = at.wrapping_add(1);
-    let value = at.wrapping_add(3);
-    match b.word(at) {
-        EQ_XY => Some(at),
-        POLYNOMIAL if b.polys <= b.word(first) => Some(first),
-        POLYNOMIAL if !is_near(b.word(value), b.k) => Some(value),
-        CHALLENGE if b.user <= b.word(first) => Some(first),
-        _ => None,
+impl Bounds<'_> {
+    // Node n.
+    pub fn node(self, n: u64) -> Node {
+        let at = self.nodes.at(n);
+        Node {
+            kind: self.word(at),
+            first: self.word(NodeWord::First.in_node(at)),
+            second: self.word(NodeWord::Second.in_node(at)),
+            value: self.word(NodeWord::Value.in_node(at)),
+        }
+    }
+
+    // The number of the node that a place of the nodes stands in, and which of its words it is.
+    pub fn node_word(self, place: usize) -> (u64, NodeWord) {
+        let offset = place.wrapping_sub(self.nodes.start);
+        ((offset / 4) as u64, NodeWord::of(offset))
+    }
+
+    // Question 6, of node n, which begins at a place: Constants and scalars below p.
+    pub(crate) fn value_fault(self, at: usize, n: u64) -> Option<usize> {
+        let node = self.node(n);
+        let held = node.kind == CONSTANT || node.kind == SCALED;
+        (held && !is_element(node.value)).then_some(NodeWord::Value.in_node(at))
+    }
+
+    // What is wrong with n as the number of a node below `limit` that is an Item, or is none, as asked.
+    pub(crate) fn name_wrong(self, limit: u64, n: u64, item: bool) -> Option<Wrong> {
+        if limit <= n {
+            return Some(Wrong::High);
+        }
+        match (self.node(n).kind == kind::ITEM, item) {
+            (true, false) => Some(Wrong::Item),
+            (false, true) => Some(Wrong::NoItem),
+            _ => None,
+        }
+    }
+
+    // What is wrong with the first word of node n: "an unused word is 0", "A node names lower nodes only", and an Item is "named
+    // only as the second of kind 11 or 12".
+    pub fn first_wrong(self, n: u64) -> Option<Wrong> {
+        let node = self.node(n);
+        if names_first(node.kind) {
+            return self.name_wrong(n, node.first, false);
+        }
+        (!uses_first(node.kind) && node.first != 0).then_some(Wrong::Unused)
+    }
+
+    // What is wrong with the Item that kind 11 or 12 names second: after 11 it is not the last, by its value.
+    fn item_wrong(self, limit: u64, kind: u64, n: u64) -> Option<Wrong> {
+        self.name_wrong(limit, n, true).or_else(|| {
+            let last = kind == DISTRIBUTE_POWERS && self.node(n).value != 1;
+            last.then_some(Wrong::LastItem)
+        })
+    }
+
+    // What is wrong with the second word of node n. Of an Item whose value is above 1 it is not known whether it names another.
+    pub fn second_wrong(self, n: u64) -> Option<Wrong> {
+        let node = self.node(n);
+        if !uses_second(node.kind, node.value) {
+            let known = node.kind != kind::ITEM || node.value == 0;
+            return (known && node.second != 0).then_some(Wrong::Unused);
+        }
+        if node.kind < DISTRIBUTE_POWERS {
+            return self.name_wrong(n, node.second, false);
+        }
+        self.item_wrong(n, node.kind, node.second)
+    }
+
+    // What is wrong with the value of node n.
+    pub fn value_wrong(self, n: u64) -> Option<Wrong> {
+        let node = self.node(n);
+        if !uses_value(node.kind) && node.value != 0 {
+            return Some(Wrong::Unused);
+        }
+        (largest(node.kind) < node.value).then_some(Wrong::Large)
+    }
+
+    // Question 7, of node n by itself, which begins at a place: kind, first, second and value in this order.
+    pub(crate) fn layout_fault(self, at: usize, n: u64) -> Option<usize> {
+        if !is_kind(self.word(at)) {
+            return Some(at);
+        }
+        let first = self.first_wrong(n).map(|_| NodeWord::First);
+        let word = first
+            .or_else(|| self.second_wrong(n).map(|_| NodeWord::Second))
+            .or_else(|| self.value_wrong(n).map(|_| NodeWord::Value))?;
+        Some(word.in_node(at))
+    }
+
+    // Question 8, of node n, which begins at a place.
+    pub(crate) fn range_fault(self, at: usize, n: u64) -> Option<usize> {
+        let node = self.node(n);
+        match node.kind {
+            EQ_XY => Some(at),
+            POLYNOMIAL if self.polys <= node.first => Some(NodeWord::First.in_node(at)),
+            POLYNOMIAL if !is_near(node.value, self.k) => Some(NodeWord::Value.in_node(at)),
+            CHALLENGE if self.user <= node.first => Some(NodeWord::First.in_node(at)),
+            _ => None,
+        }
     }
 }

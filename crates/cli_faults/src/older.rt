@@ -6,28 +6,20 @@ use lists::word_at;
 // The words of its contents.
 pub const OLDER_CONTENTS: usize = 20;
 
-// The words of section s, whose start stands at a place.
-fn size_at(circuit: &[u64], s: usize, at: usize) -> u64 {
-    words_in(
-        word_at(circuit, K_WORD),
-        s,
-        word_at(circuit, at.wrapping_add(1)),
-    )
-}
-
-// The start of section s, which stands at a place, where it is not where the section before it ends, and its count, where there are
-// fewer words.
-fn section_fault(circuit: &[u64], s: usize, at: usize, start: u64) -> Option<usize> {
+// Where section s ends by its count, if it begins at `start` and the words have room for it; else the place of its start, where that is
+// another, or of its count.
+fn section_end(circuit: &[u64], s: usize, start: u64) -> Result<u64, usize> {
     let words = circuit.len() as u64;
+    let at = FIRST_START.wrapping_add(s.wrapping_mul(2));
     if word_at(circuit, at) != start {
-        return Some(at);
+        return Err(at);
     }
-    let count = at.wrapping_add(1);
-    let end = start.wrapping_add(size_at(circuit, s, at));
-    if words < word_at(circuit, count) || words < end {
-        return Some(count);
+    let count = word_at(circuit, at.wrapping_add(1));
+    let end = start.wrapping_add(words_in(word_at(circuit, K_WORD), s, count));
+    if words < count || words < end {
+        return Err(at.wrapping_add(1));
     }
-    None
+    Ok(end)
 }
 
 // The first word that is not as in that layout: the place after the last where words follow the last section.
@@ -35,20 +27,12 @@ pub fn older_fault(circuit: &[u64]) -> Option<usize> {
     if 10 < word_at(circuit, K_WORD) {
         return Some(K_WORD);
     }
-    let mut end = OLDER_CONTENTS as u64;
-    let mut at = FIRST_START;
-    for s in 0..GROUPS {
-        let fault = section_fault(circuit, s, at, end);
-        if fault.is_some() {
-            return fault;
-        }
-        end = end.wrapping_add(size_at(circuit, s, at));
-        at = at.wrapping_add(2);
+    match (0..GROUPS).try_fold(OLDER_CONTENTS as u64, |start, s| {
+        section_end(circuit, s, start)
+    }) {
+        Ok(end) => (end != circuit.len() as u64).then_some(circuit.len()),
+        Err(place) => Some(place),
     }
-    if end == circuit.len() as u64 {
-        return None;
-    }
-    Some(circuit.len())
 }
 
 // Have the words that layout?

@@ -1,7 +1,9 @@
 // Which question was answered no, where the first offending word stands, and what is wrong with it.
 use crate::question;
 use backend_sections::contents::{CONSTRAINT_START, NODE_START};
+use cli_faults::bounds::bounds_of;
 use cli_faults::fault::place_of;
+use cli_faults::nodes::NodeWord;
 use cli_faults::older::is_older;
 use cli_reasons::section::{section_name, section_of};
 use cli_reasons::{groups, late, layout, starts};
@@ -14,23 +16,13 @@ use std::rt::{Env, Files};
 // The argument that names the circuit's file.
 const CIRCUIT: usize = 2;
 
-// Which of a node's words it is.
-// Kept: `part` is a place among the node's four words, and chooses only a text.
-fn node_word(err: Stderr, part: u64) -> io::Result<()> {
-    match part {
-        0 => print!(err; " (its kind)"),
-        1 => print!(err; " (its first)"),
-        2 => print!(err; " (its second)"),
-        _ => print!(err; " (its value)"),
-    }
-}
-
+// The node that a word stands in, if it stands in the nodes, and which of its words it is.
 fn node_of(err: Stderr, circuit: &[u64], at: u64) -> io::Result<()> {
     let start = word_at(circuit, NODE_START);
     if (start..word_at(circuit, CONSTRAINT_START)).contains(&at) {
-        let part = at.wrapping_sub(start);
-        print!(err; ", node {}", part / 4)?;
-        node_word(err, part % 4)?;
+        let offset = at.wrapping_sub(start);
+        let word = NodeWord::of(offset as usize);
+        print!(err; ", node {} (its {word})", offset / 4)?;
     }
     Ok(())
 }
@@ -56,8 +48,11 @@ fn offending<R: Files + Env>(
     host.name(CIRCUIT)?;
     print!(err; ": the first offending word is ")?;
     stands(host, place)?;
-    print!(err; ", its value {}; it stands in ", word_at(circuit, place))?;
-    section_name(err, section_of(circuit, place as u64))?;
+    let section = section_name(section_of(circuit, place as u64));
+    print!(err;
+        ", its value {}; it stands in {section}",
+        word_at(circuit, place)
+    )?;
     if no > 4 {
         node_of(err, circuit, place as u64)?;
     }
@@ -67,7 +62,7 @@ fn offending<R: Files + Env>(
 // A cell that stood in its cycle before.
 fn again<R: Files + Env>(host: &Host<R>, circuit: &[u64], place: usize) -> io::Result<()> {
     let err = host.err;
-    if let Some(before) = late::stood_before(circuit, place) {
+    if let Some(before) = late::stood_before(bounds_of(circuit), place) {
         print!(err; "the same cell stands in its cycle before, at ")?;
         stands(host, before)?;
         println!(err; "")?;
@@ -79,18 +74,19 @@ fn again<R: Files + Env>(host: &Host<R>, circuit: &[u64], place: usize) -> io::R
 // Kept: the numbers are document 01's names of the questions, and each chooses only what is said.
 fn why<R: Files + Env>(host: &Host<R>, circuit: &[u64], no: u64, place: usize) -> io::Result<()> {
     let err = host.err;
+    let b = bounds_of(circuit);
     match no {
-        2 => starts::size_why(err, circuit),
-        3 => starts::limit_why(err, circuit, place),
-        4 => starts::start_why(err, circuit, place),
-        5 => late::columns_why(err, circuit, place),
-        6 => late::value_why(err, circuit, place),
-        7 => layout::layout_why(err, circuit, place),
-        8 => late::range_why(err, circuit, place),
-        9 => late::width_why(err, circuit, place),
-        10 => late::degree_why(err, circuit, place),
-        18 => groups::group_why(err, circuit, place),
-        _ => late::cell_why(err, circuit, place),
+        2 => starts::size_why(err, b),
+        3 => starts::limit_why(err, b, place),
+        4 => starts::start_why(err, b, place),
+        5 => late::columns_why(err, b, place),
+        6 => late::value_why(err, b, place),
+        7 => layout::layout_why(err, b, place),
+        8 => late::range_why(err, b, place),
+        9 => late::width_why(err, b, place),
+        10 => late::degree_why(err, b, place),
+        18 => groups::group_why(err, b, place),
+        _ => late::cell_why(err, b, place),
     }?;
     if no == 11 {
         again(host, circuit, place)?;
@@ -108,7 +104,7 @@ fn length<R: Files + Env>(host: &Host<R>, circuit: &[u64], no: u64) -> io::Resul
             circuit.len()
         )?;
     } else {
-        starts::length_why(err, circuit)?;
+        starts::length_why(err, bounds_of(circuit))?;
     }
     host.line_ends(CIRCUIT)
 }

@@ -23,19 +23,19 @@ fn columns(out: Stdout, b: Bounds) -> io::Result<()> {
     println!(out; "preprocess columns: {}", b.word(PREPROCESS_COUNT))?;
     println!(out;
         "rounds: {}, witness columns in all: {}, user challenges in all: {}",
-        b.rounds, b.witness, b.user
+        b.rounds.count, b.witness, b.user
     )
 }
 
 fn expressions(out: Stdout, b: Bounds) -> io::Result<()> {
-    println!(out; "nodes: {}", b.nodes)?;
-    println!(out; "constraints: {}", b.constraints)?;
+    println!(out; "nodes: {}", b.nodes.count)?;
+    println!(out; "constraints: {}", b.constraints.count)?;
     println!(out;
         "lookups: {}, pairs in all: {}",
         b.word(WIDTH_COUNT),
         b.word(PAIR_COUNT)
     )?;
-    println!(out; "cycles: {}, cells in all: {}", b.lengths, b.cells)
+    println!(out; "cycles: {}, cells in all: {}", b.lengths.count, b.cells.count)
 }
 
 // The sections with their counts.

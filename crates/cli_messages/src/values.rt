@@ -1,7 +1,7 @@
 // What questions 12, 13 and 16 found: lengths that are not the exact ones, values that are not below p.
 use backend_sections::contents::{INSTANCE_COUNT, INSTANCE_START, K_WORD};
 use backend_sections::words::is_element;
-use cli_faults::bounds::{bounds_of, sum_of};
+use cli_faults::bounds::{bounds_of, by_rows, sum_of};
 use cli_texts::host::Host;
 use field::MODULUS;
 use lists::word_at;
@@ -120,7 +120,7 @@ impl<'a> Sum<'a> {
 // The witness words needed.
 fn witness_words(circuit: &[u64]) -> u64 {
     let b = bounds_of(circuit);
-    if b.k < 64 { b.witness << b.k } else { 0 }
+    by_rows(b.witness, b.k)
 }
 
 fn instance_words(circuit: &[u64]) -> u64 {

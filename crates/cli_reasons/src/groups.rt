@@ -1,33 +1,23 @@
 // What is said of question 18: a group number that breaks the rule, a table that is not that of its group's first lookup.
-use cli_faults::bounds::{Bounds, bounds_of};
-use cli_faults::groups::{first_of, lookup_start, number_of, width_of};
+use crate::late::{behind, last};
+use cli_faults::bounds::Bounds;
 use std::io;
 use std::io::Stderr;
-
-// One less.
-fn last(count: u64) -> u64 {
-    count.wrapping_sub(1)
-}
-
-// How far a place is behind a start.
-fn behind(place: usize, start: usize) -> u64 {
-    place.wrapping_sub(start) as u64
-}
 
 // The lookup that a place stands in, of the pairs, or 7 where it stands in none of those before.
 pub(crate) fn lookup_at(b: Bounds, place: usize) -> u64 {
     (0..7)
-        .find(|i| place < lookup_start(b, *i + 1))
+        .find(|i| place < b.pairs_of(*i + 1).start)
         .unwrap_or(7)
 }
 
 // "first 0, each next the same or one more"
 fn number_why(err: Stderr, b: Bounds, i: u64) -> io::Result<()> {
-    print!(err; "lookup {i} has group number {}", number_of(b, i))?;
+    print!(err; "lookup {i} has group number {}", b.number_of(i))?;
     if i == 0 {
         return println!(err; ", expected 0");
     }
-    let before = number_of(b, last(i));
+    let before = b.number_of(last(i));
     println!(err;
         ", expected {before} or {}: that of lookup {}, or one more",
         before.wrapping_add(1),
@@ -39,25 +29,25 @@ fn number_why(err: Stderr, b: Bounds, i: u64) -> io::Result<()> {
 fn against(err: Stderr, b: Bounds, i: u64) -> io::Result<()> {
     print!(err;
         "lookup {}, the first of group {}",
-        first_of(b, i),
-        number_of(b, i)
+        b.first_of(i),
+        b.number_of(i)
     )
 }
 
 fn width_why(err: Stderr, b: Bounds, i: u64) -> io::Result<()> {
     print!(err;
         "the table of lookup {i} has width {}, that of ",
-        width_of(b, i)
+        b.width_of(i)
     )?;
     against(err, b, i)?;
-    println!(err; ", has width {}", width_of(b, first_of(b, i)))
+    println!(err; ", has width {}", b.width_of(b.first_of(i)))
 }
 
 fn tree_why(err: Stderr, b: Bounds, place: usize) -> io::Result<()> {
     let i = lookup_at(b, place);
     print!(err;
         "table expression {} of lookup {i}, node {}, is not the same tree as that of ",
-        behind(place, lookup_start(b, i)) / 2,
+        behind(place, b.pairs_of(i).start) / 2,
         b.word(place)
     )?;
     against(err, b, i)?;
@@ -65,13 +55,12 @@ fn tree_why(err: Stderr, b: Bounds, place: usize) -> io::Result<()> {
 }
 
 // Question 18.
-pub fn group_why(err: Stderr, circuit: &[u64], place: usize) -> io::Result<()> {
-    let b = bounds_of(circuit);
-    if b.groups_start <= place {
-        return number_why(err, b, behind(place, b.groups_start));
+pub fn group_why(err: Stderr, b: Bounds, place: usize) -> io::Result<()> {
+    if b.groups.start <= place {
+        return number_why(err, b, behind(place, b.groups.start));
     }
-    if place < b.pairs_start {
-        return width_why(err, b, behind(place, b.widths_start));
+    if place < b.pairs.start {
+        return width_why(err, b, behind(place, b.widths.start));
     }
     tree_why(err, b, place)
 }

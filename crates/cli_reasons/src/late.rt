@@ -1,27 +1,23 @@
 // What is said of questions 5, 6, 8, 9, 10 and 11.
 use crate::groups::lookup_at;
-use backend_sections::contents::{
-    CONSTRAINT_COUNT, INSTANCE_START, PREPROCESS_START, ROUND_START, STATED_WORD,
-};
-use cli_faults::bounds::{Bounds, bounds_of};
-use cli_faults::cells::stood;
-use cli_faults::degrees::{ABOVE, degree_of, group_degree};
-use cli_faults::groups::lookups_in;
+use backend_sections::contents::{CONSTRAINT_COUNT, INSTANCE_START, PREPROCESS_START, STATED_WORD};
+use cli_faults::bounds::Bounds;
+use cli_faults::degrees::ABOVE;
+use cli_faults::nodes::NodeWord;
 use expression::kind::POLYNOMIAL;
 use expression::node::SIGNED_OFFSET;
 use field::MODULUS;
-use lists::word_at;
 use std::io;
 use std::io::Stderr;
 
 // One less than a count.
-fn last(count: u64) -> u64 {
+pub(crate) fn last(count: u64) -> u64 {
     count.wrapping_sub(1)
 }
 
 // How far a place is behind a start.
-fn behind(place: usize, start: u64) -> u64 {
-    (place as u64).wrapping_sub(start)
+pub(crate) fn behind(place: usize, start: usize) -> u64 {
+    place.wrapping_sub(start) as u64
 }
 
 fn round_why(err: Stderr, part: u64) -> io::Result<()> {
@@ -35,35 +31,25 @@ fn round_why(err: Stderr, part: u64) -> io::Result<()> {
 }
 
 // Question 5.
-pub fn columns_why(err: Stderr, circuit: &[u64], place: usize) -> io::Result<()> {
-    let b = bounds_of(circuit);
-    if (place as u64) < word_at(circuit, PREPROCESS_START) {
+pub fn columns_why(err: Stderr, b: Bounds, place: usize) -> io::Result<()> {
+    if (place as u64) < b.word(PREPROCESS_START) {
         return println!(err;
             "instance column {} has {} values, at most {}",
-            behind(place, word_at(circuit, INSTANCE_START)),
-            word_at(circuit, place),
+            behind(place, b.word(INSTANCE_START) as usize),
+            b.word(place),
             last(b.rows)
         );
     }
-    round_why(err, behind(place, word_at(circuit, ROUND_START)))
-}
-
-// The column of a word of the preprocess columns.
-fn column_of(part: u64, k: u64) -> u64 {
-    if k < 64 {
-        return part >> k;
-    }
-    0
+    round_why(err, behind(place, b.rounds.start))
 }
 
 // Question 6.
-pub fn value_why(err: Stderr, circuit: &[u64], place: usize) -> io::Result<()> {
-    let b = bounds_of(circuit);
-    if (place as u64) < word_at(circuit, ROUND_START) {
-        let part = behind(place, word_at(circuit, PREPROCESS_START));
+pub fn value_why(err: Stderr, b: Bounds, place: usize) -> io::Result<()> {
+    if place < b.rounds.start {
+        let part = behind(place, b.word(PREPROCESS_START) as usize);
         print!(err;
             "preprocess column {}, row {}",
-            column_of(part, b.k),
+            part.checked_div(b.rows).unwrap_or(0),
             part & last(b.rows)
         )?;
     } else {
@@ -96,36 +82,29 @@ fn rotation_why(err: Stderr, kept: u64, k: u64) -> io::Result<()> {
 }
 
 // Question 8.
-pub fn range_why(err: Stderr, circuit: &[u64], place: usize) -> io::Result<()> {
-    let b = bounds_of(circuit);
-    let part = place.wrapping_sub(b.nodes_start) % 4;
-    let kind = word_at(circuit, place.wrapping_sub(part));
-    let held = word_at(circuit, place);
-    if part == 0 {
-        return println!(err; "kind 4, EqXY, stands in the composed expression only");
+pub fn range_why(err: Stderr, b: Bounds, place: usize) -> io::Result<()> {
+    let (n, word) = b.node_word(place);
+    let held = b.word(place);
+    match word {
+        NodeWord::Kind => println!(err; "kind 4, EqXY, stands in the composed expression only"),
+        NodeWord::Value => rotation_why(err, held, b.k),
+        NodeWord::First | NodeWord::Second if b.node(n).kind == POLYNOMIAL => {
+            poly_why(err, b, held)
+        }
+        NodeWord::First | NodeWord::Second => user_why(err, b, held),
     }
-    if part == 3 {
-        return rotation_why(err, held, b.k);
-    }
-    if kind == POLYNOMIAL {
-        poly_why(err, b, held)?;
-    } else {
-        user_why(err, b, held)?;
-    }
-    Ok(())
 }
 
 // Question 9.
-pub fn width_why(err: Stderr, circuit: &[u64], place: usize) -> io::Result<()> {
+pub fn width_why(err: Stderr, b: Bounds, place: usize) -> io::Result<()> {
     if place == CONSTRAINT_COUNT {
         return println!(err;
             "there is no constraint, no lookup and no cycle, at least one is asked"
         );
     }
-    let b = bounds_of(circuit);
     println!(err;
         "lookup {} has width 0, at least 1 is asked",
-        behind(place, b.widths_start as u64)
+        behind(place, b.widths.start)
     )
 }
 
@@ -142,7 +121,7 @@ fn degree(err: Stderr, n: u64, known: u64) -> io::Result<()> {
 // A group of too large a degree: a lookup alone, or several.
 fn group_why(err: Stderr, b: Bounds, place: usize) -> io::Result<()> {
     let first = lookup_at(b, place);
-    let lookups = lookups_in(b, first);
+    let lookups = b.lookups_in(first);
     if lookups == 1 {
         print!(err; "lookup {first}")?;
     } else {
@@ -151,20 +130,19 @@ fn group_why(err: Stderr, b: Bounds, place: usize) -> io::Result<()> {
             last(first.wrapping_add(lookups))
         )?;
     }
-    degree(err, group_degree(b, first), last(ABOVE))?;
+    degree(err, b.group_degree(first), last(ABOVE))?;
     println!(err; ", at most 1024")
 }
 
 // Question 10.
-pub fn degree_why(err: Stderr, circuit: &[u64], place: usize) -> io::Result<()> {
-    let b = bounds_of(circuit);
-    let stated = word_at(circuit, STATED_WORD);
-    if b.pairs_start <= place {
+pub fn degree_why(err: Stderr, b: Bounds, place: usize) -> io::Result<()> {
+    let stated = b.word(STATED_WORD);
+    if b.pairs.start <= place {
         return group_why(err, b, place);
     }
-    let j = place.wrapping_sub(b.constraints_start);
+    let j = place.wrapping_sub(b.constraints.start);
     print!(err; "constraint {j}")?;
-    degree(err, degree_of(b, b.word(place)), 1024)?;
+    degree(err, b.degree_of(b.word(place)).unwrap_or(0), 1024)?;
     if stated == 0 {
         return println!(err; ", at most 1024");
     }
@@ -172,26 +150,24 @@ pub fn degree_why(err: Stderr, circuit: &[u64], place: usize) -> io::Result<()> 
 }
 
 // Where the cell at a place stood before in its cycle.
-pub fn stood_before(circuit: &[u64], place: usize) -> Option<usize> {
-    let b = bounds_of(circuit);
-    let part = place.wrapping_sub(b.cells_start);
-    if place < b.cells_start || part % 2 != 0 {
+pub fn stood_before(b: Bounds, place: usize) -> Option<usize> {
+    let part = place.wrapping_sub(b.cells.start);
+    if place < b.cells.start || part % 2 != 0 {
         return None;
     }
-    stood(b, place, (part / 2) as u64)
+    b.stood((part / 2) as u64)
 }
 
 // Question 11, but for a cell that stood in its cycle before.
-pub fn cell_why(err: Stderr, circuit: &[u64], place: usize) -> io::Result<()> {
-    let b = bounds_of(circuit);
-    let held = word_at(circuit, place);
-    if place < b.cells_start {
+pub fn cell_why(err: Stderr, b: Bounds, place: usize) -> io::Result<()> {
+    let held = b.word(place);
+    if place < b.cells.start {
         return println!(err;
             "cycle {} has no cell, at least 1 is asked",
-            behind(place, b.lengths_start as u64)
+            behind(place, b.lengths.start)
         );
     }
-    if place.wrapping_sub(b.cells_start) % 2 != 0 {
+    if place.wrapping_sub(b.cells.start) % 2 != 0 {
         return println!(err; "row {held}, from 1 to {}", last(b.rows));
     }
     if b.polys <= held {

@@ -1,18 +1,17 @@
 // What is said of question 7: a node's word that is not as its kind asks, a root that is none, a node not named exactly once.
-use cli_faults::bounds::{Bounds, bounds_of};
-use cli_faults::names::{next_name, times};
-use cli_faults::nodes::{Wrong, first_wrong, is_kind, largest, second_wrong, value_wrong};
+use cli_faults::bounds::Bounds;
+use cli_faults::nodes::{NodeWord, Wrong, is_kind, largest};
 use expression::kind;
 use std::io;
 use std::io::Stderr;
 
 // A root, by its place.
 fn root(err: Stderr, b: Bounds, place: usize) -> io::Result<()> {
-    if place < b.pairs_start {
-        let j = place.wrapping_sub(b.constraints_start);
+    if place < b.pairs.start {
+        let j = place.wrapping_sub(b.constraints.start);
         return print!(err; "constraint root {j}");
     }
-    let part = place.wrapping_sub(b.pairs_start);
+    let part = place.wrapping_sub(b.pairs.start);
     if part % 2 == 0 {
         print!(err; "the input of lookup pair {}", (part / 2) as u64)?;
     } else {
@@ -25,20 +24,20 @@ fn root(err: Stderr, b: Bounds, place: usize) -> io::Result<()> {
 fn root_why(err: Stderr, b: Bounds, place: usize) -> io::Result<()> {
     let n = b.word(place);
     root(err, b, place)?;
-    if n < b.nodes {
+    if n < b.nodes.count {
         return println!(err; " is {n}, an Item");
     }
-    if b.nodes == 0 {
+    if b.nodes.count == 0 {
         return println!(err; " is {n}, there is no node");
     }
-    println!(err; " is {n}, from 0 to {}", b.nodes.wrapping_sub(1))
+    println!(err; " is {n}, from 0 to {}", b.nodes.count.wrapping_sub(1))
 }
 
 // By what a node is named, at the place of a word.
 fn by(err: Stderr, b: Bounds, place: usize) -> io::Result<()> {
-    if place < b.constraints_start {
-        let part = place.wrapping_sub(b.nodes_start);
-        return print!(err; "by node {}", (part / 4) as u64);
+    if place < b.constraints.start {
+        let (n, _) = b.node_word(place);
+        return print!(err; "by node {n}");
     }
     print!(err; "as ")?;
     root(err, b, place)
@@ -46,9 +45,9 @@ fn by(err: Stderr, b: Bounds, place: usize) -> io::Result<()> {
 
 // By what node n is named at first, and then.
 fn by_two(err: Stderr, b: Bounds, n: u64, named: u64) -> io::Result<()> {
-    let mut from = b.nodes_start;
+    let mut from = b.nodes.start;
     for before in [": ", " and "] {
-        if let Some(place) = next_name(b, from, n) {
+        if let Some(place) = b.next_name(from, n) {
             print!(err; "{before}")?;
             by(err, b, place)?;
             from = place.wrapping_add(1);
@@ -62,7 +61,7 @@ fn by_two(err: Stderr, b: Bounds, n: u64, named: u64) -> io::Result<()> {
 
 // How often node n is named.
 fn names_why(err: Stderr, b: Bounds, n: u64) -> io::Result<()> {
-    let named = times(b, n);
+    let named = b.times(n);
     print!(err; "node {n} is named {named} times")?;
     if named > 1 {
         by_two(err, b, n, named)?;
@@ -73,29 +72,25 @@ fn names_why(err: Stderr, b: Bounds, n: u64) -> io::Result<()> {
 }
 
 // A word that the kind does not use.
-fn unused_why(err: Stderr, kind: u64, part: usize) -> io::Result<()> {
+fn unused_why(err: Stderr, kind: u64, word: NodeWord) -> io::Result<()> {
     print!(err; "kind {kind}")?;
     if kind == kind::ITEM {
         print!(err; " of value 0, the last Item,")?;
     }
-    match part {
-        1 => println!(err; " does not use its first: expected 0"),
-        2 => println!(err; " does not use its second: expected 0"),
-        _ => println!(err; " does not use its value: expected 0"),
-    }
+    println!(err; " does not use its {word}: expected 0")
 }
 
 // What is wrong with a word of node n but its kind.
 fn word_why(
     err: Stderr,
     n: u64,
-    part: usize,
+    word: NodeWord,
     kind: u64,
     held: u64,
     wrong: Wrong,
 ) -> io::Result<()> {
     let name = match wrong {
-        Wrong::Unused => return unused_why(err, kind, part),
+        Wrong::Unused => return unused_why(err, kind, word),
         Wrong::Large => {
             return println!(err; "a value of kind {kind} is at most {}", largest(kind));
         }
@@ -118,27 +113,23 @@ fn kind_why(err: Stderr, b: Bounds, n: u64, kind: u64) -> io::Result<()> {
 
 // Of a word of the nodes.
 fn node_why(err: Stderr, b: Bounds, place: usize) -> io::Result<()> {
-    let offset = place.wrapping_sub(b.nodes_start);
-    let part = offset % 4;
-    let n = (offset / 4) as u64;
-    let at = place.wrapping_sub(part);
-    let kind = b.word(at);
-    let wrong = match part {
-        0 => return kind_why(err, b, n, kind),
-        1 => first_wrong(b, at, n),
-        2 => second_wrong(b, at, n),
-        _ => value_wrong(b, at),
+    let (n, word) = b.node_word(place);
+    let kind = b.node(n).kind;
+    let wrong = match word {
+        NodeWord::Kind => return kind_why(err, b, n, kind),
+        NodeWord::First => b.first_wrong(n),
+        NodeWord::Second => b.second_wrong(n),
+        NodeWord::Value => b.value_wrong(n),
     };
     match wrong {
-        Some(wrong) => word_why(err, n, part, kind, b.word(place), wrong),
+        Some(wrong) => word_why(err, n, word, kind, b.word(place), wrong),
         None => Ok(()),
     }
 }
 
 // Question 7.
-pub fn layout_why(err: Stderr, circuit: &[u64], place: usize) -> io::Result<()> {
-    let b = bounds_of(circuit);
-    if place < b.constraints_start {
+pub fn layout_why(err: Stderr, b: Bounds, place: usize) -> io::Result<()> {
+    if place < b.constraints.start {
         node_why(err, b, place)?;
     } else {
         root_why(err, b, place)?;

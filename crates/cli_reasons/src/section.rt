@@ -4,8 +4,6 @@ use backend_sections::contents::{
     WIDTHS,
 };
 use lists::word_at;
-use std::io;
-use std::io::Stderr;
 
 // The section that a word past the contents stands in, by the starts; none for a word of the contents.
 pub fn section_of(circuit: &[u64], at: u64) -> Option<usize> {
@@ -18,8 +16,8 @@ pub fn section_of(circuit: &[u64], at: u64) -> Option<usize> {
 }
 
 // Its name.
-pub fn section_name(err: Stderr, section: Option<usize>) -> io::Result<()> {
-    let name = match section {
+pub fn section_name(section: Option<usize>) -> &'static str {
+    match section {
         Some(INSTANCES) => "the instance lengths",
         Some(PREPROCESS) => "the preprocess columns",
         Some(ROUNDS) => "the rounds",
@@ -31,6 +29,5 @@ pub fn section_name(err: Stderr, section: Option<usize>) -> io::Result<()> {
         Some(CELLS) => "the cells",
         Some(GROUPS) => "the group numbers",
         _ => "the table of contents",
-    };
-    print!(err; "{name}")
+    }
 }

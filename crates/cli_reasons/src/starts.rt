@@ -1,19 +1,19 @@
 // What is said of questions 2 to 4: k, counts and sums with their limits, starts and lengths.
+use crate::late::behind;
 use crate::section::{section_name, section_of};
 use backend_sections::contents::{
     CELL_COUNT, CONSTRAINT_COUNT, FIRST_START, GROUP_COUNT, INSTANCE_COUNT, K_WORD, LENGTH_COUNT,
-    NODE_COUNT, PAIR_COUNT, PREPROCESS_COUNT, ROUND_COUNT, ROUND_START, ROUNDS, STATED_WORD,
-    WIDTH_COUNT, WIDTH_START, WIDTHS,
+    NODE_COUNT, PAIR_COUNT, PREPROCESS_COUNT, ROUND_COUNT, ROUNDS, STATED_WORD, WIDTH_COUNT,
+    WIDTHS,
 };
-use cli_faults::bounds::{Bounds, SECTIONS, bounds_of, sum_of};
-use cli_faults::fault::{begins, limit_of, widths_sum};
-use lists::word_at;
+use cli_faults::bounds::{Bounds, SECTIONS};
+use cli_faults::fault::limit_of;
 use std::io;
 use std::io::Stderr;
 
 // Question 2.
-pub fn size_why(err: Stderr, circuit: &[u64]) -> io::Result<()> {
-    println!(err; "k: {}, from 1 to 10", word_at(circuit, K_WORD))
+pub fn size_why(err: Stderr, b: Bounds) -> io::Result<()> {
+    println!(err; "k: {}, from 1 to 10", b.word(K_WORD))
 }
 
 // What a word of the contents counts.
@@ -32,13 +32,13 @@ fn counted(at: usize) -> &'static str {
 }
 
 // A count, or the maximum degree, which word 1 is one more than.
-fn count_why(err: Stderr, circuit: &[u64], at: usize) -> io::Result<()> {
+fn count_why(err: Stderr, b: Bounds, at: usize) -> io::Result<()> {
     print!(err; "{}", counted(at))?;
     if at == ROUND_COUNT {
-        return println!(err; ": {}, from 1 to 4", word_at(circuit, at));
+        return println!(err; ": {}, from 1 to 4", b.word(at));
     }
     let more = (at == STATED_WORD) as u64;
-    let count = word_at(circuit, at).wrapping_sub(more);
+    let count = b.word(at).wrapping_sub(more);
     let limit = limit_of(at).wrapping_sub(more);
     println!(err; ": {count}, at most {limit}")
 }
@@ -53,7 +53,7 @@ fn sum_why(err: Stderr, name: &str, sum: u64, limit: u64) -> io::Result<()> {
 }
 
 fn rounds_why(err: Stderr, b: Bounds, place: usize) -> io::Result<()> {
-    let part = (place as u64).wrapping_sub(b.word(ROUND_START));
+    let part = place.wrapping_sub(b.rounds.start);
     if part % 2 == 0 {
         sum_why(err, "witness columns in all: ", b.witness, 32)?;
     } else {
@@ -63,69 +63,63 @@ fn rounds_why(err: Stderr, b: Bounds, place: usize) -> io::Result<()> {
 }
 
 // Question 3.
-pub fn limit_why(err: Stderr, circuit: &[u64], place: usize) -> io::Result<()> {
-    let b = bounds_of(circuit);
-    let Some(s) = section_of(circuit, place as u64) else {
-        return count_why(err, circuit, place);
+pub fn limit_why(err: Stderr, b: Bounds, place: usize) -> io::Result<()> {
+    let Some(s) = section_of(b.words, place as u64) else {
+        return count_why(err, b, place);
     };
     if s == ROUNDS {
         return rounds_why(err, b, place);
     }
     if s == WIDTHS {
-        let lookup = (place as u64).wrapping_sub(b.word(WIDTH_START));
-        return println!(err;
-            "width of lookup {lookup}: {}, at most 8",
-            word_at(circuit, place)
-        );
+        let lookup = behind(place, b.widths.start);
+        return println!(err; "width of lookup {lookup}: {}, at most 8", b.word(place));
     }
-    let sum = sum_of(circuit, b.lengths_start, 1, b.lengths);
+    let sum = b.sum(b.lengths);
     sum_why(err, "cells in all, by the cycle lengths: ", sum, 4096)
 }
 
 // Lookup pairs that are not as many as the widths say, or more than there are words.
-fn pairs_why(err: Stderr, circuit: &[u64]) -> io::Result<()> {
-    let pairs = word_at(circuit, PAIR_COUNT);
-    if (circuit.len() as u64) < pairs {
+fn pairs_why(err: Stderr, b: Bounds) -> io::Result<()> {
+    let pairs = b.word(PAIR_COUNT);
+    if (b.words.len() as u64) < pairs {
         return println!(err; "lookup pairs: {pairs}, more than the circuit has words");
     }
     println!(err;
         "lookup pairs: {pairs}, the widths sum to {}",
-        widths_sum(circuit)
+        b.sum(b.widths)
     )
 }
 
 // Question 4, at a word of the contents.
-pub fn start_why(err: Stderr, circuit: &[u64], place: usize) -> io::Result<()> {
+pub fn start_why(err: Stderr, b: Bounds, place: usize) -> io::Result<()> {
     if place == PAIR_COUNT {
-        return pairs_why(err, circuit);
+        return pairs_why(err, b);
     }
     if place == CELL_COUNT {
-        let b = bounds_of(circuit);
-        let sum = sum_of(circuit, b.lengths_start, 1, b.lengths);
-        return println!(err; "cells: {}, the cycle lengths sum to {sum}", b.cells);
+        let sum = b.sum(b.lengths);
+        return println!(err; "cells: {}, the cycle lengths sum to {sum}", b.cells.count);
     }
     if place == GROUP_COUNT {
         return println!(err;
             "group numbers: {}, one to each lookup is asked, and the lookups are {}",
-            word_at(circuit, place),
-            word_at(circuit, WIDTH_COUNT)
+            b.word(place),
+            b.word(WIDTH_COUNT)
         );
     }
     let s = place.wrapping_sub(FIRST_START) / 2;
-    print!(err;
-        "word {place} is {}, expected {} (the start of ",
-        word_at(circuit, place),
-        begins(circuit, s)
-    )?;
-    section_name(err, Some(s))?;
-    println!(err; ")")
+    println!(err;
+        "word {place} is {}, expected {} (the start of {})",
+        b.word(place),
+        b.begins(s),
+        section_name(Some(s))
+    )
 }
 
 // Question 4, where the contents do not end where the words do.
-pub fn length_why(err: Stderr, circuit: &[u64]) -> io::Result<()> {
-    let words = circuit.len() as u64;
+pub fn length_why(err: Stderr, b: Bounds) -> io::Result<()> {
+    let words = b.words.len() as u64;
     println!(err;
         ": the circuit has {words} words, the contents end at {}",
-        begins(circuit, SECTIONS)
+        b.begins(SECTIONS)
     )
 }
