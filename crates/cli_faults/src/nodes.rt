@@ -1,11 +1,7 @@
 // Faults of one node's words, for questions 6, 7 and 8: the place of the first offending word; and what is wrong with it.
 use crate::bounds::Bounds;
 use backend_sections::words::is_element;
-use expression::kind;
-use expression::kind::{
-    CHALLENGE, CONSTANT, DISTRIBUTE_POWERS, EQ_XY, LAGRANGE, NEGATED, POLYNOMIAL, PRODUCT, SCALED,
-    SUM,
-};
+use expression::kind::Kind;
 use expression::node::SIGNED_OFFSET;
 
 // What is wrong with a word of a node: it is not used, and not 0; it is above the largest value; it names a node that is not lower, an
@@ -22,9 +18,11 @@ pub enum Wrong {
 
 // Question 6: Constants and scalars below p.
 pub(crate) fn value_fault(b: Bounds, at: usize) -> Option<usize> {
-    let kind = b.word(at);
     let value = at.wrapping_add(3);
-    let held = kind == CONSTANT || kind == SCALED;
+    let held = matches!(
+        Kind::try_from(b.word(at)),
+        Ok(Kind::Constant | Kind::Scaled)
+    );
     if held && !is_element(b.word(value)) {
         return Some(value);
     }
@@ -33,36 +31,47 @@ pub(crate) fn value_fault(b: Bounds, at: usize) -> Option<usize> {
 
 // Is it one of the kinds?
 pub fn is_kind(kind: u64) -> bool {
-    (CONSTANT..=kind::ITEM).contains(&kind)
+    Kind::try_from(kind).is_ok()
 }
 
 // The words that a kind uses: does it name a node, a polynomial or a challenge first, a node second, and hold a value?
 fn uses_first(kind: u64) -> bool {
-    (POLYNOMIAL..=kind::ITEM).contains(&kind)
+    names_first(kind) || matches!(Kind::try_from(kind), Ok(Kind::Polynomial | Kind::Challenge))
 }
 
 pub(crate) fn uses_second(kind: u64, value: u64) -> bool {
-    match kind {
-        SUM | PRODUCT | DISTRIBUTE_POWERS => true,
-        kind::ITEM => value == 1,
+    match Kind::try_from(kind) {
+        Ok(Kind::Sum | Kind::Product | Kind::DistributePowers) => true,
+        Ok(Kind::Item) => value == 1,
         _ => false,
     }
 }
 
 fn uses_value(kind: u64) -> bool {
     matches!(
-        kind,
-        CONSTANT | LAGRANGE | EQ_XY | POLYNOMIAL | SCALED | kind::ITEM
+        Kind::try_from(kind),
+        Ok(
+            Kind::Constant
+                | Kind::Lagrange
+                | Kind::EqXy
+                | Kind::Polynomial
+                | Kind::Scaled
+                | Kind::Item
+        )
     )
 }
 
 // The largest value that a kind may hold.
 pub fn largest(kind: u64) -> u64 {
-    match kind {
-        LAGRANGE | POLYNOMIAL => 4294967295,
-        kind::ITEM => 1,
+    match Kind::try_from(kind) {
+        Ok(Kind::Lagrange | Kind::Polynomial) => 4294967295,
+        Ok(Kind::Item) => 1,
         _ => u64::MAX,
     }
+}
+
+fn is_item(kind: u64) -> bool {
+    matches!(Kind::try_from(kind), Ok(Kind::Item))
 }
 
 // The place of node n's first word.
@@ -75,7 +84,7 @@ pub(crate) fn name_wrong(b: Bounds, limit: u64, n: u64, item: bool) -> Option<Wr
     if limit <= n {
         return Some(Wrong::High);
     }
-    let is_item = b.word(node_at(b, n)) == kind::ITEM;
+    let is_item = is_item(b.word(node_at(b, n)));
     match (is_item, item) {
         (true, false) => Some(Wrong::Item),
         (false, true) => Some(Wrong::NoItem),
@@ -85,7 +94,17 @@ pub(crate) fn name_wrong(b: Bounds, limit: u64, n: u64, item: bool) -> Option<Wr
 
 // Does the kind name a node first?
 pub(crate) fn names_first(kind: u64) -> bool {
-    (NEGATED..=kind::ITEM).contains(&kind)
+    matches!(
+        Kind::try_from(kind),
+        Ok(
+            Kind::Negated
+                | Kind::Sum
+                | Kind::Product
+                | Kind::Scaled
+                | Kind::DistributePowers
+                | Kind::Item
+        )
+    )
 }
 
 // What is wrong with the first word of node n, which begins at a place: "an unused word is 0", "A node names lower nodes only",
@@ -110,7 +129,8 @@ fn is_last(b: Bounds, n: u64) -> bool {
 // What is wrong with the Item that kind 11 or 12 names second: after 11 it is not the last.
 fn item_wrong(b: Bounds, limit: u64, kind: u64, n: u64) -> Option<Wrong> {
     let wrong = name_wrong(b, limit, n, true);
-    if wrong.is_none() && kind == DISTRIBUTE_POWERS && is_last(b, n) {
+    let list = matches!(Kind::try_from(kind), Ok(Kind::DistributePowers));
+    if wrong.is_none() && list && is_last(b, n) {
         return Some(Wrong::LastItem);
     }
     wrong
@@ -122,16 +142,16 @@ pub fn second_wrong(b: Bounds, at: usize, n: u64) -> Option<Wrong> {
     let second = b.word(at.wrapping_add(2));
     let value = b.word(at.wrapping_add(3));
     if !uses_second(kind, value) {
-        let known = kind != kind::ITEM || value == 0;
+        let known = !is_item(kind) || value == 0;
         if known && second != 0 {
             return Some(Wrong::Unused);
         }
         return None;
     }
-    if kind < DISTRIBUTE_POWERS {
-        return name_wrong(b, n, second, false);
+    match Kind::try_from(kind) {
+        Ok(Kind::Sum | Kind::Product) => name_wrong(b, n, second, false),
+        _ => item_wrong(b, n, kind, second),
     }
-    item_wrong(b, n, kind, second)
 }
 
 // What is wrong with the value of a node.
@@ -170,11 +190,11 @@ fn is_near(kept: u64, k: u64) -> bool {
 pub(crate) fn range_fault(b: Bounds, at: usize) -> Option<usize> {
     let first = at.wrapping_add(1);
     let value = at.wrapping_add(3);
-    match b.word(at) {
-        EQ_XY => Some(at),
-        POLYNOMIAL if b.polys <= b.word(first) => Some(first),
-        POLYNOMIAL if !is_near(b.word(value), b.k) => Some(value),
-        CHALLENGE if b.user <= b.word(first) => Some(first),
+    match Kind::try_from(b.word(at)) {
+        Ok(Kind::EqXy) => Some(at),
+        Ok(Kind::Polynomial) if b.polys <= b.word(first) => Some(first),
+        Ok(Kind::Polynomial) if !is_near(b.word(value), b.k) => Some(value),
+        Ok(Kind::Challenge) if b.user <= b.word(first) => Some(first),
         _ => None,
     }
 }
