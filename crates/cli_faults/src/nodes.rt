@@ -1,11 +1,7 @@
 // Faults of one node's words, for questions 6, 7 and 8: the place of the first offending word; and what is wrong with it.
 use crate::bounds::Bounds;
 use backend_sections::words::is_element;
-use expression::kind;
-use expression::kind::{
-    CHALLENGE, CONSTANT, DISTRIBUTE_POWERS, EQ_XY, LAGRANGE, NEGATED, POLYNOMIAL, PRODUCT, SCALED,
-    SUM,
-};
+use expression::kind::Kind;
 use expression::node::{Node, SIGNED_OFFSET};
 use std::fmt;
 
@@ -60,41 +56,58 @@ pub enum Wrong {
 
 // Is it one of the kinds?
 pub fn is_kind(kind: u64) -> bool {
-    (CONSTANT..=kind::ITEM).contains(&kind)
+    Kind::try_from(kind).is_ok()
 }
 
 // The words that a kind uses: does it name a node, a polynomial or a challenge first, a node second, and hold a value?
 fn uses_first(kind: u64) -> bool {
-    (POLYNOMIAL..=kind::ITEM).contains(&kind)
+    names_first(kind) || matches!(Kind::try_from(kind), Ok(Kind::Polynomial | Kind::Challenge))
 }
 
 pub(crate) fn uses_second(kind: u64, value: u64) -> bool {
-    match kind {
-        SUM | PRODUCT | DISTRIBUTE_POWERS => true,
-        kind::ITEM => value == 1,
+    match Kind::try_from(kind) {
+        Ok(Kind::Sum | Kind::Product | Kind::DistributePowers) => true,
+        Ok(Kind::Item) => value == 1,
         _ => false,
     }
 }
 
 fn uses_value(kind: u64) -> bool {
     matches!(
-        kind,
-        CONSTANT | LAGRANGE | EQ_XY | POLYNOMIAL | SCALED | kind::ITEM
+        Kind::try_from(kind),
+        Ok(
+            Kind::Constant
+                | Kind::Lagrange
+                | Kind::EqXy
+                | Kind::Polynomial
+                | Kind::Scaled
+                | Kind::Item
+        )
     )
 }
 
 // The largest value that a kind may hold.
 pub fn largest(kind: u64) -> u64 {
-    match kind {
-        LAGRANGE | POLYNOMIAL => 4294967295,
-        kind::ITEM => 1,
+    match Kind::try_from(kind) {
+        Ok(Kind::Lagrange | Kind::Polynomial) => 4294967295,
+        Ok(Kind::Item) => 1,
         _ => u64::MAX,
     }
 }
 
 // Does the kind name a node first?
 pub(crate) fn names_first(kind: u64) -> bool {
-    (NEGATED..=kind::ITEM).contains(&kind)
+    matches!(
+        Kind::try_from(kind),
+        Ok(
+            Kind::Negated
+                | Kind::Sum
+                | Kind::Product
+                | Kind::Scaled
+                | Kind::DistributePowers
+                | Kind::Item
+        )
+    )
 }
 
 // Is a kept rotation from -k to k?
@@ -123,7 +136,10 @@ impl Bounds<'_> {
     // Question 6, of node n, which begins at a place: Constants and scalars below p.
     pub(crate) fn value_fault(self, at: usize, n: u64) -> Option<usize> {
         let node = self.node(n);
-        let held = node.kind == CONSTANT || node.kind == SCALED;
+        let held = matches!(
+            Kind::try_from(node.kind),
+            Ok(Kind::Constant | Kind::Scaled)
+        );
         (held && !is_element(node.value)).then_some(NodeWord::Value.in_node(at))
     }
 
@@ -132,7 +148,7 @@ impl Bounds<'_> {
         if limit <= n {
             return Some(Wrong::High);
         }
-        match (self.node(n).kind == kind::ITEM, item) {
+        match (self.node(n).kind == Kind::Item as u64, item) {
             (true, false) => Some(Wrong::Item),
             (false, true) => Some(Wrong::NoItem),
             _ => None,
@@ -152,7 +168,7 @@ impl Bounds<'_> {
     // What is wrong with the Item that kind 11 or 12 names second: after 11 it is not the last, by its value.
     fn item_wrong(self, limit: u64, kind: u64, n: u64) -> Option<Wrong> {
         self.name_wrong(limit, n, true).or_else(|| {
-            let last = kind == DISTRIBUTE_POWERS && self.node(n).value != 1;
+            let last = kind == Kind::DistributePowers as u64 && self.node(n).value != 1;
             last.then_some(Wrong::LastItem)
         })
     }
@@ -161,13 +177,13 @@ impl Bounds<'_> {
     pub fn second_wrong(self, n: u64) -> Option<Wrong> {
         let node = self.node(n);
         if !uses_second(node.kind, node.value) {
-            let known = node.kind != kind::ITEM || node.value == 0;
+            let known = node.kind != Kind::Item as u64 || node.value == 0;
             return (known && node.second != 0).then_some(Wrong::Unused);
         }
-        if node.kind < DISTRIBUTE_POWERS {
-            return self.name_wrong(n, node.second, false);
+        match Kind::try_from(node.kind) {
+            Ok(Kind::Sum | Kind::Product) => self.name_wrong(n, node.second, false),
+            _ => self.item_wrong(n, node.kind, node.second),
         }
-        self.item_wrong(n, node.kind, node.second)
     }
 
     // What is wrong with the value of node n.
@@ -194,11 +210,11 @@ impl Bounds<'_> {
     // Question 8, of node n, which begins at a place.
     pub(crate) fn range_fault(self, at: usize, n: u64) -> Option<usize> {
         let node = self.node(n);
-        match node.kind {
-            EQ_XY => Some(at),
-            POLYNOMIAL if self.polys <= node.first => Some(NodeWord::First.in_node(at)),
-            POLYNOMIAL if !is_near(node.value, self.k) => Some(NodeWord::Value.in_node(at)),
-            CHALLENGE if self.user <= node.first => Some(NodeWord::First.in_node(at)),
+        match Kind::try_from(node.kind) {
+            Ok(Kind::EqXy) => Some(at),
+            Ok(Kind::Polynomial) if self.polys <= node.first => Some(NodeWord::First.in_node(at)),
+            Ok(Kind::Polynomial) if !is_near(node.value, self.k) => Some(NodeWord::Value.in_node(at)),
+            Ok(Kind::Challenge) if self.user <= node.first => Some(NodeWord::First.in_node(at)),
             _ => None,
         }
     }
