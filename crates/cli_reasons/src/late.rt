@@ -4,7 +4,7 @@ use backend_sections::contents::{CONSTRAINT_COUNT, INSTANCE_START, PREPROCESS_ST
 use cli_faults::bounds::Bounds;
 use cli_faults::degrees::ABOVE;
 use cli_faults::nodes::NodeWord;
-use expression::kind::POLYNOMIAL;
+use expression::kind::Kind;
 use expression::node::SIGNED_OFFSET;
 use field::MODULUS;
 use std::io;
@@ -88,7 +88,7 @@ pub fn range_why(err: Stderr, b: Bounds, place: usize) -> io::Result<()> {
     match word {
         NodeWord::Kind => println!(err; "kind 4, EqXY, stands in the composed expression only"),
         NodeWord::Value => rotation_why(err, held, b.k),
-        NodeWord::First | NodeWord::Second if b.node(n).kind == POLYNOMIAL => {
+        NodeWord::First | NodeWord::Second if b.node(n).kind == Kind::Polynomial as u64 => {
             poly_why(err, b, held)
         }
         NodeWord::First | NodeWord::Second => user_why(err, b, held),

@@ -1,7 +1,7 @@
 // What is said of question 7: a node's word that is not as its kind asks, a root that is none, a node not named exactly once.
 use cli_faults::bounds::Bounds;
 use cli_faults::nodes::{NodeWord, Wrong, is_kind, largest};
-use expression::kind;
+use expression::kind::Kind;
 use std::io;
 use std::io::Stderr;
 
@@ -74,7 +74,7 @@ fn names_why(err: Stderr, b: Bounds, n: u64) -> io::Result<()> {
 // A word that the kind does not use.
 fn unused_why(err: Stderr, kind: u64, word: NodeWord) -> io::Result<()> {
     print!(err; "kind {kind}")?;
-    if kind == kind::ITEM {
+    if kind == Kind::Item as u64 {
         print!(err; " of value 0, the last Item,")?;
     }
     println!(err; " does not use its {word}: expected 0")
@@ -106,7 +106,7 @@ fn kind_why(err: Stderr, b: Bounds, n: u64, kind: u64) -> io::Result<()> {
     if is_kind(kind) {
         names_why(err, b, n)?;
     } else {
-        println!(err; "kind {kind}, from {} to {}", kind::CONSTANT, kind::ITEM)?;
+        println!(err; "kind {kind}, from {} to {}", Kind::Constant as u64, Kind::Item as u64)?;
     }
     Ok(())
 }
