@@ -8,13 +8,9 @@ ghost use Rattle.field.specs.Field.{𝔾};
 ghost use Rattle.field.specs.Element.{elem};
 ghost use Rattle.expression.specs.Nodes.{expr_of};
 ghost use Rattle.expression.specs.Value.{value_at, value_ops};
-ghost use Rattle.expression.specs.Reader.{LayoutSmall};
-ghost use Rattle.expression.specs.Point.{PointInOrder, environment_of};
 ghost use Rattle.expression_evaluate.specs.Environment.{environment};
 
 use crate::evaluation::Evaluation;
-use expression::poly::Layout;
-use expression::value::Point;
 use expression_nodes::leaves::{lagrange, rotated_row};
 use expression_nodes::poly::poly_at;
 use expression_walk::{Operations, node};
@@ -93,30 +89,4 @@ impl<'a> Evaluation<'a> {
     {
         node(self, nodes, n)
     }
-}
-
-// The value of node n at a point. For many nodes at one point, an `Evaluation` once and the walk for each.
-#[tactic(auto, unfolding(expression::specs::Value::value_at))]
-pub fn value<'a>(
-    nodes: &'a [u64],
-    circuit: &'a [u64],
-    witness: &'a [u64],
-    columns: &'a [u64],
-    challenges: &'a [u64],
-    layout: Layout,
-    point: Point,
-    n: usize,
-) -> Goldilocks
-    requires { (n * 4 + 4 ≤ length nodes.now) × (LayoutSmall layout × PointInOrder point) }
-    ensures { elem result ≡ value_at 𝔾 (environment_of circuit.now witness.now columns.now challenges.now layout point) (expr_of nodes.now n) point.row }
-{
-    let over = Evaluation {
-        circuit,
-        witness,
-        columns,
-        challenges,
-        layout,
-        point,
-    };
-    node(&over, nodes, n)
 }
