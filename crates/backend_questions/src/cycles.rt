@@ -1,6 +1,6 @@
 // Question 11: are the cycles as they must be? Cells are pairs of words (polynomial, row); a cycle is a run of them.
 ghost use Rattle.std.specs.Prelude.{◌≡◌, true, ◌+◌, ◌-◌, ◌/◌, ◌<◌, ◌≤◌, length};
-ghost use Rattle.lists.specs.Lists.{all_of, tabulate, split, total};
+ghost use Rattle.lists.specs.Lists.{split, total};
 ghost use Rattle.backend.specs.Circuit.{cell_at, cells_of, circuit_of};
 ghost use Rattle.backend.specs.Questions.{good_cycle, cycles_good, q11};
 ghost use Rattle.backend.specs.Cycles as def;

@@ -4,7 +4,7 @@ use mathlib.Core.Path.{◌≡◌, sym, ap, ap₂, ◌∙◌}
 use mathlib.Core.List.{List}
 use Prim.Native.Nat.{ℕ, ◌≤◌, ◌<◌}
 use Rattle.expression.specs.declared.node.Node.{Node}
-use Rattle.expression.specs.Expr.{Expr, Ops, evaluate, powers_first, values, running, powers_rest}
+use Rattle.expression.specs.Expr.{Ops, evaluate, powers_first, values, running, powers_rest}
 use Rattle.expression.specs.Nodes.{Kind, decode_signed, node_of, kind_of, under, no_expr, no_exprs, expr_of, items_of}
 use Rattle.expression.specs.Read.{node_at}
 use Rattle.expression.proofs.Step.{under_yes, under_no, low, low_items, node_read, of_kind, items_last, items_more}

@@ -2,7 +2,7 @@
 // Kept: the walk ends by the sum of the two places, of which no node is the least, so an Option would be made this number again.
 #![tactic(auto)]
 
-ghost use Rattle.std.specs.Prelude.{◌≡◌, cond, ◌&&◌, suc, ◌+◌, ◌*◌, ◌-◌, ◌≤◌, ◌<◌, ltb, length};
+ghost use Rattle.std.specs.Prelude.{◌≡◌, cond, suc, ◌+◌, ◌*◌, ◌-◌, ◌≤◌, ◌<◌, ltb, length};
 ghost use Rattle.expression.specs.Nodes.{expr_of, items_of, under, no_expr, no_exprs};
 ghost use Rattle.expression.specs.Read.{node_at};
 ghost use Rattle.expression.specs.Same.{same_expr, same_exprs};

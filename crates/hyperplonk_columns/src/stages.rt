@@ -4,13 +4,13 @@ ghost use Rattle.std.specs.Prelude.{◌≡◌, ◌+◌, ◌*◌, ◌^◌, ◌≤
 ghost use Rattle.field.specs.Field.{𝔾};
 ghost use Rattle.field.specs.Element.{elem};
 ghost use Rattle.lists.specs.Lists.{write_at};
-ghost use Rattle.backend.specs.Circuit.{circuit_of, num_instance, num_lookups};
+ghost use Rattle.backend.specs.Circuit.{circuit_of, num_lookups};
 ghost use Rattle.prover.specs.Denominators.{some_zero};
 ghost use Rattle.prover.specs.Answers.{outcome_of, outcome_words};
 ghost use Rattle.prover.specs.Words.{words_of};
 ghost use Rattle.prover.specs.Lent.{environment_from_words, compressed_polys_in};
 ghost use Rattle.hyperplonk_spec.specs.Build.{column_words};
-ghost use Rattle.hyperplonk_prepare.specs.Prepared.{layout_from_words, permutation_offset, compressed_offset, z_offset};
+ghost use Rattle.hyperplonk_prepare.specs.Prepared.{permutation_offset, compressed_offset, z_offset};
 ghost use Rattle.hyperplonk_columns.specs.Stages.{instance_words, permutation_words, compressed_words, z_words, z_denominators};
 
 use backend_sections::contents::WIDTH_COUNT;

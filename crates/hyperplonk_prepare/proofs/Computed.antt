@@ -8,7 +8,6 @@ use native.Mathlib.Nat.{mul-le-mul}
 use lib.ListN.{length, get_or}
 use lib.Dec.{eqb, leb, ltb}
 use lib.Seq.{take_all}
-use Rattle.std.proofs.Common.{rules}
 use Rattle.std.proofs.lemmas.Grind.{common_steps}
 use Rattle.field.specs.Prime.{P}
 use Rattle.lists.specs.Lists.{all_of, total, concat, ceil_div, All}

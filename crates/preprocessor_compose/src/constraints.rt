@@ -1,5 +1,5 @@
 // The composed constraints: user, lookup and permutation constraints by powers of alpha, written as node words into a lent buffer.
-ghost use Rattle.std.specs.Prelude.{◌≡◌, ◌+◌, ◌*◌, ◌≤◌, ◌<◌, ◌^◌, length, get_or};
+ghost use Rattle.std.specs.Prelude.{◌≡◌, ◌+◌, ◌*◌, ◌≤◌, ◌<◌, ◌^◌, get_or};
 ghost use Rattle.expression.specs.Expr.{Expr, distribute_powers};
 ghost use Rattle.expression.specs.Flat.{size, sizes, extra};
 ghost use Rattle.expression.specs.Written.{most_words, ExprWritten, WrittenList};

@@ -1,7 +1,7 @@
 // How many nodes the composed expression takes, counted from the sizes of the user's expressions, with nothing composed; an Item is
 // counted as `item`, 1 or 0. 2^60 where there are more.
-ghost use Rattle.std.specs.Prelude.{◌≡◌, List, ℕ, suc, ◌+◌, ◌*◌, ◌≤◌, ◌<◌, ◌^◌, min, length, get_or};
-ghost use Rattle.lists.specs.Lists.{tabulate, total, All};
+ghost use Rattle.std.specs.Prelude.{◌≡◌, List, ℕ, ◌+◌, ◌*◌, ◌≤◌, ◌<◌, min, length, get_or};
+ghost use Rattle.lists.specs.Lists.{tabulate, All};
 ghost use Rattle.expression.specs.Nodes.{expr_of};
 ghost use Rattle.expression.specs.Flat.{largest_size};
 ghost use Rattle.expression.specs.Walks.{weight};

@@ -1,6 +1,5 @@
 // The identity and permutation factors of the permutation constraints, and their products, written as node words into a lent buffer.
-ghost use Rattle.std.specs.Prelude.{◌≡◌, ◌+◌, ◌-◌, ◌*◌, ◌≤◌, ◌<◌, pos, length};
-ghost use Rattle.expression.specs.Expr.{Expr};
+ghost use Rattle.std.specs.Prelude.{◌≡◌, ◌+◌, ◌-◌, ◌*◌, ◌≤◌, ◌<◌, length};
 ghost use Rattle.expression.specs.Written.{most_words, ExprWritten};
 
 use crate::{Numbers, Span};

@@ -3,7 +3,7 @@
 
 pub mod blank_column;
 
-ghost use Rattle.std.specs.Prelude.{◌≡◌, map, ℕ, ◌+◌, ◌*◌, ◌^◌, ◌<◌, ◌≤◌, length, get_or, take, drop};
+ghost use Rattle.std.specs.Prelude.{◌≡◌, map, ℕ, ◌+◌, ◌*◌, ◌^◌, ◌<◌, ◌≤◌, length, get_or};
 ghost use Rattle.field.specs.Field.{𝔾, el, val};
 ghost use Rattle.lists.specs.Lists.{tabulate, write_at, split, total};
 ghost use Rattle.prover.specs.Columns.{instance_at};

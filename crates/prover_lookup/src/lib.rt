@@ -7,7 +7,7 @@ pub mod group;
 pub mod h;
 pub mod m;
 
-ghost use Rattle.std.specs.Prelude.{◌≡◌, ◌+◌, ◌*◌, ◌≤◌, ◌<◌, length, get_or};
+ghost use Rattle.std.specs.Prelude.{◌+◌, ◌*◌, ◌≤◌, ◌<◌, length, get_or};
 ghost use Rattle.field.specs.Element.{elem};
 ghost use Rattle.lists.specs.Lists.{All, total};
 ghost use Rattle.prover.specs.Words.{Small};

@@ -1,6 +1,6 @@
 -- `expression_values` meets its contract.
-use mathlib.Core.Path.{◌≡◌, ◌∙◌, sym, refl, subst⁻¹}
-use mathlib.Core.Bool.{true, ◌&&◌}
+use mathlib.Core.Path.{◌∙◌, sym, refl, subst⁻¹}
+use mathlib.Core.Bool.{true}
 use Prim.Native.Nat.{◌≤◌}
 use native.Mathlib.Omega.{arith}
 use lib.Dec.{leb}

@@ -1,6 +1,5 @@
 -- The cells left to walk, with the label at hand, give what all of them gave at first.
-use Rattle.std.proofs.Common.{◌≡◌, ◌<◌, length, ◌-◌, arith, get_or, ap, sym, ◌∙◌, ℕ}
-use Rattle.preprocessor.proofs.Walks.{along_start}
+use Rattle.std.proofs.Common.{length, ◌-◌, arith, get_or, ap, sym, ◌∙◌, ℕ}
 use Rattle.preprocessor_permutation.specs.Cells.{cell_of}
 use Rattle.preprocessor_permutation.proofs.records.Laws as cycle
 use Rattle.preprocessor_permutation.proofs.records.walk.Goals as goal
