@@ -53,7 +53,7 @@ pub fn stop(scan: Scan, wrong: Wrong) -> Result<Scan, Fault>
     ensures { Stopped scan wrong result }
 {
     let fault = Fault {
-        wrong: wrong,
+        wrong,
         line: scan.line,
     };
     Err(fault)
@@ -72,9 +72,9 @@ fn end_number(scan: Scan, words: &mut [u64], stands: Stands, line: u64) -> Resul
         count += 1;
     }
     Ok(Scan {
-        count: count,
-        stands: stands,
-        line: line,
+        count,
+        stands,
+        line,
     })
 }
 
@@ -102,9 +102,8 @@ fn take_digit(scan: Scan, byte: u8) -> Result<Scan, Fault>
         return stop(scan, Wrong::TooLarge);
     };
     Ok(Scan {
-        count: scan.count,
         stands: Stands::Number(value),
-        line: scan.line,
+        ..scan
     })
 }
 

@@ -3,11 +3,9 @@ use mathlib.Core.Path.{◌≡◌, sym, ap, ◌∙◌}
 use mathlib.Core.Bool.{Bool, cond}
 use mathlib.Core.List.{List, [], ◌∷◌}
 use Prim.Native.Nat.{ℕ, ◌≤◌, ◌<◌}
-use native.Mathlib.Omega.{arith}
-use lib.ListN.{length, set}
+use lib.ListN.{length}
 use borrow.Author.Tests.{le-leb, lt-leb}
 use Rattle.lists.specs.Lists.{write_prefix}
-use Rattle.lists.proofs.Over.{write_at_sets, write_at_write_prefix}
 use Rattle.hyperplonk_spec.specs.Build.{Output}
 use Rattle.hyperplonk_spec.specs.Entries.{BuildEntry, Entry, answered, build_entry, sum_entry, sizes_entry}
 use Rattle.hyperplonk_spec.specs.declared.Built.{Built}
@@ -19,16 +17,9 @@ pub kept : (ws d : List ℕ) → length d < length ws → d ≡ answered ws d
 unfolding answered
 kept ws d h = sym (ap (λ (t : Bool). cond t (write_prefix ws d) d) (lt-leb (length ws) (length d) h))
 
-room : (ws d : List ℕ) → length ws ≤ length d → write_prefix ws d ≡ answered ws d
+pub room : (ws d : List ℕ) → length ws ≤ length d → write_prefix ws d ≡ answered ws d
 unfolding answered
 room ws d h = sym (ap (λ (t : Bool). cond t (write_prefix ws d) d) (le-leb (length ws) (length d) h))
-
-pub one : (d : List ℕ) (a : ℕ) → 1 ≤ length d → set d 0 a ≡ answered (a ∷ []) d
-one d a h = write_at_sets (a ∷ []) d 0 (omega arith) ∙ sym (write_at_write_prefix (a ∷ []) d) ∙ room (a ∷ []) d h
-
-pub three : (d : List ℕ) (a b c : ℕ) → 3 ≤ length d → set (set (set d 0 a) 1 b) 2 c ≡ answered (a ∷ b ∷ c ∷ []) d
-three d a b c h =
-    write_at_sets (a ∷ b ∷ c ∷ []) d 0 (omega arith) ∙ sym (write_at_write_prefix (a ∷ b ∷ c ∷ []) d) ∙ room (a ∷ b ∷ c ∷ []) d h
 
 pub entry_built : (o : Output) (r : Built) (columns nodes answer after : List ℕ)
     → ◌≡◌ {A = Output} (record { answer = r; columns = columns; nodes = nodes }) o

@@ -1,4 +1,5 @@
 // The calls as include/hyperplonk.h declares them, by its names: numbers and slices alone. hyperplonk_c exports them to C.
+// Kept: hyperplonk_c exports each of them under the same name, since C needs exported functions, and a crate is a library or a static library.
 ghost use Rattle.std.specs.Prelude.{◌≡◌, [], ◌∷◌};
 ghost use Rattle.hyperplonk_spec.specs.Stages.{m_of, h_of, eq_of};
 ghost use Rattle.hyperplonk_spec.specs.Build.{build_of, lent_build};
@@ -34,23 +35,12 @@ pub fn hyperplonk_eq_xy(k: u64, y: &[u64], out: &mut [u64]) -> u64
     eq_xy(k, y, out)
 }
 
-// One word of an answer; an empty one is left as it is.
-fn answer_one(answer: &mut [u64], a: u64)
-    ensures { answer.new ≡ answered (a ∷ []) answer.old }
+// Writes the words of an answer over its first; a shorter one is left as it is.
+fn write_answer(answer: &mut [u64], words: &[u64])
+    ensures { answer.new ≡ answered words.now answer.old }
 {
-    if answer.len() >= 1 {
-        answer[0] = a;
-    }
-}
-
-// Three words of an answer; a shorter one is left as it is.
-fn answer_three(answer: &mut [u64], a: u64, b: u64, c: u64)
-    ensures { answer.new ≡ answered (a ∷ b ∷ c ∷ []) answer.old }
-{
-    if answer.len() >= 3 {
-        answer[0] = a;
-        answer[1] = b;
-        answer[2] = c;
+    if answer.len() >= words.len() {
+        answer[..words.len()].copy_from_slice(words);
     }
 }
 
@@ -58,20 +48,22 @@ pub fn hyperplonk_sizes(circuit: &[u64], answer: &mut [u64]) -> u64
     ensures { record { number = result; answer = answer.new } ≡ sizes_entry (sizes_of circuit.now) answer.old }
 {
     let told = sizes(circuit);
-    answer_three(
+    write_answer(
         answer,
-        told.column_words as u64,
-        told.nodes as u64,
-        told.visits as u64,
+        &[
+            told.column_words as u64,
+            told.nodes as u64,
+            told.visits as u64,
+        ],
     );
     told.number
 }
 
-pub fn hyperplonk_build<'a>(
-    circuit: &'a [u64],
+pub fn hyperplonk_build(
+    circuit: &[u64],
     instance: &[u64],
-    witness: &'a [u64],
-    challenges: &'a [u64],
+    witness: &[u64],
+    challenges: &[u64],
     columns: &mut [u64],
     nodes: &mut [u64],
     answer: &mut [u64],
@@ -79,27 +71,25 @@ pub fn hyperplonk_build<'a>(
     ensures { record { number = result; columns = columns.new; nodes = nodes.new; answer = answer.new } ≡ build_entry (build_of (lent_build circuit.now instance.now witness.now challenges.now columns.old nodes.old)) answer.old }
 {
     let b = build(circuit, instance, witness, challenges, columns, nodes);
-    answer_three(
+    write_answer(
         answer,
-        b.column_words as u64,
-        b.nodes as u64,
-        b.z_columns as u64,
+        &[b.column_words as u64, b.nodes as u64, b.z_columns as u64],
     );
     b.number
 }
 
-pub fn hyperplonk_row_sum<'a>(
-    circuit: &'a [u64],
-    witness: &'a [u64],
-    columns: &'a [u64],
-    nodes: &'a [u64],
-    challenges: &'a [u64],
+pub fn hyperplonk_row_sum(
+    circuit: &[u64],
+    witness: &[u64],
+    columns: &[u64],
+    nodes: &[u64],
+    challenges: &[u64],
     y: &[u64],
     answer: &mut [u64],
 ) -> u64
     ensures { record { number = result; answer = answer.new } ≡ sum_entry (row_sum_of (lent_sum circuit.now witness.now columns.now nodes.now challenges.now y.now)) answer.old }
 {
     let s = row_sum(circuit, witness, columns, nodes, challenges, y);
-    answer_one(answer, s.sum);
+    write_answer(answer, &[s.sum]);
     s.number
 }

@@ -15,7 +15,7 @@ ghost use Rattle.completeness.specs.DemandWhole.{DemandThreeWhole};
 use hyperplonk_spec::{Built, RowSum, Sizes, Summed};
 pub use hyperplonk_stages::{eq_xy, lookup_h_poly, lookup_m_poly};
 
-// Kept: `sizes`, `build` and `row_sum` call one function each, since a `pub use` would show no contract here, and this file has what each call promises.
+// Kept: `sizes`, `build` and `row_sum` are functions and no `pub use` as the three stages, since what demand 3 promises of them (`Foretells`, `DemandThreeAt`, `RowSumClaim`) is read here, and must-fail edits show here that it is proved.
 
 // What a circuit asks for, before there is a log: the words that building needs, and the nodes that one evaluation on one row visits.
 pub fn sizes(circuit: &[u64]) -> Sizes
@@ -25,11 +25,11 @@ pub fn sizes(circuit: &[u64]) -> Sizes
 }
 
 // The building call.
-pub fn build<'a>(
-    circuit: &'a [u64],
+pub fn build(
+    circuit: &[u64],
     instance: &[u64],
-    witness: &'a [u64],
-    challenges: &'a [u64],
+    witness: &[u64],
+    challenges: &[u64],
     columns: &mut [u64],
     nodes: &mut [u64],
 ) -> Built
@@ -39,12 +39,12 @@ pub fn build<'a>(
 }
 
 // The row sum.
-pub fn row_sum<'a>(
-    circuit: &'a [u64],
-    witness: &'a [u64],
-    columns: &'a [u64],
-    nodes: &'a [u64],
-    challenges: &'a [u64],
+pub fn row_sum(
+    circuit: &[u64],
+    witness: &[u64],
+    columns: &[u64],
+    nodes: &[u64],
+    challenges: &[u64],
     y: &[u64],
 ) -> RowSum
     ensures { let lent = lent_sum circuit.now witness.now columns.now nodes.now challenges.now y.now in (result ≡ row_sum_of lent) × RowSumClaim lent result }
@@ -54,11 +54,11 @@ pub fn row_sum<'a>(
 
 // Builds with all challenges but the last, α, and then sums what was written over the rows, with all challenges and y. What it returns and
 // leaves is one definition's, for any words and buffers; and demand 3 holds of it.
-pub fn build_and_sum<'a>(
-    circuit: &'a [u64],
+pub fn build_and_sum(
+    circuit: &[u64],
     instance: &[u64],
-    witness: &'a [u64],
-    challenges: &'a [u64],
+    witness: &[u64],
+    challenges: &[u64],
     y: &[u64],
     columns: &mut [u64],
     nodes: &mut [u64],

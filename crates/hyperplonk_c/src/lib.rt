@@ -1,4 +1,5 @@
 // The calls for C and Rust, by the names that include/hyperplonk.h declares. A slice crosses as a pointer and a length.
+// Kept: each function has the name, parameters and contract of the one that it calls, since C needs exported functions, and a crate is a library or a static library.
 #![tactic(auto)]
 
 ghost use Rattle.std.specs.Prelude.{◌≡◌};
@@ -51,11 +52,11 @@ pub extern "C" fn hyperplonk_sizes(circuit: &[u64], answer: &mut [u64]) -> u64
 }
 
 #[unsafe(no_mangle)]
-pub extern "C" fn hyperplonk_build<'a>(
-    circuit: &'a [u64],
+pub extern "C" fn hyperplonk_build(
+    circuit: &[u64],
     instance: &[u64],
-    witness: &'a [u64],
-    challenges: &'a [u64],
+    witness: &[u64],
+    challenges: &[u64],
     columns: &mut [u64],
     nodes: &mut [u64],
     answer: &mut [u64],
@@ -68,12 +69,12 @@ pub extern "C" fn hyperplonk_build<'a>(
 }
 
 #[unsafe(no_mangle)]
-pub extern "C" fn hyperplonk_row_sum<'a>(
-    circuit: &'a [u64],
-    witness: &'a [u64],
-    columns: &'a [u64],
-    nodes: &'a [u64],
-    challenges: &'a [u64],
+pub extern "C" fn hyperplonk_row_sum(
+    circuit: &[u64],
+    witness: &[u64],
+    columns: &[u64],
+    nodes: &[u64],
+    challenges: &[u64],
     y: &[u64],
     answer: &mut [u64],
 ) -> u64

@@ -1,4 +1,5 @@
 // What the calls of `hyperplonk` return; specs/ says what each call returns and writes.
+// Kept: `number` stands beside values, which a refusal leaves 0, and is no Result: the C interface answers a number and all words, and document 01's definitions say both of a refusal.
 #![tactic(auto)]
 
 // What the building call returns.

@@ -1,4 +1,5 @@
 // Expressions and the questions from C, for the oracle. A slice crosses as a pointer and a length.
+// Kept: each function has the name, parameters and contract of the one that it calls, since C needs exported functions, and a crate is a library or a static library.
 #![tactic(auto)]
 
 ghost use Rattle.std.specs.Prelude.{◌≡◌, length};
@@ -30,13 +31,13 @@ pub extern "C" fn expression_queries(
 }
 
 #[unsafe(no_mangle)]
-pub extern "C" fn expression_values<'a>(
+pub extern "C" fn expression_values(
     k: usize,
-    nodes: &'a [u64],
-    circuit: &'a [u64],
-    witness: &'a [u64],
-    columns: &'a [u64],
-    challenges: &'a [u64],
+    nodes: &[u64],
+    circuit: &[u64],
+    witness: &[u64],
+    columns: &[u64],
+    challenges: &[u64],
     layout: &[u64],
     eq: &[u64],
     n: usize,
