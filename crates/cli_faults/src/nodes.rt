@@ -136,10 +136,7 @@ impl Bounds<'_> {
     // Question 6, of node n, which begins at a place: Constants and scalars below p.
     pub(crate) fn value_fault(self, at: usize, n: u64) -> Option<usize> {
         let node = self.node(n);
-        let held = matches!(
-            Kind::try_from(node.kind),
-            Ok(Kind::Constant | Kind::Scaled)
-        );
+        let held = matches!(Kind::try_from(node.kind), Ok(Kind::Constant | Kind::Scaled));
         (held && !is_element(node.value)).then_some(NodeWord::Value.in_node(at))
     }
 
@@ -213,7 +210,9 @@ impl Bounds<'_> {
         match Kind::try_from(node.kind) {
             Ok(Kind::EqXy) => Some(at),
             Ok(Kind::Polynomial) if self.polys <= node.first => Some(NodeWord::First.in_node(at)),
-            Ok(Kind::Polynomial) if !is_near(node.value, self.k) => Some(NodeWord::Value.in_node(at)),
+            Ok(Kind::Polynomial) if !is_near(node.value, self.k) => Some(NodeWord::Value.in_node(
+                at,
+            )),
             Ok(Kind::Challenge) if self.user <= node.first => Some(NodeWord::First.in_node(at)),
             _ => None,
         }

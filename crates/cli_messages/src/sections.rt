@@ -35,7 +35,10 @@ fn expressions(out: Stdout, b: Bounds) -> io::Result<()> {
         b.word(WIDTH_COUNT),
         b.word(PAIR_COUNT)
     )?;
-    println!(out; "cycles: {}, cells in all: {}", b.lengths.count, b.cells.count)
+    println!(out;
+        "cycles: {}, cells in all: {}",
+        b.lengths.count, b.cells.count
+    )
 }
 
 // The sections with their counts.

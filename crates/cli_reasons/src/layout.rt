@@ -106,7 +106,11 @@ fn kind_why(err: Stderr, b: Bounds, n: u64, kind: u64) -> io::Result<()> {
     if is_kind(kind) {
         names_why(err, b, n)?;
     } else {
-        println!(err; "kind {kind}, from {} to {}", Kind::Constant as u64, Kind::Item as u64)?;
+        println!(err;
+            "kind {kind}, from {} to {}",
+            Kind::Constant as u64,
+            Kind::Item as u64
+        )?;
     }
     Ok(())
 }
