@@ -17,9 +17,6 @@ room i k n l h = omega (arith, pow-suc 2 i, pow_mono {i = suc i} {j = k} l)
 positive : (k n : ℕ) → 2 ^ k ≤ n → 0 < n
 positive k n h = omega (arith, pow_pos k)
 
-pub bounds-out-0 : goal.bounds-out-0
-bounds-out-0 c = positive c.args.k (length c.args.out.now) c.requires.2
-
 pub loop-i-init : goal.loop-i-init
 loop-i-init c = (refl, λ d h e. e ∙ table_start c.args.y.now d _ _ refl el_one (positive _ _ h))
 

@@ -14,9 +14,6 @@ use Rattle.lists.specs.Lists.{write_at}
 use Rattle.prover.proofs.Instance.{place_start, place_more, place_end}
 use Rattle.prover_instance.proofs.instance_column.Goals as goal
 
-pub clear-requires : goal.clear-requires
-clear-requires c = rw c.rows_of.ensures c.requires.3
-
 pub loop-value-init : goal.loop-value-init
 loop-value-init c =
     let k = c.args.k in (

@@ -12,9 +12,6 @@ use Rattle.prover.proofs.Rows.{row_turns, read_there, read_word}
 use Rattle.prover.proofs.PowerSums.{compressed_here}
 use Rattle.prover_compressed.proofs.Lent.lookup_compressed_poly.Goals as goal
 
-pub rows_of-rows-requires : goal.rows_of-rows-requires
-rows_of-rows-requires c = omega (arith, c.args.polys.small.1)
-
 pub overflow_mul-given : goal.overflow_mul-given
 overflow_mul-given c =
     let pre = c.requires in
@@ -62,9 +59,6 @@ bounds-columns-polys c =
     let l = c.loop-place in
     omega (arith, pre, l.invariant.1.size, row_in c.args.polys.k l.row l.place c.args.polys.small.0 c.args.polys.small.1 l.invariant.0)
 
-pub row_after-row-requires : goal.row_after-row-requires
-row_after-row-requires c = (c.args.polys.small.0, c.args.polys.small.1, c.loop-place.invariant.0)
-
 pub loop-place-preserved : goal.loop-place-preserved
 loop-place-preserved c =
     let a = c.args in
@@ -78,9 +72,6 @@ loop-place-preserved c =
           (roots_of a.of.now.nodes.now a.of.now.pairs.now a.of.now.roots) l.row l.place _ (row_in a.polys.k l.row l.place c.args.polys.small.0 c.args.polys.small.1 l.invariant.0) (c.from.ensures ∙ ap val c.compressed_at-x.ensures)
           ∙ ap (λ (x : ℕ). val (compressed_in 𝔾 (environment_from_words a.self.now.circuit.now a.self.now.witness.now a.columns.now a.self.now.challenges.now a.polys.layout a.polys.k) (elem a.polys.beta) (roots_of a.of.now.nodes.now a.of.now.pairs.now a.of.now.roots) x)) l.invariant.0),
     )
-
-pub shape_of-columns : goal.shape_of-columns
-shape_of-columns c = c.loop-place.invariant.1.size
 
 pub returns : goal.returns
 returns c =

@@ -20,9 +20,6 @@ none : (ns : List ℕ) → 0 ≡ total (take 0 ns)
 unfolding total
 none ns = refl
 
-pub rows_of-rows-requires : goal.rows_of-rows-requires
-rows_of-rows-requires c = omega (arith, c.args.polys.small.1)
-
 pub loop-word-init : goal.loop-word-init
 loop-word-init c =
     let a = c.args in
@@ -49,12 +46,6 @@ overflow_add-start c =
     let a = c.args in
     omega (arith, part_there _ _ c.loop-word-test.true _ _ c.loop-word.invariant.1 (let q : total a.self.now.widths.now ≤ total a.self.now.widths.now = omega arith in q), c.args.self.now.paired)
 
-pub overflow_add-at : goal.overflow_add-at
-overflow_add-at c = omega (arith, lookup_there _ _ _ _ _ _ c.loop-word-test.true c.loop-word.invariant.2 c.requires, c.rows_of-rows.ensures)
-
-pub overflow_add-at-in-loop-word : goal.overflow_add-at-in-loop-word
-overflow_add-at-in-loop-word c = omega (arith, lookup_there _ _ _ _ _ _ c.loop-word-test.true c.loop-word.invariant.2 c.requires, c.rows_of-rows.ensures)
-
 pub loop-word-preserved : goal.loop-word-preserved
 loop-word-preserved c =
     let test = c.loop-word-test in
@@ -69,9 +60,6 @@ loop-word-preserved c =
       all_more a.polys.k a.polys.small.1 _ a.polys.given _ _ _ _ a.self.now.nodes.now a.self.now.pairs.now a.self.now.widths.now l.word-index test.true a.columns.now l.columns _ a.polys.to l.at l.start _
           a.polys.before (omega (arith, lookup_there _ _ _ _ _ _ test.true l.invariant.2 pre)) l.invariant.1 refl l.invariant.2 l.invariant.4 compressed-pair.ensures,
     )
-
-pub shape_of-columns : goal.shape_of-columns
-shape_of-columns c = c.loop-word.invariant.3
 
 pub returns : goal.returns
 returns c =
