@@ -10,4 +10,4 @@ told-yes : (ws : List ℕ) (s : Sizes) → s ≡ sizes_of ws → s.number ≡ 0 
 told-yes ws s e z = accepted_when ws (sym (ap (λ (t : Sizes). t.number) e) ∙ z)
 
 pub invariant_of-accepted : goal.invariant_of-accepted
-invariant_of-accepted c = told-yes _ _ c.sizes-told.ensures.0 c.if-told-ne0.false
+invariant_of-accepted c = record { accepted = told-yes _ _ c.sizes-told.ensures.0 c.if-told-ne0.false }
