@@ -53,7 +53,7 @@ fn fill(file: &mut (impl Write + OpenFile), built: &Built) -> io::Result<()> {
     file.sync_all()
 }
 
-// Fills, closes and renames the file beside; where that fails there is none any more, and it says why.
+// Fills, closes and renames the file beside; where that fails, removes it and says why.
 fn through<R: Files>(
     host: &Host<R>,
     path: &str,

@@ -16,6 +16,7 @@ use field::goldilocks::Goldilocks;
 use lists::word_at;
 
 // `poly` is the polynomial's number of a copied column, else 0.
+// Kept: specs/Zero.antt says which number stands where there is none, and it keeps its meaning.
 #[derive(Clone, Copy, Drop)]
 pub struct ZeroDenominator {
     pub of: Column,

@@ -1,4 +1,4 @@
-// What the numbers 15 and 17 of a build leave unsaid: the first reading that stands in no row of its group's table, and the first
+// What the numbers 15 and 17 of a build do not say: the first reading that stands in no row of its group's table, and the first
 // denominator that is zero. The call has zeroed the columns, so those before m are filled anew. For messages: proved safe and
 // ending, and that what is named is as said.
 #![tactic(auto)]

@@ -46,7 +46,7 @@ pub(crate) struct Search<'a> {
 }
 
 impl<'a> Search<'a> {
-    // Of columns before m that are filled.
+    // A search in a buffer whose columns before m are filled.
     pub fn new(
         prepared: &'a PreparedCircuit<'a>,
         witness: &'a [u64],

@@ -1,4 +1,4 @@
-// What the program holds of the system.
+// What the system gives the program.
 use std::io::{Stderr, Stdout};
 use std::process::Process;
 

@@ -11,7 +11,7 @@ enum Stands {
     Comment,
 }
 
-// How far a reading has come: how many words are to be passed over, the line, and where in it.
+// The state of a reading: how many words come before the one that is looked for, the line, and what the next byte stands in.
 #[derive(Clone, Copy)]
 struct Walk {
     left: usize,

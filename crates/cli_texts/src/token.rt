@@ -19,7 +19,7 @@ pub fn ends(byte: u8) -> bool {
     matches!(byte, b'#' | b' ' | b'\t'..=b'\r')
 }
 
-// How far the reading has come, until the token that is no word ends it, and the token that it stands in.
+// The state of the reading, or what is wrong with the text so far; and the first bytes of the token begun.
 #[derive(Drop)]
 struct Look {
     scan: Result<Scan, Fault>,
@@ -27,7 +27,7 @@ struct Look {
 }
 
 impl Look {
-    // Keeps a byte of the token, if it is not past those that are told.
+    // Keeps a byte of the token, if there is room.
     fn keep(&mut self, byte: u8) {
         if !self.token.is_full() {
             self.token.push(byte);

@@ -29,7 +29,7 @@ pub enum Stands {
     Comment,
 }
 
-// How far the reading has come: the words so far, where the next byte stands, and its line.
+// The state of a reading: how many words it has, what the next byte stands in, and its line.
 #[derive(Clone, Copy, PartialEq, Eq, Debug)]
 pub struct Scan {
     pub count: usize,

@@ -15,7 +15,7 @@ ghost use Rattle.completeness.specs.DemandWhole.{DemandThreeWhole};
 use hyperplonk_spec::{Built, RowSum, Sizes, Summed};
 pub use hyperplonk_stages::{eq_xy, lookup_h_poly, lookup_m_poly};
 
-// Kept: `sizes`, `build` and `row_sum` are functions and no `pub use` as the three stages, since what demand 3 promises of them (`Foretells`, `DemandThreeAt`, `RowSumClaim`) is read here, and must-fail edits show here that it is proved.
+// Kept: `sizes`, `build` and `row_sum` are functions and not a `pub use` like the three stages, since what demand 3 promises of them (`Foretells`, `DemandThreeAt`, `RowSumClaim`) is read here, and must-fail edits show here that it is proved.
 
 // What a circuit asks for, before there is a log: the words that building needs, and the nodes that one evaluation on one row visits.
 pub fn sizes(circuit: &[u64]) -> Sizes
@@ -54,6 +54,7 @@ pub fn row_sum(
 
 // Builds with all challenges but the last, α, and then sums what was written over the rows, with all challenges and y. What it returns and
 // leaves is one definition's, for any words and buffers; and demand 3 holds of it.
+// Kept: seven parameters, which are those of the two calls.
 pub fn build_and_sum(
     circuit: &[u64],
     instance: &[u64],

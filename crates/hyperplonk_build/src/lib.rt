@@ -41,6 +41,7 @@ fn asked<'a>(
     ensures { record { answer = answered result; columns = columns.new; nodes = nodes.new } ≡ build_of (lent_build circuit.now inputs.entry.instance.now inputs.entry.witness.now inputs.entry.challenges.now columns.old nodes.old) }
 {
     let accepted = AcceptedCircuit::new(circuit)?;
+    // Kept: the error is a question's number, which the call answers to C.
     if !accepted.question_12(&inputs) {
         return Err(12);
     }

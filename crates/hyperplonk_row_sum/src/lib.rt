@@ -120,6 +120,7 @@ fn asked<'a>(circuit: &'a [u64], lent: &Lent<'a>) -> Result<u64, u64>
 {
     let accepted = AcceptedCircuit::new(circuit)?;
     let prepared = PreparedCircuit::new(accepted);
+    // Kept: the error is a question's number, which the call answers to C.
     if !lent.question_16(&prepared) {
         return Err(16);
     }

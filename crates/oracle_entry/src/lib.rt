@@ -19,6 +19,7 @@ use expression_query::used_queries;
 use lists::word_at;
 
 // The degree of node n, 1025 where it is more, 0 where there is no node.
+// Kept: the number is what C is answered.
 pub fn expression_degree(nodes: &[u64], n: usize) -> u64
     ensures { result ≡ degree_at nodes.now n }
 {

@@ -8,33 +8,29 @@ fn agrees(block: &Block, returned: usize, after: usize, number: u64, buffer: &[u
 }
 
 fn lookup_m_poly(block: &Block, room: &mut [u64]) -> bool {
-    let n = fill(block.slice(3), room);
-    let number = hyperplonk::lookup_m_poly(
-        block.number(0),
-        block.slice(1),
-        block.slice(2),
-        &mut room[..n],
-    );
-    agrees(block, 4, 5, number, &room[..n])
+    let m = fill(block.slice(3), room);
+    let number =
+        hyperplonk::lookup_m_poly(block.number(0), block.slice(1), block.slice(2), m);
+    agrees(block, 4, 5, number, m)
 }
 
 fn lookup_h_poly(block: &Block, room: &mut [u64]) -> bool {
-    let n = fill(block.slice(5), room);
+    let h = fill(block.slice(5), room);
     let number = hyperplonk::lookup_h_poly(
         block.number(0),
         block.slice(1),
         block.slice(2),
         block.slice(3),
         block.number(4),
-        &mut room[..n],
+        h,
     );
-    agrees(block, 6, 7, number, &room[..n])
+    agrees(block, 6, 7, number, h)
 }
 
 fn eq_xy(block: &Block, room: &mut [u64]) -> bool {
-    let n = fill(block.slice(2), room);
-    let number = hyperplonk::eq_xy(block.number(0), block.slice(1), &mut room[..n]);
-    agrees(block, 3, 4, number, &room[..n])
+    let values = fill(block.slice(2), room);
+    let number = hyperplonk::eq_xy(block.number(0), block.slice(1), values);
+    agrees(block, 3, 4, number, values)
 }
 
 // The building call on the lent slices of a block, with the buffers as they were lent: are these its returned words?
@@ -57,12 +53,10 @@ fn built_same(block: &Block, columns: &mut [u64], nodes: &mut [u64]) -> bool {
 }
 
 fn build(block: &Block, room: &mut [u64]) -> bool {
-    let mut nodes = [0u64; 8192];
-    let m = fill(block.slice(5), &mut nodes);
-    let n = fill(block.slice(4), room);
-    built_same(block, &mut room[..n], &mut nodes[..m])
-        && block.slice(7) == &room[..n]
-        && block.slice(8) == &nodes[..m]
+    let mut room_of_nodes = [0u64; 8192];
+    let nodes = fill(block.slice(5), &mut room_of_nodes);
+    let columns = fill(block.slice(4), room);
+    built_same(block, columns, nodes) && block.slice(7) == columns && block.slice(8) == nodes
 }
 
 fn row_sum(block: &Block) -> bool {

@@ -1,6 +1,7 @@
 // What document 01 says of every answer, whatever its columns.
 use crate::call::Call;
-use crate::slices::{Block, kept, number_then_zeros, word, zeroed};
+use crate::slices::{Block, kept, number_then_zeros, zeroed};
+use lists::word_at;
 
 // Is the buffer of line b what the one of line a may become under this number, which is 0 where so many words were written?
 fn is_after(block: &Block, a: usize, b: usize, number: u64, is_nodes: bool, written: u64) -> bool {
@@ -23,8 +24,8 @@ fn is_stage_after(block: &Block, a: usize, b: usize, number: u64) -> bool {
 // The building call says how many column words and nodes it writes.
 fn are_built_after(block: &Block, number: u64) -> bool {
     let returned = block.slice(6);
-    let columns = word(returned, 1);
-    let nodes = word(returned, 2);
+    let columns = word_at(returned, 1);
+    let nodes = word_at(returned, 2);
     is_after(block, 4, 7, number, false, columns) && is_after(block, 5, 8, number, true, nodes << 2)
 }
 
@@ -49,7 +50,7 @@ pub enum Shown {
 // What the block of a call shows; none where it is not right.
 pub fn judge(call: Call, block: &Block) -> Option<Shown> {
     let returned = block.slice(call.returned_line());
-    let number = word(returned, 0);
+    let number = word_at(returned, 0);
     if returned.len() != call.returned_words() || !are_buffers_right(call, block, number) {
         return None;
     }

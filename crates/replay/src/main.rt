@@ -55,8 +55,8 @@ fn block<'a>(
         return Ok(None);
     };
     let block = Block {
-        words: words,
-        starts: starts,
+        words,
+        starts,
     };
     Ok(look(rt, call, &block, room, counts)?.then_some(rest))
 }
@@ -109,6 +109,7 @@ fn read_full(file: &mut impl Read, text: &mut [u8]) -> usize
     ensures { result ≤ length text.new }
 {
     let mut done: usize = 0;
+    // Kept: each turn goes on by as many bytes as the read answers, so no range counts them.
     while done < text.len() {
         match file.read(&mut text[done..]) {
             Ok(0) | Err(_) => return done,

@@ -1,7 +1,6 @@
 // The words of a block, and its slices, each with its length first.
-ghost use Rattle.std.specs.Prelude.{◌≤◌, length};
-
 use crate::text::LINES;
+use lists::word_at;
 
 // The words of a block, and where its lines start among them.
 #[derive(Clone, Copy)]
@@ -29,13 +28,8 @@ impl<'a> Block<'a> {
 
     // The number in a line, a slice of one word.
     pub fn number(&self, line: usize) -> u64 {
-        word(self.slice(line), 0)
+        word_at(self.slice(line), 0)
     }
-}
-
-// A word of a slice, 0 past the last.
-pub fn word(slice: &[u64], i: usize) -> u64 {
-    slice.get(i).copied().unwrap_or(0)
 }
 
 // Have two slices the same length, and the same words after the first `skip`?
@@ -62,14 +56,12 @@ pub fn number_then_zeros(slice: &[u64]) -> bool {
     slice.iter().skip(1).all(|word| *word == 0)
 }
 
-// Copies a slice to the front of a buffer, and answers its length; 0 where it does not fit.
-pub fn fill(slice: &[u64], room: &mut [u64]) -> usize
-    ensures { result ≤ length room.new }
-{
-    let n = slice.len();
-    if n > room.len() {
-        return 0;
+// Copies a slice to the front of a buffer, and gives that part of the buffer; an empty part where the slice does not fit.
+pub fn fill<'a>(slice: &[u64], room: &'a mut [u64]) -> &'a mut [u64] {
+    if slice.len() > room.len() {
+        return &mut room[..0];
     }
-    room[..n].copy_from_slice(slice);
-    n
+    let part = &mut room[..slice.len()];
+    part.copy_from_slice(slice);
+    part
 }
