@@ -3,7 +3,7 @@ use std::io;
 use std::io::Read;
 
 // Gives the parts of a file to `take`, one after another, until it answers something; that answer, or none where the file ends
-// before. The turns are more than any run uses up.
+// before. It takes at most 2^64 - 1 parts.
 pub(crate) fn find_in<T, F: FnMut(&[u8]) -> Option<T>>(
     file: &mut impl Read,
     mut take: F,
