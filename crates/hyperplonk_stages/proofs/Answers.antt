@@ -2,12 +2,12 @@
 use mathlib.Core.Path.{◌≡◌, refl, sym, ap, ap₂, ◌∙◌}
 use mathlib.Core.Bool.{Bool, true, false, cond, ◌&&◌}
 use mathlib.Core.List.{List, [], ◌∷◌, ◌++◌}
-use Prim.Native.Nat.{ℕ, suc, ◌^◌, ◌≤◌, ◌<◌}
+use Prim.Native.Nat.{ℕ, suc, ◌^◌, ◌≤◌}
 use native.Mathlib.Nat.{suc-ne-zero}
 use native.Mathlib.Omega.{arith}
 use lib.Dec.{eqb, leb}
 use lib.ListN.{length, get_or, replicate}
-use borrow.Author.Tests.{leb-true, eqb-true, ltb-true, le-leb, lt-leb, ne_eqb}
+use borrow.Author.Tests.{leb-true, eqb-true, ltb-true, ne_eqb}
 use Rattle.field.specs.Field.{𝔾, val}
 use Rattle.lists.specs.Lists.{tabulate, all_of, write_prefix, write_at}
 use Rattle.lists.proofs.Columns.{tabulate_length}
@@ -25,6 +25,11 @@ use Rattle.hyperplonk_stages.specs.Refusal.{refusal_number, answer_number}
 use Rattle.hyperplonk_stages.specs.declared.Refusal.{Refusal}
 use Rattle.hyperplonk_spec.specs.Stages.{Answer, check_stage, fits}
 
+-- the number where `?` passes a refusal on
+passed_on : (told : Result (Unit {0}) Refusal) (e r : Refusal) → IsErrAnd told (λ x. x ≡ e) → e ≡ r → answer_number told ≡ refusal_number r
+passed_on (Ok done) e r h q = absurd h
+passed_on (Err x) e r h q = ap refusal_number (h ∙ q)
+
 -- ---- the questions in order, and the answer by their number
 module _ (k : ℕ) (exact : ℕ → Bool) (values out : List ℕ) (answer : Answer) where
   abbrev no : ℕ
@@ -33,40 +38,44 @@ module _ (k : ℕ) (exact : ℕ → Bool) (values out : List ℕ) (answer : Answ
   abbrev result : Answer
   result = cond (eqb no 0) answer (record { number = no; out = out })
 
-  refused : (n : ℕ) → no ≡ suc n → record { number = suc n; out = out } ≡ result
-  refused n e =
-      ap (λ (m : ℕ). record { number = m; out = out }) (sym e)
-      ∙ ap (λ (t : Bool). cond t answer (record { number = no; out = out })) (sym (ne_eqb no 0 (λ z. suc-ne-zero n (sym e ∙ z))))
+  -- refused by an `Err` of e, which `?` passes on
+  module _ (told : Result (Unit {0}) Refusal) (e : Refusal) (passed : IsErrAnd told (λ x. x ≡ e)) where
+    refused : (r : Refusal) (n : ℕ) → refusal_number r ≡ suc n → e ≡ r → no ≡ suc n
+        → record { number = answer_number told; out = out } ≡ result
+    refused r n is q f =
+        ap (λ (m : ℕ). record { number = m; out = out }) (passed_on told e r passed q ∙ is ∙ sym f)
+        ∙ ap (λ (t : Bool). cond t answer (record { number = no; out = out })) (sym (ne_eqb no 0 (λ z. suc-ne-zero n (sym f ∙ z))))
 
-  pub no_2 : good_k k ≡ false → record { number = 2; out = out } ≡ result
-  unfolding check_stage
-  no_2 a = refused 1 (first_number_is _ _ k a)
-
-  module _ (a : good_k k ≡ true) where
-    pub no_12 : exact k ≡ false → record { number = 12; out = out } ≡ result
+    pub no_2 : e ≡ Refusal.K → good_k k ≡ false → record { number = answer_number told; out = out } ≡ result
     unfolding check_stage
-    no_12 b = refused 11 (first_next _ _ k a ∙ first_number_is _ _ k b)
+    no_2 q a = refused Refusal.K 1 refl q (first_number_is _ _ k a)
 
-    module _ (b : exact k ≡ true) where
-      pub no_13 : all_of small values ≡ false → record { number = 13; out = out } ≡ result
-      unfolding check_stage
-      no_13 c = refused 12 (first_next _ _ k a ∙ first_next _ _ k b ∙ first_number_is _ _ k c)
+    pub no_12 : good_k k ≡ true → e ≡ Refusal.Lengths → exact k ≡ false → record { number = answer_number told; out = out } ≡ result
+    unfolding check_stage
+    no_12 a q b = refused Refusal.Lengths 11 refl q (first_next _ _ k a ∙ first_number_is _ _ k b)
 
-      module _ (c : all_of small values ≡ true) where
-        pub no_14 : length out < 2 ^ k → record { number = 14; out = out } ≡ result
-        unfolding check_stage
-        no_14 d =
-            refused 13
-            (first_next _ _ k a ∙ first_next _ _ k b ∙ first_next _ _ k c ∙ first_number_is _ _ k (lt-leb (2 ^ k) (length out) d))
+    pub no_13 : good_k k ≡ true → exact k ≡ true → e ≡ Refusal.Values → all_of small values ≡ false
+        → record { number = answer_number told; out = out } ≡ result
+    unfolding check_stage
+    no_13 a b q c = refused Refusal.Values 12 refl q (first_next _ _ k a ∙ first_next _ _ k b ∙ first_number_is _ _ k c)
 
-        none : 2 ^ k ≤ length out → no ≡ 0
-        unfolding check_stage
-        none d =
-            first_next _ _ k a ∙ first_next _ _ k b ∙ first_next _ _ k c ∙ first_next _ _ k (le-leb (2 ^ k) (length out) d)
-            ∙ first_none k
+    pub no_14 : good_k k ≡ true → exact k ≡ true → all_of small values ≡ true → (rows : ℕ) → rows ≡ 2 ^ k → e ≡ Refusal.Room
+        → leb rows (length out) ≡ false
+        → record { number = answer_number told; out = out } ≡ result
+    unfolding check_stage
+    no_14 a b c rows n q d =
+        refused Refusal.Room 13 refl q
+        (first_next _ _ k a ∙ first_next _ _ k b ∙ first_next _ _ k c ∙ first_number_is _ _ k (ap (λ (r : ℕ). leb r (length out)) (sym n) ∙ d))
 
-        pub all_yes : 2 ^ k ≤ length out → answer ≡ result
-        all_yes d = ap (λ (n : ℕ). cond (eqb n 0) answer (record { number = n; out = out })) (sym (none d))
+  module _ (a : good_k k ≡ true) (b : exact k ≡ true) (c : all_of small values ≡ true) (rows : ℕ) (n : rows ≡ 2 ^ k) (d : leb rows (length out) ≡ true) where
+    none : no ≡ 0
+    unfolding check_stage
+    none =
+        first_next _ _ k a ∙ first_next _ _ k b ∙ first_next _ _ k c ∙ first_next _ _ k (ap (λ (r : ℕ). leb r (length out)) (sym n) ∙ d)
+        ∙ first_none k
+
+    pub all_yes : answer ≡ result
+    all_yes = ap (λ (n : ℕ). cond (eqb n 0) answer (record { number = n; out = out })) (sym none)
 
 -- ---- the tests
 pub k_le : (k : ℕ) → good_k k ≡ true → k ≤ 10

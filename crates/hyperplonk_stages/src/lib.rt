@@ -2,7 +2,7 @@
 // Kept: the public functions answer numbers, which the C interface hands on; inside stands an enum.
 #![tactic(auto)]
 
-ghost use Rattle.std.specs.Prelude.{◌≡◌};
+ghost use Rattle.std.specs.Prelude.{◌≡◌, true, false, OnOk, IfErr};
 ghost use Rattle.backend.specs.Questions.{good_k};
 ghost use Rattle.hyperplonk_spec.specs.Stages.{m_of, h_of, eq_of};
 ghost use Rattle.hyperplonk_stages.specs.Refusal.{answer_number};
@@ -51,6 +51,14 @@ fn number_of(answer: Result<(), Refusal>) -> u64
     }
 }
 
+// A question's answer: no is the refusal.
+fn asked(yes: bool, refusal: Refusal) -> Result<(), Refusal>
+    ensures yes { OnOk result (yes ≡ true) }
+    ensures no { IfErr result (λ e. (e ≡ refusal) × (yes ≡ false)) }
+{
+    if yes { Ok(()) } else { Err(refusal) }
+}
+
 // "Is k from 1 to 10?"
 fn good_k(k: u64) -> bool
     ensures { result ≡ good_k k }
@@ -62,21 +70,13 @@ fn good_k(k: u64) -> bool
 fn counts(k: u64, input: &[u64], table: &[u64], m: &mut [u64]) -> Result<(), Refusal>
     ensures { record { number = answer_number result; out = m.new } ≡ m_of k input.now table.now m.old }
 {
-    if !good_k(k) {
-        return Err(Refusal::K);
-    }
+    asked(good_k(k), Refusal::K)?;
     let rows = rows_of(k as usize);
     let exact = (input.len() == rows) & (table.len() == rows);
-    if !exact {
-        return Err(Refusal::Lengths);
-    }
+    asked(exact, Refusal::Lengths)?;
     let small = all_elements(input) & all_elements(table);
-    if !small {
-        return Err(Refusal::Values);
-    }
-    if m.len() < rows {
-        return Err(Refusal::Room);
-    }
+    asked(small, Refusal::Values)?;
+    asked(rows <= m.len(), Refusal::Room)?;
     if !m_column(rows, input, table, m) {
         return Err(Refusal::Uncovered);
     }
@@ -101,22 +101,14 @@ fn quotients(
 ) -> Result<(), Refusal>
     ensures { record { number = answer_number result; out = h.new } ≡ h_of k input.now table.now m.now gamma h.old }
 {
-    if !good_k(k) {
-        return Err(Refusal::K);
-    }
+    asked(good_k(k), Refusal::K)?;
     let rows = rows_of(k as usize);
     let exact = (input.len() == rows) & (table.len() == rows) & (m.len() == rows);
-    if !exact {
-        return Err(Refusal::Lengths);
-    }
+    asked(exact, Refusal::Lengths)?;
     let columns = all_elements(input) & all_elements(table) & all_elements(m);
     let small = columns & is_element(gamma);
-    if !small {
-        return Err(Refusal::Values);
-    }
-    if h.len() < rows {
-        return Err(Refusal::Room);
-    }
+    asked(small, Refusal::Values)?;
+    asked(rows <= h.len(), Refusal::Room)?;
     h_column(rows, input, table, m, Goldilocks::from(gamma), h)?;
     Ok(())
 }
@@ -139,19 +131,11 @@ pub fn lookup_h_poly(
 fn eq_table(k: u64, y: &[u64], out: &mut [u64]) -> Result<(), Refusal>
     ensures { record { number = answer_number result; out = out.new } ≡ eq_of k y.now out.old }
 {
-    if !good_k(k) {
-        return Err(Refusal::K);
-    }
+    asked(good_k(k), Refusal::K)?;
     let size = k as usize;
-    if y.len() != size {
-        return Err(Refusal::Lengths);
-    }
-    if !all_elements(y) {
-        return Err(Refusal::Values);
-    }
-    if out.len() < rows_of(size) {
-        return Err(Refusal::Room);
-    }
+    asked(y.len() == size, Refusal::Lengths)?;
+    asked(all_elements(y), Refusal::Values)?;
+    asked(rows_of(size) <= out.len(), Refusal::Room)?;
     multilinear::eq_xy(size, y, out);
     Ok(())
 }

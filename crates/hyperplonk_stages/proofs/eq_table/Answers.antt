@@ -1,42 +1,44 @@
 use mathlib.Core.Path.{refl, ◌∙◌, sym}
 use native.Mathlib.Omega.{arith}
-use borrow.Author.Tests.{eq-eqb, ne_eqb}
+use borrow.Author.Tests.{leb-true, eqb-true}
 use Rattle.hyperplonk_spec.specs.Stages.{eq_of}
 use Rattle.hyperplonk_stages.proofs.Answers.{no_2, no_12, no_13, no_14, all_yes, k_le, column_done}
 use Rattle.hyperplonk_stages.proofs.eq_table.Goals as goal
 
-pub returns-then-not-good_k : goal.returns-then-not-good_k
+pub returns-in_err-asked : goal.returns-in_err-asked
 unfolding eq_of
-returns-then-not-good_k c = no_2 _ _ _ _ _ (sym c.good_k.ensures ∙ c.if-not-good_k.true)
-
-pub returns-then-y-size : goal.returns-then-y-size
-unfolding eq_of
-returns-then-y-size c = no_12 _ _ _ _ _ ((sym c.good_k.ensures ∙ c.if-not-good_k.false)) (ne_eqb _ _ c.if-y-size.true)
-
-pub returns-then-not-all_elements : goal.returns-then-not-all_elements
-unfolding eq_of
-returns-then-not-all_elements c =
-    no_13 _ _ _ _ _ ((sym c.good_k.ensures ∙ c.if-not-good_k.false)) ((eq-eqb _ _ c.if-y-size.false))
-    (sym c.all_elements.ensures.below ∙ c.if-not-all_elements.true)
+returns-in_err-asked c =
+    no_2 _ _ _ _ _ _ _ c.from_residual.ensures.1 c.in_err-asked.ensures.no.0 (sym c.good_k.ensures ∙ c.in_err-asked.ensures.no.1)
 
 pub rows_of-requires : goal.rows_of-requires
-rows_of-requires c = omega (arith, k_le c.args.k ((sym c.good_k.ensures ∙ c.if-not-good_k.false)))
+rows_of-requires c = omega (arith, k_le c.args.k (sym c.good_k.ensures ∙ c.in_ok-asked.ensures.yes))
 
-pub returns-then-out-rows_of : goal.returns-then-out-rows_of
+pub returns-in_err-asked-2 : goal.returns-in_err-asked-2
 unfolding eq_of
-returns-then-out-rows_of c =
-    no_14 _ _ _ _ _ ((sym c.good_k.ensures ∙ c.if-not-good_k.false)) ((eq-eqb _ _ c.if-y-size.false)) ((sym c.all_elements.ensures.below ∙ c.if-not-all_elements.false)) (omega (arith, c.if-out-rows_of.true, c.rows_of.ensures))
+returns-in_err-asked-2 c =
+    no_12 _ _ _ _ _ _ _ c.from_residual-in_err-asked-2.ensures.1 (sym c.good_k.ensures ∙ c.in_ok-asked.ensures.yes) c.in_err-asked-2.ensures.no.0 c.in_err-asked-2.ensures.no.1
+
+pub returns-in_err-asked-3 : goal.returns-in_err-asked-3
+unfolding eq_of
+returns-in_err-asked-3 c =
+    no_13 _ _ _ _ _ _ _ c.from_residual-in_err-asked-3.ensures.1 (sym c.good_k.ensures ∙ c.in_ok-asked.ensures.yes) c.in_ok-asked-2.ensures.yes c.in_err-asked-3.ensures.no.0
+    (sym c.all_elements.ensures.below ∙ c.in_err-asked-3.ensures.no.1)
+
+pub returns-in_err-asked-4 : goal.returns-in_err-asked-4
+unfolding eq_of
+returns-in_err-asked-4 c =
+    no_14 _ _ _ _ _ _ _ c.from_residual-in_err-asked-4.ensures.1 (sym c.good_k.ensures ∙ c.in_ok-asked.ensures.yes) c.in_ok-asked-2.ensures.yes (sym c.all_elements.ensures.below ∙ c.in_ok-asked-3.ensures.yes)
+    _ c.rows_of.ensures c.in_err-asked-4.ensures.no.0 c.in_err-asked-4.ensures.no.1
 
 pub eq_xy-requires : goal.eq_xy-requires
 eq_xy-requires c = (
-  omega (arith, k_le c.args.k ((sym c.good_k.ensures ∙ c.if-not-good_k.false))),
-  omega (arith, c.if-y-size.false),
-  omega (arith, c.if-out-rows_of.false, c.rows_of.ensures),
+  omega (arith, k_le c.args.k (sym c.good_k.ensures ∙ c.in_ok-asked.ensures.yes)),
+  omega (arith, eqb-true _ _ c.in_ok-asked-2.ensures.yes),
+  omega (arith, leb-true _ _ c.in_ok-asked-4.ensures.yes, c.rows_of.ensures),
 )
 
 pub returns : goal.returns
 unfolding eq_of
 returns c =
-    let table = c.eq_xy in
-    column_done _ _ _ _ _ refl table.ensures
-    ∙ all_yes _ _ _ _ _ ((sym c.good_k.ensures ∙ c.if-not-good_k.false)) ((eq-eqb _ _ c.if-y-size.false)) ((sym c.all_elements.ensures.below ∙ c.if-not-all_elements.false)) (omega (arith, c.if-out-rows_of.false, c.rows_of.ensures))
+    column_done _ _ _ _ _ refl c.eq_xy.ensures
+    ∙ all_yes _ _ _ _ _ (sym c.good_k.ensures ∙ c.in_ok-asked.ensures.yes) c.in_ok-asked-2.ensures.yes (sym c.all_elements.ensures.below ∙ c.in_ok-asked-3.ensures.yes) _ c.rows_of.ensures c.in_ok-asked-4.ensures.yes
