@@ -4,10 +4,10 @@ use mathlib.Core.Path.{◌≡◌, sym, ap, ap₂, ◌∙◌}
 use mathlib.Core.List.{List}
 use Prim.Native.Nat.{ℕ, ◌≤◌, ◌<◌}
 use Rattle.expression.specs.declared.node.Node.{Node}
-use Rattle.expression.specs.Expr.{Ops, evaluate, powers_first, values, running, powers_rest}
+use Rattle.expression.specs.Expr.{Expr, Ops, evaluate, powers_first, values, running, powers_rest}
 use Rattle.expression.specs.Nodes.{Kind, decode_signed, node_of, kind_of, under, no_expr, no_exprs, expr_of, items_of}
 use Rattle.expression.specs.Read.{node_at}
-use Rattle.expression.proofs.Step.{under_yes, under_no, low, low_items, node_read, of_kind, items_last, items_more}
+use Rattle.expression.proofs.Step.{under_yes, under_no, by_kind, low, low_items, node_read, of_kind, items_last, items_more}
 
 module _ {T : Type 0} (o : Ops T) (ws : List ℕ) (n : ℕ) where
   pub met_lower : (a b : ℕ) (r : T) → b ≡ a → b < n → r ≡ evaluate o (expr_of ws b) → r ≡ evaluate o (under n no_expr (expr_of ws) a)
@@ -129,6 +129,37 @@ module _ {T : Type 0} (o : Ops T) (ws : List ℕ) (n : ℕ) (d : Node) (read : d
           sym (ap (powers_rest o base p u) (under_no n no_exprs (items_of ws) b le))
           ∙ ap (λ (c : ℕ). powers_rest o base p u (low_items ws n c)) q
           ∙ sym rest_is
+
+  -- a node of another kind has no expression
+  pub met_other : (r : T) → (d.kind ≡ 1 → ⊥)
+      → (d.kind ≡ 2 → ⊥)
+      → (d.kind ≡ 3 → ⊥)
+      → (d.kind ≡ 4 → ⊥)
+      → (d.kind ≡ 5 → ⊥)
+      → (d.kind ≡ 6 → ⊥)
+      → (d.kind ≡ 7 → ⊥)
+      → (d.kind ≡ 8 → ⊥)
+      → (d.kind ≡ 9 → ⊥)
+      → (d.kind ≡ 10 → ⊥)
+      → (d.kind ≡ 11 → ⊥)
+      → r ≡ o.constant_op 0
+      → r ≡ evaluate o (expr_of ws n)
+  unfolding evaluate
+  met_other r h1 h2 h3 h4 h5 h6 h7 h8 h9 h10 h11 h =
+      by_kind (λ (e : Expr). r ≡ evaluate o e) (low ws n) (low_items ws n) d.first d.second d.value d.kind
+      (λ z. absurd (h1 z))
+      (λ z. absurd (h2 z))
+      (λ z. absurd (h3 z))
+      (λ z. absurd (h4 z))
+      (λ z. absurd (h5 z))
+      (λ z. absurd (h6 z))
+      (λ z. absurd (h7 z))
+      (λ z. absurd (h8 z))
+      (λ z. absurd (h9 z))
+      (λ z. absurd (h10 z))
+      (λ z. absurd (h11 z))
+      h
+      ∙ sym (ap (evaluate o) (node_read ws n d read))
 
   -- an Item, and a node of no kind, are no expression
   pub met_item : d.kind ≡ 12 → o.constant_op 0 ≡ evaluate o (expr_of ws n)

@@ -2,12 +2,37 @@
 // only, and the walk goes down by their numbers.
 #![tactic(auto)]
 
-ghost use Rattle.std.specs.Prelude.{◌≡◌, ◌+◌, ◌*◌, ◌≤◌, length};
+ghost use Rattle.std.specs.Prelude.{◌≡◌, ◌≢◌, ℕ, ◌+◌, ◌*◌, ◌≤◌, length};
 ghost use Rattle.expression.specs.Expr.{Ops, evaluate, powers_first, powers_rest};
 ghost use Rattle.expression.specs.Nodes.{expr_of, items_of, under, no_expr, decode_signed};
+ghost use Rattle.expression.specs.Read.{node_at};
 
-use expression::kind::{Kind, NoKind};
+use expression::kind::Kind;
 use expression_nodes::read_node;
+
+// The numbers of the kinds.
+// Kept: by the enum the row sum takes a third longer (docs/CHANGES.md).
+const CONSTANT: u64 = Kind::Constant as u64;
+
+const IDENTITY: u64 = Kind::Identity as u64;
+
+const LAGRANGE: u64 = Kind::Lagrange as u64;
+
+const EQ_XY: u64 = Kind::EqXy as u64;
+
+const POLYNOMIAL: u64 = Kind::Polynomial as u64;
+
+const CHALLENGE: u64 = Kind::Challenge as u64;
+
+const NEGATED: u64 = Kind::Negated as u64;
+
+const SUM: u64 = Kind::Sum as u64;
+
+const PRODUCT: u64 = Kind::Product as u64;
+
+const SCALED: u64 = Kind::Scaled as u64;
+
+const DISTRIBUTE_POWERS: u64 = Kind::DistributePowers as u64;
 
 // What is computed at each node (the functions that Rust's `evaluate` takes), over values of one type. `ops` are the operations
 // that they meet, over what the values stand for. A signed number comes as the word that keeps it.
@@ -59,58 +84,60 @@ pub fn node<O: Operations>(ops: &O, nodes: &[u64], n: usize) -> O::Value
     lower(ops, nodes, nodes.len() / 4, n as u64)
 }
 
-// What node a computes where it is below n, and else what the constant 0 does. A query and a challenge are read here at once, which
-// keeps the tests of these two kinds before the jump by kind.
+// What node a computes where it is below n, and else what the constant 0 does. A query and a challenge are read at once.
 #[cycle(walk)]
 pub fn lower<O: Operations>(ops: &O, nodes: &[u64], n: usize, a: u64) -> O::Value
     requires { n * 4 ≤ length nodes.now }
     ensures { O.meaning result ≡ evaluate (O.ops ops.now) (under n no_expr (expr_of nodes.now) a) }
 {
     let b = a as usize;
-    if n <= b {
-        return ops.constant(0);
+    if b < n {
+        let d = read_node(nodes, b);
+        let kind = d.kind;
+        if kind == POLYNOMIAL {
+            return ops.poly(d.first, d.value);
+        }
+        if kind == CHALLENGE {
+            return ops.challenge(d.first);
+        }
+        return inner(ops, nodes, b);
     }
-    let named = read_node(nodes, b);
-    match Kind::try_from(named.kind) {
-        Ok(Kind::Polynomial) => ops.poly(named.first, named.value),
-        Ok(Kind::Challenge) => ops.challenge(named.first),
-        _ => inner(ops, nodes, b),
-    }
+    ops.constant(0)
 }
 
-// What node n computes. An Item is no expression.
+// What node n computes. `lower` reads a query and a challenge itself, and calls this for the other kinds; the node is read once
+// more here, which keeps the tests of those two kinds before the jump by kind.
 #[cycle(walk)]
 fn inner<O: Operations>(ops: &O, nodes: &[u64], n: usize) -> O::Value
-    requires { n * 4 + 4 ≤ length nodes.now }
+    requires { (n * 4 + 4 ≤ length nodes.now) × ((node_at nodes.now n).kind ≢ 5) × ((node_at nodes.now n).kind ≢ 6) }
     ensures { O.meaning result ≡ evaluate (O.ops ops.now) (expr_of nodes.now n) }
 {
     let d = read_node(nodes, n);
-    match Kind::try_from(d.kind) {
-        Ok(Kind::Constant) => ops.constant(d.value),
-        Ok(Kind::Identity) => ops.identity(),
-        Ok(Kind::Lagrange) => ops.lagrange(d.value),
-        Ok(Kind::EqXy) => ops.eq_xy(d.value),
-        Ok(Kind::Polynomial) => ops.poly(d.first, d.value),
-        Ok(Kind::Challenge) => ops.challenge(d.first),
-        Ok(Kind::Negated) => {
+    let kind = d.kind;
+    match kind {
+        CONSTANT => ops.constant(d.value),
+        IDENTITY => ops.identity(),
+        LAGRANGE => ops.lagrange(d.value),
+        EQ_XY => ops.eq_xy(d.value),
+        NEGATED => {
             let x = lower(ops, nodes, n, d.first);
             ops.negated(x)
         }
-        Ok(Kind::Sum) => {
+        SUM => {
             let x = lower(ops, nodes, n, d.first);
             let y = lower(ops, nodes, n, d.second);
             ops.sum(x, y)
         }
-        Ok(Kind::Product) => {
+        PRODUCT => {
             let x = lower(ops, nodes, n, d.first);
             let y = lower(ops, nodes, n, d.second);
             ops.product(x, y)
         }
-        Ok(Kind::Scaled) => {
+        SCALED => {
             let x = lower(ops, nodes, n, d.first);
             ops.scaled(x, d.value)
         }
-        Ok(Kind::DistributePowers) => {
+        DISTRIBUTE_POWERS => {
             let base = lower(ops, nodes, n, d.first);
             let item = d.second as usize;
             if item < n {
@@ -118,8 +145,7 @@ fn inner<O: Operations>(ops: &O, nodes: &[u64], n: usize) -> O::Value
             }
             ops.constant(0)
         }
-        Ok(Kind::Item) => ops.constant(0),
-        Err(NoKind) => ops.constant(0),
+        _ => ops.constant(0),
     }
 }
 

@@ -1,8 +1,7 @@
 -- The walk: each way through the code is the fold by the operations.
-use mathlib.Core.Path.{◌∙◌, ap, refl}
-use Rattle.expression.specs.declared.kind.Kind.{Kind}
+use mathlib.Core.Path.{◌∙◌, ap, sym, refl}
+use Rattle.expression.specs.declared.node.Node.{Node}
 use Rattle.expression.proofs.Ways as ways
-use Rattle.expression.proofs.NumberedKinds.{kind_word}
 use Rattle.expression_walk.proofs.+walk.Goals as goal
 
 pub chain-returns-then-d-eq0 : goal.chain-returns-then-d-eq0
@@ -67,6 +66,42 @@ items-returns g t c =
     (c.sum-sum.ensures ∙ ap (o.sum_op (m a.acc)) c.product-term.ensures)
     c.if-d-eq0.false d.result.second refl (m c.product-p.result) c.product-p.ensures c.if-item-n.false
 
+pub lower-returns-then-kind-eq-POLYNOMIAL : goal.lower-returns-then-kind-eq-POLYNOMIAL
+lower-returns-then-kind-eq-POLYNOMIAL g t c =
+    let a = c.args in
+    let m = g.O.Operations.meaning in
+    let o = g.O.Operations.ops a.ops.now in
+    let ws = a.nodes.now in
+    let d = c.read_node-d in
+    ways.met_lower o ws a.n a.a a.a (m c.poly.result) refl c.if-b-n.true
+    (c.poly.ensures ∙ ways.met_poly o ws a.a d.result d.ensures c.if-kind-eq-POLYNOMIAL.true)
+
+pub lower-returns-then-kind-eq-CHALLENGE : goal.lower-returns-then-kind-eq-CHALLENGE
+lower-returns-then-kind-eq-CHALLENGE g t c =
+    let a = c.args in
+    let m = g.O.Operations.meaning in
+    let o = g.O.Operations.ops a.ops.now in
+    let ws = a.nodes.now in
+    let d = c.read_node-d in
+    ways.met_lower o ws a.n a.a a.a (m c.challenge.result) refl c.if-b-n.true
+    (c.challenge.ensures ∙ ways.met_challenge o ws a.a d.result d.ensures c.if-kind-eq-CHALLENGE.true)
+
+pub lower-returns-then-b-n : goal.lower-returns-then-b-n
+lower-returns-then-b-n g t c =
+    let a = c.args in
+    let m = g.O.Operations.meaning in
+    let o = g.O.Operations.ops a.ops.now in
+    let ws = a.nodes.now in
+    ways.met_lower o ws a.n a.a a.a (m c.inner.result) refl c.if-b-n.true c.inner.ensures
+
+pub lower-returns : goal.lower-returns
+lower-returns g t c =
+    let a = c.args in
+    let m = g.O.Operations.meaning in
+    let o = g.O.Operations.ops a.ops.now in
+    let ws = a.nodes.now in
+    c.constant.ensures ∙ ways.met_not_lower o ws a.n a.a a.a refl c.if-b-n.false
+
 pub inner-returns-then-item-n : goal.inner-returns-then-item-n
 inner-returns-then-item-n g t c =
     let a = c.args in
@@ -74,79 +109,79 @@ inner-returns-then-item-n g t c =
     let o = g.O.Operations.ops a.ops.now in
     let ws = a.nodes.now in
     let d = c.read_node-d in
-    ways.met_powers o ws a.n d.result d.ensures d.result.second refl (m c.lower-base.result) c.lower-base.ensures (m c.chain.result) (kind_word Kind.DistributePowers c.in-Ok-DistributePowers.ensures c.in-Ok-DistributePowers.field-0-is) c.if-item-n.true c.chain.ensures
+    ways.met_powers o ws a.n d.result d.ensures d.result.second refl (m c.lower-base.result) c.lower-base.ensures (m c.chain.result) c.in-11.is c.if-item-n.true c.chain.ensures
 
-pub inner-returns-in-Ok-Constant : goal.inner-returns-in-Ok-Constant
-inner-returns-in-Ok-Constant g t c =
+pub inner-returns-in-1 : goal.inner-returns-in-1
+inner-returns-in-1 g t c =
     let a = c.args in
     let m = g.O.Operations.meaning in
     let o = g.O.Operations.ops a.ops.now in
     let ws = a.nodes.now in
     let d = c.read_node-d in
-    c.constant.ensures ∙ ways.met_constant o ws a.n d.result d.ensures (kind_word Kind.Constant c.in-Ok-Constant.ensures c.in-Ok-Constant.field-0-is)
+    c.constant.ensures ∙ ways.met_constant o ws a.n d.result d.ensures c.in-1.is
 
-pub inner-returns-in-Ok-Identity : goal.inner-returns-in-Ok-Identity
-inner-returns-in-Ok-Identity g t c =
+pub inner-returns-in-2 : goal.inner-returns-in-2
+inner-returns-in-2 g t c =
     let a = c.args in
     let m = g.O.Operations.meaning in
     let o = g.O.Operations.ops a.ops.now in
     let ws = a.nodes.now in
     let d = c.read_node-d in
-    c.identity.ensures ∙ ways.met_identity o ws a.n d.result d.ensures (kind_word Kind.Identity c.in-Ok-Identity.ensures c.in-Ok-Identity.field-0-is)
+    c.identity.ensures ∙ ways.met_identity o ws a.n d.result d.ensures c.in-2.is
 
-pub inner-returns-in-Ok-Lagrange : goal.inner-returns-in-Ok-Lagrange
-inner-returns-in-Ok-Lagrange g t c =
+pub inner-returns-in-3 : goal.inner-returns-in-3
+inner-returns-in-3 g t c =
     let a = c.args in
     let m = g.O.Operations.meaning in
     let o = g.O.Operations.ops a.ops.now in
     let ws = a.nodes.now in
     let d = c.read_node-d in
-    c.lagrange.ensures ∙ ways.met_lagrange o ws a.n d.result d.ensures (kind_word Kind.Lagrange c.in-Ok-Lagrange.ensures c.in-Ok-Lagrange.field-0-is)
+    c.lagrange.ensures ∙ ways.met_lagrange o ws a.n d.result d.ensures c.in-3.is
 
-pub inner-returns-in-Ok-EqXy : goal.inner-returns-in-Ok-EqXy
-inner-returns-in-Ok-EqXy g t c =
+pub inner-returns-in-4 : goal.inner-returns-in-4
+inner-returns-in-4 g t c =
     let a = c.args in
     let m = g.O.Operations.meaning in
     let o = g.O.Operations.ops a.ops.now in
     let ws = a.nodes.now in
     let d = c.read_node-d in
-    c.eq_xy.ensures ∙ ways.met_eq_xy o ws a.n d.result d.ensures (kind_word Kind.EqXy c.in-Ok-EqXy.ensures c.in-Ok-EqXy.field-0-is)
+    c.eq_xy.ensures ∙ ways.met_eq_xy o ws a.n d.result d.ensures c.in-4.is
 
-pub inner-returns-in-Ok-Negated : goal.inner-returns-in-Ok-Negated
-inner-returns-in-Ok-Negated g t c =
+pub inner-returns-in-7 : goal.inner-returns-in-7
+inner-returns-in-7 g t c =
     let a = c.args in
     let m = g.O.Operations.meaning in
     let o = g.O.Operations.ops a.ops.now in
     let ws = a.nodes.now in
     let d = c.read_node-d in
-    c.negated.ensures ∙ ways.met_negated o ws a.n d.result d.ensures (m c.lower-x.result) c.lower-x.ensures (kind_word Kind.Negated c.in-Ok-Negated.ensures c.in-Ok-Negated.field-0-is)
+    c.negated.ensures ∙ ways.met_negated o ws a.n d.result d.ensures (m c.lower-x.result) c.lower-x.ensures c.in-7.is
 
-pub inner-returns-in-Ok-Sum : goal.inner-returns-in-Ok-Sum
-inner-returns-in-Ok-Sum g t c =
+pub inner-returns-in-8 : goal.inner-returns-in-8
+inner-returns-in-8 g t c =
     let a = c.args in
     let m = g.O.Operations.meaning in
     let o = g.O.Operations.ops a.ops.now in
     let ws = a.nodes.now in
     let d = c.read_node-d in
-    c.sum.ensures ∙ ways.met_sum o ws a.n d.result d.ensures (m c.lower-x-in-Ok-Sum.result) c.lower-x-in-Ok-Sum.ensures (m c.lower-y.result) c.lower-y.ensures (kind_word Kind.Sum c.in-Ok-Sum.ensures c.in-Ok-Sum.field-0-is)
+    c.sum.ensures ∙ ways.met_sum o ws a.n d.result d.ensures (m c.lower-x-in-8.result) c.lower-x-in-8.ensures (m c.lower-y.result) c.lower-y.ensures c.in-8.is
 
-pub inner-returns-in-Ok-Product : goal.inner-returns-in-Ok-Product
-inner-returns-in-Ok-Product g t c =
+pub inner-returns-in-9 : goal.inner-returns-in-9
+inner-returns-in-9 g t c =
     let a = c.args in
     let m = g.O.Operations.meaning in
     let o = g.O.Operations.ops a.ops.now in
     let ws = a.nodes.now in
     let d = c.read_node-d in
-    c.product.ensures ∙ ways.met_product o ws a.n d.result d.ensures (m c.lower-x-in-Ok-Product.result) c.lower-x-in-Ok-Product.ensures (m c.lower-y-in-Ok-Product.result) c.lower-y-in-Ok-Product.ensures (kind_word Kind.Product c.in-Ok-Product.ensures c.in-Ok-Product.field-0-is)
+    c.product.ensures ∙ ways.met_product o ws a.n d.result d.ensures (m c.lower-x-in-9.result) c.lower-x-in-9.ensures (m c.lower-y-in-9.result) c.lower-y-in-9.ensures c.in-9.is
 
-pub inner-returns-in-Ok-Scaled : goal.inner-returns-in-Ok-Scaled
-inner-returns-in-Ok-Scaled g t c =
+pub inner-returns-in-10 : goal.inner-returns-in-10
+inner-returns-in-10 g t c =
     let a = c.args in
     let m = g.O.Operations.meaning in
     let o = g.O.Operations.ops a.ops.now in
     let ws = a.nodes.now in
     let d = c.read_node-d in
-    c.scaled.ensures ∙ ways.met_scaled o ws a.n d.result d.ensures (m c.lower-x-in-Ok-Scaled.result) c.lower-x-in-Ok-Scaled.ensures (kind_word Kind.Scaled c.in-Ok-Scaled.ensures c.in-Ok-Scaled.field-0-is)
+    c.scaled.ensures ∙ ways.met_scaled o ws a.n d.result d.ensures (m c.lower-x-in-10.result) c.lower-x-in-10.ensures c.in-10.is
 
 pub inner-returns-else-item-n : goal.inner-returns-else-item-n
 inner-returns-else-item-n g t c =
@@ -155,74 +190,26 @@ inner-returns-else-item-n g t c =
     let o = g.O.Operations.ops a.ops.now in
     let ws = a.nodes.now in
     let d = c.read_node-d in
-    c.constant-in-Ok-DistributePowers.ensures ∙ ways.met_no_powers o ws a.n d.result d.ensures d.result.second refl (kind_word Kind.DistributePowers c.in-Ok-DistributePowers.ensures c.in-Ok-DistributePowers.field-0-is) c.if-item-n.false
+    c.constant-in-11.ensures ∙ ways.met_no_powers o ws a.n d.result d.ensures d.result.second refl c.in-11.is c.if-item-n.false
 
-pub inner-returns-in-Ok-Polynomial : goal.inner-returns-in-Ok-Polynomial
-inner-returns-in-Ok-Polynomial g t c =
+pub inner-returns-in_default : goal.inner-returns-in_default
+inner-returns-in_default g t c =
     let a = c.args in
     let m = g.O.Operations.meaning in
     let o = g.O.Operations.ops a.ops.now in
     let ws = a.nodes.now in
     let d = c.read_node-d in
-    c.poly.ensures ∙ ways.met_poly o ws a.n d.result d.ensures (kind_word Kind.Polynomial c.in-Ok-Polynomial.ensures c.in-Ok-Polynomial.field-0-is)
-
-pub inner-returns-in-Ok-Challenge : goal.inner-returns-in-Ok-Challenge
-inner-returns-in-Ok-Challenge g t c =
-    let a = c.args in
-    let m = g.O.Operations.meaning in
-    let o = g.O.Operations.ops a.ops.now in
-    let ws = a.nodes.now in
-    let d = c.read_node-d in
-    c.challenge.ensures ∙ ways.met_challenge o ws a.n d.result d.ensures (kind_word Kind.Challenge c.in-Ok-Challenge.ensures c.in-Ok-Challenge.field-0-is)
-
-pub inner-returns-in-Ok-Item : goal.inner-returns-in-Ok-Item
-inner-returns-in-Ok-Item g t c =
-    let a = c.args in
-    let m = g.O.Operations.meaning in
-    let o = g.O.Operations.ops a.ops.now in
-    let ws = a.nodes.now in
-    let d = c.read_node-d in
-    c.constant-in-Ok-Item.ensures ∙ ways.met_item o ws a.n d.result d.ensures (kind_word Kind.Item c.in-Ok-Item.ensures c.in-Ok-Item.field-0-is)
-
-pub inner-returns-in-Err : goal.inner-returns-in-Err
-inner-returns-in-Err g t c =
-    let a = c.args in
-    let m = g.O.Operations.meaning in
-    let o = g.O.Operations.ops a.ops.now in
-    let ws = a.nodes.now in
-    let d = c.read_node-d in
-    c.constant-in-Err.ensures ∙ ways.met_none o ws a.n d.result d.ensures c.in-Err.ensures
-
-pub lower-returns-then-n-b : goal.lower-returns-then-n-b
-lower-returns-then-n-b g t c =
-    let a = c.args in
-    let o = g.O.Operations.ops a.ops.now in
-    c.constant.ensures ∙ ways.met_not_lower o a.nodes.now a.n a.a a.a refl c.if-n-b.true
-
-pub lower-returns-in_default : goal.lower-returns-in_default
-lower-returns-in_default g t c =
-    let a = c.args in
-    let m = g.O.Operations.meaning in
-    let o = g.O.Operations.ops a.ops.now in
-    let ws = a.nodes.now in
-    ways.met_lower o ws a.n a.a a.a (m c.inner.result) refl c.if-n-b.false c.inner.ensures
-
-pub lower-returns-in-Ok-Polynomial : goal.lower-returns-in-Ok-Polynomial
-lower-returns-in-Ok-Polynomial g t c =
-    let a = c.args in
-    let m = g.O.Operations.meaning in
-    let o = g.O.Operations.ops a.ops.now in
-    let ws = a.nodes.now in
-    let d = c.read_node-named in
-    ways.met_lower o ws a.n a.a a.a (m c.poly.result) refl c.if-n-b.false
-    (c.poly.ensures ∙ ways.met_poly o ws a.a d.result d.ensures (kind_word Kind.Polynomial c.in-Ok-Polynomial.ensures c.in-Ok-Polynomial.field-0-is))
-
-pub lower-returns-in-Ok-Challenge : goal.lower-returns-in-Ok-Challenge
-lower-returns-in-Ok-Challenge g t c =
-    let a = c.args in
-    let m = g.O.Operations.meaning in
-    let o = g.O.Operations.ops a.ops.now in
-    let ws = a.nodes.now in
-    let d = c.read_node-named in
-    ways.met_lower o ws a.n a.a a.a (m c.challenge.result) refl c.if-n-b.false
-    (c.challenge.ensures ∙ ways.met_challenge o ws a.a d.result d.ensures (kind_word Kind.Challenge c.in-Ok-Challenge.ensures c.in-Ok-Challenge.field-0-is))
+    let r = c.in_default.in_default-own.rest in
+    ways.met_other o ws a.n d.result d.ensures (m c.constant-in_default.result)
+    r.0.0.0.0.0.0.0.0.1
+    r.0.0.0.0.0.0.0.1
+    r.0.0.0.0.0.0.1
+    r.0.0.0.0.0.1
+    (λ z. c.requires.1 (sym (ap (λ (x : Node). x.kind) d.ensures) ∙ z))
+    (λ z. c.requires.2 (sym (ap (λ (x : Node). x.kind) d.ensures) ∙ z))
+    r.0.0.0.0.1
+    r.0.0.0.1
+    r.0.0.1
+    r.0.1
+    r.1
+    c.constant-in_default.ensures
