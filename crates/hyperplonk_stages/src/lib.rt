@@ -15,6 +15,7 @@ use prover_lookup::h::h_column;
 use prover_lookup::m::m_column;
 
 // Why a stage called alone refuses: the first question whose answer is no (specs/Refusal.antt has the numbers).
+// Kept: an enum beside hyperplonk_columns::Refused, which has only 15 and 17: one enum would give `write_columns` four answers it never gives.
 #[derive(Clone, Copy, Debug, PartialEq, Eq)]
 enum Refusal {
     K,
