@@ -8,6 +8,7 @@ ghost use Rattle.backend.specs.Circuit.{circuit_of, group_sizes};
 ghost use Rattle.backend.specs.Circuit as def;
 ghost use Rattle.preprocessor.specs.Compose.{compose, composed_nodes, params_of};
 ghost use Rattle.preprocessor.specs.ComposeWords.{DecodedFrom};
+ghost use Rattle.preprocessor_compose.specs.Counted.{item_of};
 ghost use Rattle.hyperplonk_spec.specs.Build.{column_words, q14};
 ghost use Rattle.hyperplonk_spec.specs.Sizes.{composed_visits, most_nodes};
 
@@ -16,6 +17,7 @@ use arrayvec::ArrayVec;
 use backend::MAX_POLYS;
 use backend_sections::contents::INSTANCE_COUNT;
 use preprocessor::CircuitParams;
+use preprocessor_compose::count::Counted;
 use preprocessor_compose::words::CircuitWords;
 
 // An accepted circuit with what is computed from it.
@@ -94,13 +96,12 @@ impl<'a> PreparedCircuit<'a> {
         }
     }
 
-    // The nodes of the composed expression, an Item counted as `item`; no more than 2^60 are counted.
-    fn composed_count(&self, item: u64) -> u64
-        requires { item ≤ 1 }
-        ensures { result ≡ min largest_size (weight item (compose (circuit_of self.now.circuit.words.now))) }
+    // The nodes of the composed expression, or those that an evaluation of it visits; no more than 2^60 are counted.
+    fn composed_count(&self, counted: Counted) -> u64
+        ensures { result ≡ min largest_size (weight (item_of counted) (compose (circuit_of self.now.circuit.words.now))) }
     {
         let words = self.circuit_words();
-        preprocessor_compose::count::composed_nodes(&words, item)
+        preprocessor_compose::count::composed_nodes(&words, counted)
     }
 
     // The nodes that the composed expression takes.
@@ -108,14 +109,14 @@ impl<'a> PreparedCircuit<'a> {
         ensures nodes { result ≡ composed_nodes (circuit_of self.now.circuit.words.now) }
         ensures few { result ≤ most_nodes }
     {
-        self.composed_count(1) as usize
+        self.composed_count(Counted::Nodes) as usize
     }
 
     // The nodes that one evaluation of it visits: its Items are not.
     pub fn composed_visits(&self) -> usize
         ensures { result ≡ composed_visits (circuit_of self.now.circuit.words.now) }
     {
-        self.composed_count(0) as usize
+        self.composed_count(Counted::Visits) as usize
     }
 
     // Question 14, of buffers of so many words.
