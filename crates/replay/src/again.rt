@@ -9,8 +9,7 @@ fn agrees(block: &Block, returned: usize, after: usize, number: u64, buffer: &[u
 
 fn lookup_m_poly(block: &Block, room: &mut [u64]) -> bool {
     let m = fill(block.slice(3), room);
-    let number =
-        hyperplonk::lookup_m_poly(block.number(0), block.slice(1), block.slice(2), m);
+    let number = hyperplonk::lookup_m_poly(block.number(0), block.slice(1), block.slice(2), m);
     agrees(block, 4, 5, number, m)
 }
 

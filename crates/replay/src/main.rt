@@ -54,10 +54,7 @@ fn block<'a>(
     let Some(rest) = read_block(text, call.lines(), words, &mut starts) else {
         return Ok(None);
     };
-    let block = Block {
-        words,
-        starts,
-    };
+    let block = Block { words, starts };
     Ok(look(rt, call, &block, room, counts)?.then_some(rest))
 }
 
