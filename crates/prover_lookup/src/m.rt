@@ -1,5 +1,4 @@
 // prover.rs `lookup_m_poly`: the counts of one lookup, in a column of its own, and those of a group of lookups, in the column buffer.
-// Kept: `bool`, since the promises name the answer to question 15 itself, `covered`; an error with one case would say no more.
 ghost use Rattle.std.specs.Prelude.{◌≡◌, cond, ◌+◌, ◌*◌, ◌≤◌, length, get_or};
 ghost use Rattle.field.specs.Field.{𝔾};
 ghost use Rattle.lists.specs.Lists.{write_at};
