@@ -120,10 +120,6 @@ pub fn degrees_fit(d: Degrees) -> bool
 pub fn max_degree(d: Degrees) -> u64
     ensures { (constraints : List Expr) (groups : List (List (List Pair))) → d.user ≡ min 1025 (def.degree_of constraints) → d.lookups ≡ min 1025 (def.groups_degree groups) → def.degrees_fit (stated_of d.stated) constraints groups ≡ true → result ≡ def.largest_degree (stated_of d.stated) constraints groups }
 {
-    let stated = d.stated;
-    let mut least: u64 = 2;
-    if 3 < stated {
-        least = stated - 1;
-    }
+    let least = d.stated.saturating_sub(1).max(2);
     least.max(d.user.max(d.lookups))
 }

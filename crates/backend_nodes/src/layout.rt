@@ -222,11 +222,7 @@ pub fn laid_out(nodes: &[u64], constraints: &[u64], pairs: &[u64]) -> bool
 fn rotation_in_range(kept: u64, k: u64) -> bool
     ensures { result ≡ leb (nat_abs (decode_signed kept)) k }
 {
-    if kept < SIGNED_OFFSET {
-        SIGNED_OFFSET - kept <= k
-    } else {
-        kept - SIGNED_OFFSET <= k
-    }
+    kept.abs_diff(SIGNED_OFFSET) <= k
 }
 
 // Are the numbers of node `n` in range?

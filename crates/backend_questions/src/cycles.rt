@@ -10,6 +10,7 @@ use backend_sections::reader::Circuit;
 
 // The first `count` cells, each linked to the last before it whose row has the same remainder, its chain: `heads` has one more than the
 // number of the last cell of each chain, 0 for none, and `earlier` what `heads` had before the cell was put in.
+// Kept: fixed memory; the cells are found by chain and not by number of entries.
 #[derive(Drop)]
 struct LinkedCells<'a> {
     cells: &'a [u64],
@@ -75,15 +76,10 @@ fn good_cell(linked: &LinkedCells, start: usize, polys: u64, rows: u64) -> bool
 {
     let at = linked.count;
     let row = linked.cells[at * 2 + 1];
-    if (linked.cells[at * 2] < polys) & (1 <= row) & (row < rows) {
-        linked.fresh(start)
-    } else {
-        false
-    }
+    (linked.cells[at * 2] < polys) & (1 <= row) & (row < rows) && linked.fresh(start)
 }
 
 // Is the cycle of the next `n` cells good? If so, its cells are linked.
-// Kept: the `while` counts by `linked.count`, which `link` raises.
 fn good_cycle(linked: &mut LinkedCells, n: usize, polys: u64, rows: u64) -> bool
     requires { (linked.old.count + n ≤ length linked.old.cells.now / 2) × (linked.old.count + n ≤ 4096) }
     ensures value { result ≡ good_cycle polys rows (def.cells_from linked.old.cells.now linked.old.count n) }
@@ -94,7 +90,7 @@ fn good_cycle(linked: &mut LinkedCells, n: usize, polys: u64, rows: u64) -> bool
         return false;
     }
     let start = linked.count;
-    while linked.count < start + n {
+    for _ in 0..n {
         if !good_cell(linked, start, polys, rows) {
             return false;
         }

@@ -77,8 +77,8 @@ fn groups_alike(lookups: Lookups, sizes: &[u64]) -> bool
     ensures { result ≡ all_of tables_alike (split sizes.now (split lookups.entry.widths.now (pairs_of lookups.entry.nodes.now lookups.entry.pairs.now))) }
 {
     let mut first: usize = 0;
-    for j in 0..sizes.len() {
-        let n = sizes[j] as usize;
+    for size in sizes {
+        let n = *size as usize;
         if !group_alike(lookups, first, n) {
             return false;
         }

@@ -193,14 +193,23 @@ module _ (nodes xs ys : List ℕ) where
             (sym (all_append (is_root nodes) xs ys ∙ and_both _ _ (sym q ∙ not-false b g) (sym r ∙ not-false d h)))
 
 -- ---- question 8
-pub near_low : (v k : ℕ) → v < 2147483648 → leb (2147483648 - v) k ≡ leb (nat_abs (decode_signed v)) k
+near_low : (v k : ℕ) → v < 2147483648 → leb (2147483648 - v) k ≡ leb (nat_abs (decode_signed v)) k
 near_low v k l =
     ap (λ (n : ℕ). leb n k)
     (sym (ap (λ (t : Bool). nat_abs (cond t (negsuc (2147483648 - suc v)) (pos (v - 2147483648)))) (lt-ltb v 2147483648 l) ∙ (let q : suc (2147483648 - suc v) ≡ 2147483648 - v = omega arith in q)))
 
-pub near_high : (v k : ℕ) → 2147483648 ≤ v → leb (v - 2147483648) k ≡ leb (nat_abs (decode_signed v)) k
+near_high : (v k : ℕ) → 2147483648 ≤ v → leb (v - 2147483648) k ≡ leb (nat_abs (decode_signed v)) k
 near_high v k l =
     ap (λ (t : Bool). leb (nat_abs (cond t (negsuc (2147483648 - suc v)) (pos (v - 2147483648)))) k) (sym (le-ltb v 2147483648 l))
+
+pub near : (v k : ℕ) → leb ((v - 2147483648) + (2147483648 - v)) k ≡ leb (nat_abs (decode_signed v)) k
+near v k = go (dec_lt v 2147483648)
+  where
+    go : Dec (v < 2147483648) → leb ((v - 2147483648) + (2147483648 - v)) k ≡ leb (nat_abs (decode_signed v)) k
+    go (yes l) = ap (λ (n : ℕ). leb n k) (let q : (v - 2147483648) + (2147483648 - v) ≡ 2147483648 - v = omega arith in q) ∙ near_low v k l
+    go (no n) =
+        let g : 2147483648 ≤ v = omega arith in
+        ap (λ (m : ℕ). leb m k) (let q : (v - 2147483648) + (2147483648 - v) ≡ v - 2147483648 = omega arith in q) ∙ near_high v k g
 
 -- kinds but 4, 5 and 6 name no number
 pub no_number_is : (polys user k w a b v : ℕ) → Not w 3 3 → true ≡ in_range polys user k (kind_of w) a b v
