@@ -66,6 +66,10 @@ fn in_place(nodes: &[u64], n: usize) -> bool
     if !shaped(kind, first, second, value) {
         return false;
     }
+    // A leaf names no node. It is told by its number, before the jump by kind.
+    if kind < Kind::Negated as u64 {
+        return true;
+    }
     match Kind::try_from(kind) {
         Ok(Kind::Negated) => plain(nodes, n, first),
         Ok(Kind::Sum) => plain(nodes, n, first) & plain(nodes, n, second),
@@ -120,6 +124,10 @@ fn count_named(counts: &mut [u64; 1024], kind: u64, first: u64, second: u64, val
     requires { Room counts.old 2 }
     ensures { Tally counts.old (def.named (kind_of kind) first second value) counts.new }
 {
+    // A leaf, as in `in_place`.
+    if kind < Kind::Negated as u64 {
+        return;
+    }
     match Kind::try_from(kind) {
         Ok(Kind::Negated) => {
             count_name(counts, first);
@@ -231,6 +239,10 @@ fn in_range(nodes: &[u64], n: usize, polys: u64, user: u64, k: u64) -> bool
     ensures { result ≡ def.by_words (def.in_range polys user k) nodes.now n }
 {
     let at = n * 4;
+    // These have no number of a polynomial or a challenge.
+    if nodes[at] > Kind::Challenge as u64 {
+        return true;
+    }
     match Kind::try_from(nodes[at]) {
         Ok(Kind::EqXy) => false,
         Ok(Kind::Polynomial) => (nodes[at + 1] < polys) & rotation_in_range(nodes[at + 3], k),

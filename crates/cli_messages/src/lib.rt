@@ -8,3 +8,5 @@ pub mod question;
 pub mod refusal;
 pub mod sections;
 pub mod values;
+
+pub use cli_texts::say;

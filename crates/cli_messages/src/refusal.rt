@@ -7,7 +7,8 @@ use cli_faults::nodes::NodeWord;
 use cli_faults::older::is_older;
 use cli_reasons::section::{section_name, section_of};
 use cli_reasons::{groups, late, layout, starts};
-use cli_texts::host::Host;
+use cli_texts::files::line_of;
+use cli_texts::host::Texts;
 use lists::word_at;
 use std::io;
 use std::io::Stderr;
@@ -28,10 +29,10 @@ fn node_of(err: Stderr, circuit: &[u64], at: u64) -> io::Result<()> {
 }
 
 // A word's number, and its line where that can be told.
-pub(crate) fn stands<R: Files + Env>(host: &Host<R>, place: usize) -> io::Result<()> {
-    let err = host.err;
+pub(crate) fn stands<R: Files + Env>(texts: &Texts<R>, place: usize) -> io::Result<()> {
+    let err = texts.err;
     print!(err; "word {place}")?;
-    if let Some(line) = host.line_of(CIRCUIT, place) {
+    if let Some(line) = line_of(texts.rt, CIRCUIT, place) {
         print!(err; ", line {line}")?;
     }
     Ok(())
@@ -39,15 +40,15 @@ pub(crate) fn stands<R: Files + Env>(host: &Host<R>, place: usize) -> io::Result
 
 // The first offending word: its number, line, value and section.
 fn offending<R: Files + Env>(
-    host: &Host<R>,
+    texts: &Texts<R>,
     circuit: &[u64],
     no: u64,
     place: usize,
 ) -> io::Result<()> {
-    let err = host.err;
-    host.name(CIRCUIT)?;
+    let err = texts.err;
+    texts.name(CIRCUIT)?;
     print!(err; ": the first offending word is ")?;
-    stands(host, place)?;
+    stands(texts, place)?;
     let section = section_name(section_of(circuit, place as u64));
     print!(err;
         ", its value {}; it stands in {section}",
@@ -60,11 +61,11 @@ fn offending<R: Files + Env>(
 }
 
 // A cell that stood in its cycle before.
-fn again<R: Files + Env>(host: &Host<R>, circuit: &[u64], place: usize) -> io::Result<()> {
-    let err = host.err;
+fn again<R: Files + Env>(texts: &Texts<R>, circuit: &[u64], place: usize) -> io::Result<()> {
+    let err = texts.err;
     if let Some(before) = late::stood_before(bounds_of(circuit), place) {
         print!(err; "the same cell stands in its cycle before, at ")?;
-        stands(host, before)?;
+        stands(texts, before)?;
         println!(err; "")?;
     }
     Ok(())
@@ -72,8 +73,8 @@ fn again<R: Files + Env>(host: &Host<R>, circuit: &[u64], place: usize) -> io::R
 
 // What is wrong with the first offending word.
 // Kept: the numbers are document 01's names of the questions, and each chooses only what is said.
-fn why<R: Files + Env>(host: &Host<R>, circuit: &[u64], no: u64, place: usize) -> io::Result<()> {
-    let err = host.err;
+fn why<R: Files + Env>(texts: &Texts<R>, circuit: &[u64], no: u64, place: usize) -> io::Result<()> {
+    let err = texts.err;
     let b = bounds_of(circuit);
     match no {
         2 => starts::size_why(err, b),
@@ -89,15 +90,15 @@ fn why<R: Files + Env>(host: &Host<R>, circuit: &[u64], no: u64, place: usize) -
         _ => late::cell_why(err, b, place),
     }?;
     if no == 11 {
-        again(host, circuit, place)?;
+        again(texts, circuit, place)?;
     }
     Ok(())
 }
 
 // Too few words, or more or fewer than the contents say.
-fn length<R: Files + Env>(host: &Host<R>, circuit: &[u64], no: u64) -> io::Result<()> {
-    let err = host.err;
-    host.name(CIRCUIT)?;
+fn length<R: Files + Env>(texts: &Texts<R>, circuit: &[u64], no: u64) -> io::Result<()> {
+    let err = texts.err;
+    texts.name(CIRCUIT)?;
     if no == 1 {
         println!(err;
             ": there are {} words, at least 22 are needed",
@@ -106,31 +107,31 @@ fn length<R: Files + Env>(host: &Host<R>, circuit: &[u64], no: u64) -> io::Resul
     } else {
         starts::length_why(err, bounds_of(circuit))?;
     }
-    host.line_ends(CIRCUIT)
+    texts.line_ends(CIRCUIT)
 }
 
 // Says so of words that have the layout from before groups.
-fn hint<R: Files + Env>(host: &Host<R>, circuit: &[u64]) -> io::Result<()> {
-    let err = host.err;
+fn hint<R: Files + Env>(texts: &Texts<R>, circuit: &[u64]) -> io::Result<()> {
+    let err = texts.err;
     if is_older(circuit) {
-        host.name(CIRCUIT)?;
+        texts.name(CIRCUIT)?;
         print!(err; ": these words have the layout from before groups; hyperplonk_cli regroup ")?;
-        host.name(CIRCUIT)?;
+        texts.name(CIRCUIT)?;
         println!(err; " rewrites them")?;
     }
     Ok(())
 }
 
 // Says all of it.
-pub fn refusal<R: Files + Env>(host: &Host<R>, circuit: &[u64], no: u64) -> io::Result<()> {
-    let err = host.err;
+pub fn refusal<R: Files + Env>(texts: &Texts<R>, circuit: &[u64], no: u64) -> io::Result<()> {
+    let err = texts.err;
     question::answered_no(err, no)?;
     match place_of(circuit, no) {
-        None => length(host, circuit, no)?,
+        None => length(texts, circuit, no)?,
         Some(place) => {
-            offending(host, circuit, no, place)?;
-            why(host, circuit, no, place)?;
+            offending(texts, circuit, no, place)?;
+            why(texts, circuit, no, place)?;
         }
     }
-    hint(host, circuit)
+    hint(texts, circuit)
 }

@@ -2,7 +2,8 @@
 use backend_sections::contents::{INSTANCE_COUNT, INSTANCE_START, K_WORD};
 use backend_sections::words::is_element;
 use cli_faults::bounds::{bounds_of, by_rows, sum_of};
-use cli_texts::host::Host;
+use cli_texts::files::line_of;
+use cli_texts::host::Texts;
 use field::MODULUS;
 use lists::word_at;
 use std::io;
@@ -46,29 +47,29 @@ impl<'a> Named<'a> {
     }
 
     // Says so and answers true where the length is not the one needed.
-    fn has_other_length<R: Files + Env>(self, host: &Host<R>, needed: u64) -> io::Result<bool> {
+    fn has_other_length<R: Files + Env>(self, texts: &Texts<R>, needed: u64) -> io::Result<bool> {
         let given = self.words.len() as u64;
         if given == needed {
             return Ok(false);
         }
-        host.name(self.argument)?;
-        println!(host.err; ": {} words given: {given}, needed: {needed}", self.name)?;
+        texts.name(self.argument)?;
+        println!(texts.err; ": {} words given: {given}, needed: {needed}", self.name)?;
         if given < needed {
-            host.line_ends(self.argument)?;
+            texts.line_ends(self.argument)?;
         }
         Ok(true)
     }
 
     // Says so and answers true where a word is p or more.
-    fn has_large<R: Files + Env>(self, host: &Host<R>) -> io::Result<bool> {
+    fn has_large<R: Files + Env>(self, texts: &Texts<R>) -> io::Result<bool> {
         let Some(at) = self.words.iter().position(|word| !is_element(*word)) else {
             return Ok(false);
         };
-        host.name(self.argument)?;
-        if let Some(line) = host.line_of(self.argument, at) {
-            print!(host.err; ", line {line}")?;
+        texts.name(self.argument)?;
+        if let Some(line) = line_of(texts.rt, self.argument, at) {
+            print!(texts.err; ", line {line}")?;
         }
-        println!(host.err;
+        println!(texts.err;
             ": {} word {at} is {}, at most p - 1, which is {}",
             self.name,
             word_at(self.words, at),
@@ -133,30 +134,30 @@ fn instance_words(circuit: &[u64]) -> u64 {
 }
 
 // Of a build that was refused by 12, given how many challenges of the user's there are.
-fn build_lengths<R: Files + Env>(host: &Host<R>, log: &Log, user: u64) -> io::Result<()> {
+fn build_lengths<R: Files + Env>(texts: &Texts<R>, log: &Log, user: u64) -> io::Result<()> {
     let instance = log.instance();
-    instance.has_other_length(host, instance_words(log.circuit))?;
+    instance.has_other_length(texts, instance_words(log.circuit))?;
     let witness = log.witness();
-    witness.has_other_length(host, witness_words(log.circuit))?;
+    witness.has_other_length(texts, witness_words(log.circuit))?;
     let challenges = log.challenges();
-    challenges.has_other_length(host, user.wrapping_add(2))?;
+    challenges.has_other_length(texts, user.wrapping_add(2))?;
     Ok(())
 }
 
 // Of a build that was refused by 12 or 13.
 pub fn build_values<R: Files + Env>(
-    host: &Host<R>,
+    texts: &Texts<R>,
     log: &Log,
     user: u64,
     no: u64,
 ) -> io::Result<()> {
     if no == 12 {
-        build_lengths(host, log, user)?;
+        build_lengths(texts, log, user)?;
     }
     if no == 13 {
-        log.instance().has_large(host)?;
-        log.witness().has_large(host)?;
-        log.challenges().has_large(host)?;
+        log.instance().has_large(texts)?;
+        log.witness().has_large(texts)?;
+        log.challenges().has_large(texts)?;
     }
     Ok(())
 }
@@ -170,33 +171,35 @@ pub struct Needed {
 }
 
 // Have all words of a check the lengths needed? Says so where some have not.
-fn all_exact<R: Files + Env>(host: &Host<R>, sum: &Sum, needed: Needed) -> io::Result<bool> {
+fn all_exact<R: Files + Env>(texts: &Texts<R>, sum: &Sum, needed: Needed) -> io::Result<bool> {
     let user = (needed.user as u64).wrapping_add(3);
     let k = word_at(sum.circuit, K_WORD);
     let first = sum
         .witness()
-        .has_other_length(host, witness_words(sum.circuit))?;
-    let second = sum.columns().has_other_length(host, needed.columns as u64)?;
-    let third = sum.nodes().has_other_length(host, needed.nodes << 2)?;
-    let fourth = sum.challenges().has_other_length(host, user)?;
-    let fifth = sum.y().has_other_length(host, k)?;
+        .has_other_length(texts, witness_words(sum.circuit))?;
+    let second = sum
+        .columns()
+        .has_other_length(texts, needed.columns as u64)?;
+    let third = sum.nodes().has_other_length(texts, needed.nodes << 2)?;
+    let fourth = sum.challenges().has_other_length(texts, user)?;
+    let fifth = sum.y().has_other_length(texts, k)?;
     Ok(!(first | second | third | fourth | fifth))
 }
 
 // Are all values below p? Says so where one is not.
-fn all_small<R: Files + Env>(host: &Host<R>, sum: &Sum) -> io::Result<bool> {
-    let first = sum.witness().has_large(host)?;
-    let second = sum.columns().has_large(host)?;
-    let third = sum.challenges().has_large(host)?;
-    let fourth = sum.y().has_large(host)?;
+fn all_small<R: Files + Env>(texts: &Texts<R>, sum: &Sum) -> io::Result<bool> {
+    let first = sum.witness().has_large(texts)?;
+    let second = sum.columns().has_large(texts)?;
+    let third = sum.challenges().has_large(texts)?;
+    let fourth = sum.y().has_large(texts)?;
     Ok(!(first | second | third | fourth))
 }
 
 // Of a row sum that was refused by 16.
-pub fn sum_values<R: Files + Env>(host: &Host<R>, sum: &Sum, needed: Needed) -> io::Result<()> {
-    if all_exact(host, sum, needed)? && all_small(host, sum)? {
-        host.name(CHECK_OUT)?;
-        println!(host.err; ": the node words are not those that building writes")?;
+pub fn sum_values<R: Files + Env>(texts: &Texts<R>, sum: &Sum, needed: Needed) -> io::Result<()> {
+    if all_exact(texts, sum, needed)? && all_small(texts, sum)? {
+        texts.name(CHECK_OUT)?;
+        println!(texts.err; ": the node words are not those that building writes")?;
     }
     Ok(())
 }

@@ -2,7 +2,7 @@
 use crate::shape::{Rooms, Shape, shape_of};
 use cli_messages::refusal::refusal;
 use cli_messages::sections::sections;
-use cli_texts::host::Host;
+use cli_texts::host::Texts;
 use std::io;
 use std::io::Stdout;
 use std::rt::{Env, Files};
@@ -16,21 +16,21 @@ fn numbers(out: Stdout, list: &[u64]) -> io::Result<()> {
 }
 
 fn copied(out: Stdout, s: &Shape) -> io::Result<()> {
-    let polynomials = s.prepared.copied();
+    let polynomials = s.circuit.copied();
     print!(out; "copied columns: {}", polynomials.len())?;
     if !polynomials.is_empty() {
         print!(out; ", polynomials")?;
     }
-    numbers(out, polynomials)
+    numbers(out, polynomials.as_slice())
 }
 
 fn groups(out: Stdout, s: &Shape) -> io::Result<()> {
-    let sizes = s.prepared.group_sizes();
+    let sizes = s.circuit.group_sizes();
     print!(out; "groups of lookups: {}", sizes.len())?;
     if !sizes.is_empty() {
         print!(out; ", lookups in each:")?;
     }
-    numbers(out, sizes)
+    numbers(out, sizes.as_slice())
 }
 
 // Whether the copied columns are cut alike, and the stack that build and check need.
@@ -60,18 +60,19 @@ fn needs(out: Stdout, s: &Shape) -> io::Result<()> {
 }
 
 // Says all of it.
-pub fn explain<R: Files + Env>(host: &Host<R>, circuit: &[u64]) -> io::Result<()> {
-    let out = host.out;
-    let asked = shape_of(circuit);
-    if !matches!(asked, Err(1..=4)) {
-        sections(out, circuit)?;
-    }
-    match asked {
+pub fn explain<R: Files + Env>(texts: &Texts<R>, out: Stdout, circuit: &[u64]) -> io::Result<()> {
+    match shape_of(circuit) {
         Ok(s) => {
+            sections(out, circuit)?;
             needs(out, &s)?;
             cut_and_stack(out, &s)?;
             println!(out; "questions 1 to 11 and 18 are answered yes")
         }
-        Err(no) => refusal(host, circuit, no),
+        Err(no) => {
+            if !matches!(no, 1..=4) {
+                sections(out, circuit)?;
+            }
+            refusal(texts, circuit, no)
+        }
     }
 }

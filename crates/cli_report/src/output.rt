@@ -4,10 +4,11 @@ use crate::line::name_beside;
 use crate::shape::Shape;
 use crate::write_out::write_out;
 use cli_texts::files::unnamed;
-use cli_texts::host::Host;
+use cli_texts::host::Texts;
 use cli_texts::say;
 use std::fs::{OpenFile, OpenOptions};
 use std::io::{ErrorKind, Print, Read, Seek, SeekFrom, Stderr, Write};
+use std::process::Process;
 use std::rt::{Env, Files};
 use std::{fs, io, process};
 
@@ -55,7 +56,7 @@ fn fill(file: &mut (impl Write + OpenFile), built: &Built) -> io::Result<()> {
 
 // Fills, closes and renames the file beside; where that fails, removes it and says why.
 fn through<R: Files>(
-    host: &Host<R>,
+    texts: &Texts<R>,
     path: &str,
     beside: &str,
     file: R::File,
@@ -64,19 +65,19 @@ fn through<R: Files>(
     let mut file = file;
     let filled = fill(&mut file, built);
     drop(file);
-    let Err(why) = filled.and_then(|()| fs::rename(host.rt, beside, path)) else {
+    let Err(why) = filled.and_then(|()| fs::rename(texts.rt, beside, path)) else {
         return Ok(true);
     };
-    let _ = fs::remove_file(host.rt, beside);
-    say::fail(host.err, path.as_bytes(), &why)?;
-    println!(host.err;
+    let _ = fs::remove_file(texts.rt, beside);
+    say::fail(texts.err, path.as_bytes(), &why)?;
+    println!(texts.err;
         "{path}: the columns and nodes could not be written whole; what stood there is as before"
     )?;
     Ok(false)
 }
 
 fn write_beside<R: Files>(
-    host: &Host<R>,
+    texts: &Texts<R>,
     path: &str,
     beside: &str,
     built: &Built,
@@ -84,31 +85,41 @@ fn write_beside<R: Files>(
     match OpenOptions::new()
         .write(true)
         .create_new(true)
-        .open(host.rt, beside)
+        .open(texts.rt, beside)
     {
-        Ok(file) => through(host, path, beside, file, built),
+        Ok(file) => through(texts, path, beside, file, built),
         Err(why) => {
-            say::fail(host.err, path.as_bytes(), &why)?;
+            say::fail(texts.err, path.as_bytes(), &why)?;
             Ok(false)
         }
     }
 }
 
-fn write_path<R: Files>(host: &Host<R>, path: &str, built: &Built) -> io::Result<bool> {
-    if !is_free(host.rt, host.err, path)? {
+fn write_path<R: Files>(
+    texts: &Texts<R>,
+    process: Process,
+    path: &str,
+    built: &Built,
+) -> io::Result<bool> {
+    if !is_free(texts.rt, texts.err, path)? {
         return Ok(false);
     }
-    match name_beside(path, process::id(host.process)) {
-        Ok(beside) => write_beside(host, path, beside.as_str(), built),
+    match name_beside(path, process::id(process)) {
+        Ok(beside) => write_beside(texts, path, beside.as_str(), built),
         Err(_) => Ok(false),
     }
 }
 
 // Writes what was built to the file that an argument names; answers whether it stands there.
-pub fn write<R: Files + Env>(host: &Host<R>, argument: usize, built: &Built) -> io::Result<bool> {
-    let err = host.err;
+pub fn write<R: Files + Env>(
+    texts: &Texts<R>,
+    process: Process,
+    argument: usize,
+    built: &Built,
+) -> io::Result<bool> {
+    let err = texts.err;
     let mut path = [0u8; 4096];
-    let n = match host.rt.arg(argument, &mut path) {
+    let n = match texts.rt.arg(argument, &mut path) {
         Ok(n) => n,
         Err(why) => {
             unnamed(err, why)?;
@@ -116,7 +127,7 @@ pub fn write<R: Files + Env>(host: &Host<R>, argument: usize, built: &Built) -> 
         }
     };
     match str::from_utf8(&path[..n]) {
-        Ok(text) => write_path(host, text, built),
+        Ok(text) => write_path(texts, process, text, built),
         Err(_) => {
             Print::write_all(&err, &path[..n])?;
             println!(err; ": the name is no UTF-8 text")?;

@@ -4,7 +4,7 @@ use crate::files::write_words;
 use backend_sections::contents::{FIRST_START, GROUPS, K_WORD, STATED_WORD, WIDTH_COUNT};
 use cli_faults::older::{OLDER_CONTENTS, is_older};
 use cli_messages::older::not_older;
-use cli_texts::host::Host;
+use cli_texts::host::Texts;
 use lists::word_at;
 use std::io;
 use std::io::Stdout;
@@ -56,12 +56,12 @@ fn write_regrouped(out: Stdout, circuit: &[u64]) -> io::Result<()> {
 }
 
 // Rewrites the words, or says why not.
-pub fn regroup<R: Files + Env>(host: &Host<R>, circuit: &[u64]) -> io::Result<()> {
+pub fn regroup<R: Files + Env>(texts: &Texts<R>, out: Stdout, circuit: &[u64]) -> io::Result<()> {
     if !is_older(circuit) {
-        return not_older(host, circuit);
+        return not_older(texts, circuit);
     }
-    match write_regrouped(host.out, circuit) {
+    match write_regrouped(out, circuit) {
         Ok(()) => Ok(()),
-        Err(_) => println!(host.err; "standard output: the words could not be written whole"),
+        Err(_) => println!(texts.err; "standard output: the words could not be written whole"),
     }
 }

@@ -26,18 +26,17 @@ fn lookup_title(to: &mut impl Write, c: usize, lookups: usize, groups: usize) ->
     writeln!(to, "# z column {z}")
 }
 
-// Which column it is: instance, permutation, then the others.
-fn column_title(to: &mut impl Write, c: usize, s: &Shape) -> io::Result<()> {
+// Which column it is: instance, permutation of the `copied` columns, then the others.
+fn column_title(to: &mut impl Write, c: usize, s: &Shape, copied: &[u64]) -> io::Result<()> {
     let instances = s.instances();
     if c < instances {
         return writeln!(to, "# instance column {c}");
     }
     let p = c - instances;
-    let copied = s.prepared.copied();
     match copied.get(p) {
         Some(polynomial) => writeln!(to, "# permutation column of polynomial {polynomial}"),
         None => {
-            let params = s.prepared.params;
+            let params = s.params;
             lookup_title(to, p - copied.len(), params.num_lookups, params.num_groups)
         }
     }
@@ -49,15 +48,16 @@ fn write_columns(to: &mut impl Write, columns: &[u64], s: &Shape) -> io::Result<
     if words.is_empty() {
         return Ok(());
     }
-    let rows = s.prepared.params.rows;
+    let rows = s.params.rows;
     if rows == 0 {
         return Err(unwritten());
     }
+    let copied = s.circuit.copied();
     for (c, column) in words.chunks(rows).enumerate() {
         if column.len() < rows {
             return Err(unwritten());
         }
-        column_title(to, c, s)?;
+        column_title(to, c, s, copied.as_slice())?;
         write_words(to, column, 8)?;
     }
     Ok(())
@@ -66,7 +66,7 @@ fn write_columns(to: &mut impl Write, columns: &[u64], s: &Shape) -> io::Result<
 // Writes the columns and then the nodes, each under a comment line; an error where not all of it was written.
 pub fn write_out(to: &mut impl Write, built: &Built) -> io::Result<()> {
     let s = built.shape;
-    writeln!(to, "# columns, words to each: {}", s.prepared.params.rows)?;
+    writeln!(to, "# columns, words to each: {}", s.params.rows)?;
     write_columns(to, built.columns, s)?;
     writeln!(to, "# nodes (kind first second value): {}", s.nodes)?;
     let words = (s.nodes << 2) as usize;

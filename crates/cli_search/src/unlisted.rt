@@ -1,6 +1,6 @@
 // Which readings question 15 finds in no row of their group's table: how many there are, and of the first the lookup, the row, its place in
 // the row order, and the values of the lookup's input expressions.
-ghost use Rattle.std.specs.Prelude.{◌≡◌, ◌≢◌, ℕ, ◌<◌, true, false, length, IfSome};
+ghost use Rattle.std.specs.Prelude.{◌≡◌, ◌≢◌, ℕ, ◌<◌, ◌≤◌, true, false, length, IfSome};
 ghost use Rattle.expression.specs.Point.{PointInOrder};
 ghost use Rattle.cli_search.specs.Ground.{side_word};
 ghost use Rattle.cli_search.specs.Missing.{MissingIn, Missing};
@@ -13,13 +13,16 @@ use expression::value::Point;
 use expression_evaluate::evaluation::Evaluation;
 use lists::sum_before;
 
-// A reading: `place` is the row's in the row order, and `values` are those of the lookup's input expressions.
-#[derive(Drop)]
+// A reading: `place` is the row's in the row order, and the first `width` values are those of the lookup's input expressions.
+// Kept: an `ArrayVec` of the values is no `Copy`, which this type is.
+#[derive(Clone, Copy)]
 pub struct Unlisted {
     pub lookup: usize,
     pub row: usize,
     pub place: usize,
-    pub values: ArrayVec<u64, 8>,
+    pub width: usize,
+    pub values: [u64; 8],
+    pub ghost few: { width ≤ 8 },
 }
 
 impl<'a> Search<'a> {
@@ -89,11 +92,16 @@ impl<'a> Search<'a> {
             place,
             eq: 0,
         };
+        let told = self.values(lookup, point);
+        let width = told.len();
+        let mut values = [0; 8];
+        values[..width].copy_from_slice(told.as_slice());
         Unlisted {
             lookup,
             row,
             place,
-            values: self.values(lookup, point),
+            width,
+            values,
         }
     }
 }

@@ -1,7 +1,7 @@
 // Files of words, read, and told of by name, line and token.
 ghost use Rattle.std.specs.Prelude.{◌≤◌, length, IfOk, IfSome};
 
-use crate::host::Host;
+use crate::host::Texts;
 use crate::parts::find_in;
 use crate::{lines, say, token};
 use decimal::{Fault, Wrong, start, take_bytes, take_end};
@@ -61,6 +61,7 @@ fn complain(
         }
         Wrong::NoNumber => print!(to; ": this is no decimal number")?,
         Wrong::TooLarge => print!(to; ": the number does not fit in 64 bits")?,
+        Wrong::Other(_) => {}
     }
     show_token(file, to, words)?;
     println!(to; "")
@@ -141,8 +142,25 @@ fn returns_alone(file: &mut impl Read) -> bool {
     returns && hashes && !matches!(fed, Ok(Some(())))
 }
 
+// The line of a word of the file that an argument names, none where it can't be told.
+pub fn line_of(rt: &(impl Files + Env), argument: usize, place: usize) -> Option<u64> {
+    lines::line_at(&mut open_again(rt, argument)?, place)
+}
+
+// The name of the file that an argument names.
+impl<R: Env> Texts<'_, R> {
+    // Says it.
+    pub fn name(&self, argument: usize) -> io::Result<()> {
+        let mut path = [0u8; 4096];
+        match self.rt.arg(argument, &mut path) {
+            Ok(n) => Print::write_all(&self.err, &path[..n]),
+            Err(_) => Ok(()),
+        }
+    }
+}
+
 // The file that an argument names.
-impl<'a, R: Files + Env> Host<'a, R> {
+impl<R: Files + Env> Texts<'_, R> {
     // Reads its words; answers how many it has, if nothing is wrong.
     pub fn read(&self, argument: usize, words: &mut [u64]) -> io::Result<Option<usize>>
         ensures { IfOk result (λ got. IfSome got (λ count. count ≤ length words.new)) }
@@ -155,20 +173,6 @@ impl<'a, R: Files + Env> Host<'a, R> {
                 Ok(None)
             }
         }
-    }
-
-    // Says its name.
-    pub fn name(&self, argument: usize) -> io::Result<()> {
-        let mut path = [0u8; 4096];
-        match self.rt.arg(argument, &mut path) {
-            Ok(n) => Print::write_all(&self.err, &path[..n]),
-            Err(_) => Ok(()),
-        }
-    }
-
-    // The line of one of its words, none where it can't be told.
-    pub fn line_of(&self, argument: usize, place: usize) -> Option<u64> {
-        lines::line_at(&mut open_again(self.rt, argument)?, place)
     }
 
     // Says so where it has too few words since its lines end in carriage returns alone.

@@ -2,11 +2,28 @@
 use std::io::{Stderr, Stdout};
 use std::process::Process;
 
+// The arguments and files, and standard error: what it takes to read a file that an argument names, and to tell of it.
+#[derive(Clone, Copy)]
+pub struct Texts<'a, R> {
+    pub rt: &'a R,
+    pub err: Stderr,
+}
+
 // The arguments and files, the process, whose number stands in the name of a file beside another, and where it writes.
-#[derive(Drop)]
+#[derive(Clone, Copy)]
 pub struct Host<'a, R> {
     pub rt: &'a R,
     pub process: Process,
     pub out: Stdout,
     pub err: Stderr,
+}
+
+impl<'a, R> Host<'a, R> {
+    // Of these what a file is read and told of with.
+    pub fn texts(&self) -> Texts<'a, R> {
+        Texts {
+            rt: self.rt,
+            err: self.err,
+        }
+    }
 }

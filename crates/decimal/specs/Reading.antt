@@ -1,6 +1,6 @@
 -- A reading of a text that comes part by part: what it has heard, and what it will have heard when more text follows.
-use Rattle.std.specs.Prelude.{◌≡◌, ℕ, Bool, true, false, List, [], ◌∷◌, ◌++◌, length, take, Result, Ok, Err, IsErr}
-use Rattle.decimal.specs.Text.{Parts, every, lines, pieces, Word, word, word_after, line_words, LineWord, placed_at, next_line, in_lines, Said, words, fault, kept_words}
+use Rattle.std.specs.Prelude.{◌≡◌, ℕ, Bool, true, false, cond, List, [], ◌∷◌, ◌++◌, length, take, Result, Ok, Err, IsErr, ◌==◌}
+use Rattle.decimal.specs.Text.{Parts, every, lines, pieces, Word, word, wrong_of, word_after, line_words, LineWord, placed_at, next_line, in_lines, Said, words, fault, kept_words}
 use Rattle.decimal.specs.declared.Scan.{Scan}
 use Rattle.decimal.specs.declared.Stands.{Stands}
 use Rattle.decimal.specs.declared.Stands.TheVariants.{Between, Number, Comment}
@@ -21,6 +21,10 @@ number_begun _ = 0
 -- the number begun, 0 where none is
 abbrev pub value_begun : Scan → ℕ
 value_begun s = number_begun s.stands
+
+-- what words in memory and the number of what is wrong say, 0 being nothing
+unfoldable pub told : ℕ → ℕ → List ℕ → Said
+told wrong line ws = cond (wrong == 0) (words ws) (fault (wrong_of wrong) line)
 
 -- what a reading that has ended has heard, ws the words in memory: so many of them, or what is wrong
 abbrev pub heard : Result ℕ Fault → List ℕ → Said

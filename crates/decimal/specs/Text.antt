@@ -3,7 +3,7 @@
 use Rattle.std.specs.Prelude.{ℕ, ◌+◌, ◌-◌, ◌*◌, ◌%◌, ◌^◌, Bool, true, false, cond, not, ◌||◌, List, [], ◌∷◌, ◌++◌, map, length, ◌==◌, nat_lt}
 use Rattle.lists.specs.Lists.{all_of, filter, within}
 use Rattle.decimal.specs.declared.Wrong.{Wrong}
-use Rattle.decimal.specs.declared.Wrong.TheVariants.{NoNumber, TooLarge, TooMany}
+use Rattle.decimal.specs.declared.Wrong.TheVariants.{NoNumber, TooLarge, TooMany, Other}
 
 -- ---- bytes
 
@@ -69,6 +69,10 @@ too_large = TooLarge
 
 abbrev pub too_many : Wrong
 too_many = TooMany
+
+-- what is wrong, by its number: 1 to 3 of a text, others of the program that reads it
+unfoldable pub wrong_of : ℕ → Wrong
+wrong_of n = cond (n == 1) NoNumber (cond (n == 2) TooLarge (cond (n == 3) TooMany (Other n)))
 
 -- the number that v and digits after it make
 unfoldable pub number : ℕ → List ℕ → ℕ

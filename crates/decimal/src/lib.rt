@@ -2,16 +2,40 @@
 // or part by part as a file comes.
 #![tactic(auto)]
 
-ghost use Rattle.std.specs.Prelude.{◌≡◌, ℕ, true, false, List, [], ◌∷◌, length};
-ghost use Rattle.decimal.specs.Text.{is_blank, is_digit, says};
-ghost use Rattle.decimal.specs.Reading.{in_comment, value_begun, heard, ahead, Takes, Stopped, Ended};
+ghost use Rattle.std.specs.Prelude.{◌≡◌, ℕ, true, false, List, [], ◌∷◌, length, take};
+ghost use Rattle.decimal.specs.Text.{is_blank, is_digit, says, wrong_of};
+ghost use Rattle.decimal.specs.Reading.{in_comment, value_begun, heard, told, ahead, Takes, Stopped, Ended};
 
-// What is wrong with a text.
+// What is wrong with a text; the program that reads it may have numbers from 4 on of its own.
 #[derive(Clone, Copy, PartialEq, Eq, Debug)]
 pub enum Wrong {
     NoNumber,
     TooLarge,
     TooMany,
+    Other(u64),
+}
+
+// The numbers of what is wrong.
+pub const NOTHING: u64 = 0;
+
+pub const NO_NUMBER: u64 = 1;
+
+pub const TOO_LARGE: u64 = 2;
+
+pub const TOO_MANY: u64 = 3;
+
+impl From<u64> for Wrong {
+    ghost from_gives = { λ number wrong. wrong ≡ wrong_of number };
+
+    #[tactic(auto, unfolding(crate::specs::Text::wrong_of))]
+    fn from(number: u64) -> Wrong {
+        match number {
+            NO_NUMBER => Wrong::NoNumber,
+            TOO_LARGE => Wrong::TooLarge,
+            TOO_MANY => Wrong::TooMany,
+            _ => Wrong::Other(number),
+        }
+    }
 }
 
 // What is wrong with a text first, and in which line.
@@ -57,6 +81,21 @@ pub fn stop(scan: Scan, wrong: Wrong) -> Result<Scan, Fault>
         line: scan.line,
     };
     Err(fault)
+}
+
+// The reading ended, by the number of what is wrong or by NOTHING; answers how many words there are.
+#[tactic(auto, unfolding(crate::specs::Reading::told))]
+pub fn stop_by_number(scan: Scan, number: u64) -> Result<usize, Fault>
+    ensures { (ws : List ℕ) → heard result ws ≡ told number scan.line (take scan.count ws) }
+{
+    if number == NOTHING {
+        return Ok(scan.count);
+    }
+    let told = Fault {
+        wrong: Wrong::from(number),
+        line: scan.line,
+    };
+    Err(told)
 }
 
 // Keeps the number begun, if one is, and stands so in this line.

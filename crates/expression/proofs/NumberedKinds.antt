@@ -1,9 +1,14 @@
 -- The word that a kind was read from.
 use mathlib.Core.Path.{◌≡◌, refl, sym, ap, ◌∙◌, subst}
-use mathlib.Core.List.{[], ◌∷◌}
-use Prim.Native.Nat.{ℕ, ◌≤◌}
+use mathlib.Core.Bool.{Bool, true, ◌&&◌}
+use mathlib.Core.List.{List, [], ◌∷◌}
+use Prim.Native.Nat.{ℕ, zero, suc, ◌+◌, ◌-◌, ◌≤◌, ◌<◌}
+use native.Mathlib.Nat.{not-suc-le-zero}
 use native.Mathlib.Omega.{arith}
-use lib.ListN.{get_or}
+use lib.Dec.{eqb}
+use lib.ListN.{get_or, length}
+use borrow.Author.Tests.{eqb-true}
+use Rattle.lists.proofs.Tests.{and_left, and_right}
 use Rattle.std.specs.Prelude.{Result, Err}
 use Rattle.expression.specs.declared.kind.Kind.{Kind}
 use Rattle.expression.specs.declared.kind.Kind.TheVariants.{Constant, Identity, Lagrange, EqXy, Polynomial, Challenge, Negated, Sum, Product, Scaled, DistributePowers, Item}
@@ -96,3 +101,43 @@ expression_word {word = word} {kind = Product} e h = let w : 9 ≡ word = e.0 in
 expression_word {word = word} {kind = Scaled} e h = let w : 10 ≡ word = e.0 in (omega arith, omega arith)
 expression_word {word = word} {kind = DistributePowers} e h = let w : 11 ≡ word = e.0 in (omega arith, omega arith)
 expression_word {kind = Item} e h = absurd (h refl)
+
+-- ---- a table of kinds
+
+-- the number of each is one more than that of the one before it, and the first is n
+unfoldable pub counted : ℕ → List Kind → Bool
+counted n [] = true
+counted n (kind ∷ kinds) = eqb (number kind) n && counted (suc n) kinds
+
+counted_at : (kinds : List Kind) (n i : ℕ) (other : Kind) → counted n kinds ≡ true → i < length kinds → number (get_or kinds i other) ≡ i + n
+unfolding counted
+counted_at [] n i other e l = absurd (not-suc-le-zero l)
+counted_at (kind ∷ kinds) n zero other e l =
+    let first = eqb-true (number kind) n (and_left (eqb (number kind) n) (counted (suc n) kinds) e) in
+    omega (arith, first)
+counted_at (kind ∷ kinds) n (suc i) other e l =
+    let rest = counted_at kinds (suc n) i other (and_right (eqb (number kind) n) (counted (suc n) kinds) e) (omega arith) in
+    omega (arith, rest)
+
+kind_read : (kind : Kind) → def.kind_of (number kind) ≡ read_as kind
+unfolding def.kind_of
+kind_read Constant = refl
+kind_read Identity = refl
+kind_read Lagrange = refl
+kind_read EqXy = refl
+kind_read Polynomial = refl
+kind_read Challenge = refl
+kind_read Negated = refl
+kind_read Sum = refl
+kind_read Product = refl
+kind_read Scaled = refl
+kind_read DistributePowers = refl
+kind_read Item = refl
+
+-- where all kinds stand in it, a word's kind stands one place before the word
+pub by_table : (kinds : List Kind) (other : Kind) (word : ℕ) → counted 1 kinds ≡ true → length kinds ≡ 12 → 1 ≤ word → word ≤ 12
+    → (number (get_or kinds (word - 1) other) ≡ word) × (def.kind_of word ≡ read_as (get_or kinds (word - 1) other))
+by_table kinds other word e len low high =
+    let at = counted_at kinds 1 (word - 1) other e (omega (arith, len)) in
+    let is : number (get_or kinds (word - 1) other) ≡ word = omega (arith, at) in
+    (is, sym (ap def.kind_of is) ∙ kind_read (get_or kinds (word - 1) other))

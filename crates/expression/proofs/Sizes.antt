@@ -13,7 +13,7 @@ use Rattle.expression.specs.Nodes.{Kind, node_of, kind_of, under, no_expr, no_ex
 use Rattle.expression.specs.Read.{node_at}
 use Rattle.expression.specs.Flat.{largest_size}
 use Rattle.expression.specs.Walks.{weight, weights}
-use Rattle.expression.proofs.Step.{under_yes, under_no, low, low_items, node_read, of_kind, items_last, items_more}
+use Rattle.expression.proofs.Step.{under_yes, under_no, low, low_items, node_read, of_kind, items_last, items_more, by_kind}
 
 abbrev cap : ℕ → ℕ
 cap x = min largest_size x
@@ -78,6 +78,25 @@ module _ (item : ℕ) (ws : List ℕ) (n : ℕ) (d : Node) (read : d ≡ node_at
   size_leaf {kind = Scaled} e h7 h8 h9 h10 h11 = absurd (h10 refl)
   size_leaf {kind = DistributePowers} e h7 h8 h9 h10 h11 = absurd (h11 refl)
   size_leaf {kind = Item} e h7 h8 h9 h10 h11 = of_read Kind.is_item e.1 refl
+
+  -- a node of another kind than those that name nodes, by its word
+  pub size_other : (d.kind ≡ 7 → ⊥) → (d.kind ≡ 8 → ⊥) → (d.kind ≡ 9 → ⊥) → (d.kind ≡ 10 → ⊥) → (d.kind ≡ 11 → ⊥)
+      → 1 ≡ cap (weight item (expr_of ws n))
+  unfolding weight
+  size_other h7 h8 h9 h10 h11 =
+      by_kind (λ (e : Expr). 1 ≡ cap (weight item e)) (low ws n) (low_items ws n) d.first d.second d.value d.kind (λ z. refl)
+      (λ z. refl)
+      (λ z. refl)
+      (λ z. refl)
+      (λ z. refl)
+      (λ z. refl)
+      (λ z. absurd (h7 z))
+      (λ z. absurd (h8 z))
+      (λ z. absurd (h9 z))
+      (λ z. absurd (h10 z))
+      (λ z. absurd (h11 z))
+      refl
+      ∙ sym (ap (λ (e : Expr). cap (weight item e)) (node_read ws n d read))
 
   pub size_none : kind_of d.kind ≡ Kind.is_none → 1 ≡ cap (weight item (expr_of ws n))
   unfolding node_of weight

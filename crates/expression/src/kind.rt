@@ -19,6 +19,22 @@ pub enum Kind {
     Item = 12,
 }
 
+// The kinds by rising number, from 1 on.
+static KINDS: [Kind; 12] = [
+    Kind::Constant,
+    Kind::Identity,
+    Kind::Lagrange,
+    Kind::EqXy,
+    Kind::Polynomial,
+    Kind::Challenge,
+    Kind::Negated,
+    Kind::Sum,
+    Kind::Product,
+    Kind::Scaled,
+    Kind::DistributePowers,
+    Kind::Item,
+];
+
 // A word that is no kind's number.
 #[derive(Clone, Copy, PartialEq, Eq, Debug)]
 pub struct NoKind;
@@ -28,23 +44,13 @@ impl TryFrom<u64> for Kind {
 
     ghost try_from_gives = { KindOf };
 
+    // By the table, and not by a `match`, which makes a jump of its own before that of each `match` on the kind.
     #[tactic(auto, unfolding(crate::specs::Nodes::kind_of))]
     fn try_from(word: u64) -> Result<Kind, NoKind> {
-        match word {
-            1 => Ok(Kind::Constant),
-            2 => Ok(Kind::Identity),
-            3 => Ok(Kind::Lagrange),
-            4 => Ok(Kind::EqXy),
-            5 => Ok(Kind::Polynomial),
-            6 => Ok(Kind::Challenge),
-            7 => Ok(Kind::Negated),
-            8 => Ok(Kind::Sum),
-            9 => Ok(Kind::Product),
-            10 => Ok(Kind::Scaled),
-            11 => Ok(Kind::DistributePowers),
-            12 => Ok(Kind::Item),
-            _ => Err(NoKind),
+        if word < 1 || 12 < word {
+            return Err(NoKind);
         }
+        Ok(KINDS[word as usize - 1])
     }
 }
 

@@ -96,6 +96,10 @@ pub fn size_of(ws: &[u64], n: usize, item: u64) -> u64
     ensures { result ≡ min largest_size (weight item (expr_of ws.now n)) }
 {
     let d = read_node(ws, n);
+    // A leaf. It is told by its number, before the jump by kind.
+    if d.kind < Kind::Negated as u64 {
+        return 1;
+    }
     match Kind::try_from(d.kind) {
         Ok(Kind::Negated) => add_sizes(1, lower_size(ws, n, d.first, item)),
         Ok(Kind::Sum) => {

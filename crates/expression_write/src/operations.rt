@@ -4,7 +4,8 @@ ghost use Rattle.std.specs.Prelude.{◌+◌, ◌-◌, ◌*◌, ◌≤◌, ◌<�
 ghost use Rattle.expression.specs.Expr.{Expr};
 ghost use Rattle.expression.specs.Written.{most_words, Pushed, ExprWritten, WrittenBase};
 
-use crate::{Listed, push_node};
+pub use crate::Listed;
+use crate::push_node;
 use expression::kind::Kind;
 use expression::node::SIGNED_OFFSET;
 

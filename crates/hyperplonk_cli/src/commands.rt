@@ -23,7 +23,7 @@ pub struct BuildRooms<'a> {
 fn keep<R: Files + Env>(host: &Host<R>, built: &Built) -> io::Result<()> {
     let s = built.shape;
     println!(host.out; "writing")?;
-    if !output::write(host, 6, built)? {
+    if !output::write(&host.texts(), host.process, 6, built)? {
         return Ok(());
     }
     println!(host.out;
@@ -43,7 +43,7 @@ fn refused<R: Files + Env>(
     number: u64,
 ) -> io::Result<()> {
     question::answered_no(host.err, number)?;
-    build_values(host, log, s.user() as u64, number)?;
+    build_values(&host.texts(), log, s.user() as u64, number)?;
     tell(&host.err, log, columns, number)
 }
 
@@ -87,14 +87,14 @@ pub fn build<R: Files + Env>(
         columns,
         nodes,
     } = rooms;
-    let Some(instances) = host.read(3, instance)? else {
+    let Some(instances) = host.texts().read(3, instance)? else {
         return Ok(());
     };
-    let Some(witnesses) = host.read(4, witness)? else {
+    let Some(witnesses) = host.texts().read(4, witness)? else {
         return Ok(());
     };
     let mut challenges = [0u64; 64];
-    let Some(n) = host.read(5, &mut challenges)? else {
+    let Some(n) = host.texts().read(5, &mut challenges)? else {
         return Ok(());
     };
     let log = Log {
@@ -127,7 +127,7 @@ fn check_words<R: Files + Env>(host: &Host<R>, lent: &Sum, s: &Shape) -> io::Res
         nodes: s.nodes,
         user: s.user(),
     };
-    sum_values(host, lent, needed)
+    sum_values(&host.texts(), lent, needed)
 }
 
 // check CIRCUIT WITNESS CHALLENGES Y OUT
@@ -138,18 +138,18 @@ pub fn check<R: Files + Env>(
     witness: &mut [u64],
     built: &mut [u64],
 ) -> io::Result<()> {
-    let Some(witnesses) = host.read(3, witness)? else {
+    let Some(witnesses) = host.texts().read(3, witness)? else {
         return Ok(());
     };
-    let Some(builts) = host.read(6, built)? else {
+    let Some(builts) = host.texts().read(6, built)? else {
         return Ok(());
     };
     let mut challenges = [0u64; 64];
-    let Some(n) = host.read(4, &mut challenges)? else {
+    let Some(n) = host.texts().read(4, &mut challenges)? else {
         return Ok(());
     };
     let mut y = [0u64; 64];
-    let Some(k) = host.read(5, &mut y)? else {
+    let Some(k) = host.texts().read(5, &mut y)? else {
         return Ok(());
     };
     let (columns, nodes) = built[..builts].split_at(s.column_words.min(builts));

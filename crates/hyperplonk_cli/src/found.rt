@@ -30,7 +30,7 @@ fn readings(to: &impl Print, found: &Found<Unlisted>) -> io::Result<()> {
     print!(to; "lookup {}", u.lookup)?;
     stands(to, u.row, u.place)?;
     print!(to; "the reading (")?;
-    values(to, u.values.as_slice())?;
+    values(to, &u.values[..u.width])?;
     println!(to; ") stands in no row of the table")?;
     if found.count > 1 {
         println!(to;

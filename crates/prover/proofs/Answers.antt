@@ -87,11 +87,15 @@ module _ (𝓕 : Field) (rows : ℕ) (input table : ℕ → 𝓕.F) where
 -- so the answer and the words of `lookup_m_poly` are said by the answers of the search
 module _ (rows : ℕ) (input table : ℕ → 𝔾.F) (r : Bool) (d : List ℕ) (at : ℕ) (m : List ℕ) where
   pub by_search : (r ≡ covered 𝔾 rows input table) × (m ≡ write_at d at (count_words rows input table))
-      → (cond r 0 15 ≡ first_number (searches 𝔾 rows input table)) × (m ≡ write_at d at (m_words rows (searches 𝔾 rows input table)))
+      → ((r ≡ covered 𝔾 rows input table) × (m ≡ write_at d at (count_words rows input table)))
+      × ((cond r 0 15 ≡ first_number (searches 𝔾 rows input table)) × (m ≡ write_at d at (m_words rows (searches 𝔾 rows input table))))
   unfolding count_words
   by_search h = (
-    ap (λ (t : Bool). cond t 0 15) h.0 ∙ sym (number_is 𝔾 rows input table),
-    h.1 ∙ ap (write_at d at) (sym (words_are 𝔾 rows input table)),
+    h,
+    (
+      ap (λ (t : Bool). cond t 0 15) h.0 ∙ sym (number_is 𝔾 rows input table),
+      h.1 ∙ ap (write_at d at) (sym (words_are 𝔾 rows input table)),
+    ),
   )
 
 -- ---- h and z

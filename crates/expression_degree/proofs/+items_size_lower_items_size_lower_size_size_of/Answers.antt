@@ -1,8 +1,9 @@
 -- The walk for the size: each way through the code is the size, capped.
 use mathlib.Core.Path.{refl}
+use native.Mathlib.Omega.{arith}
 use Rattle.expression.specs.declared.kind.Kind.{Kind}
 use Rattle.expression.proofs.NumberedKinds.{kind_word, no_kind}
-use Rattle.expression.proofs.Sizes.{size_lower, size_not_lower, listed_lower, listed_not_lower, listed_last, listed_more, size_negated, size_sum, size_product, size_scaled, size_powers, size_leaf, size_none}
+use Rattle.expression.proofs.Sizes.{size_lower, size_not_lower, listed_lower, listed_not_lower, listed_last, listed_more, size_negated, size_sum, size_product, size_scaled, size_powers, size_leaf, size_none, size_other}
 use Rattle.expression_degree.proofs.+items_size_lower_items_size_lower_size_size_of.Goals as goal
 
 pub items_size-returns-then-d-eq0 : goal.items_size-returns-then-d-eq0
@@ -79,3 +80,9 @@ size_of-returns-in_default-2 t c =
     let a = c.args in
     let d = c.read_node-d in
     size_none a.item a.ws.now a.n d.result d.ensures (no_kind d.result.kind c.try_from.result c.try_from.ensures c.in_default.is)
+
+pub size_of-returns-then-d : goal.size_of-returns-then-d
+size_of-returns-then-d t c =
+    let a = c.args in
+    let d = c.read_node-d in
+    size_other a.item a.ws.now a.n d.result d.ensures (λ e. omega arith) (λ e. omega arith) (λ e. omega arith) (λ e. omega arith) (λ e. omega arith)

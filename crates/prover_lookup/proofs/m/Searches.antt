@@ -91,8 +91,12 @@ module _ (rows : ℕ) (table : ℕ → 𝔾.F) where
   -- so the answer and the words of a group are said by the answers of the search
   pub by_searches : (inputs : List (ℕ → 𝔾.F)) (r : Bool) (d : List ℕ) (at : ℕ) (m : List ℕ)
       → (r ≡ group_covered 𝔾 rows inputs table) × (m ≡ write_at d at (group_words rows inputs table))
-      → (cond r 0 15 ≡ first_number (group_searches rows inputs table)) × (m ≡ write_at d at (m_words rows (group_searches rows inputs table)))
+      → ((r ≡ group_covered 𝔾 rows inputs table) × (m ≡ write_at d at (group_words rows inputs table)))
+      × ((cond r 0 15 ≡ first_number (group_searches rows inputs table)) × (m ≡ write_at d at (m_words rows (group_searches rows inputs table))))
   by_searches inputs r d at m h = (
-    ap (λ (t : Bool). cond t 0 15) h.0 ∙ sym (number_is inputs),
-    h.1 ∙ ap (write_at d at) (words_are inputs),
+    h,
+    (
+      ap (λ (t : Bool). cond t 0 15) h.0 ∙ sym (number_is inputs),
+      h.1 ∙ ap (write_at d at) (words_are inputs),
+    ),
   )

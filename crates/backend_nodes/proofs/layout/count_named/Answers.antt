@@ -118,3 +118,10 @@ returns-in-Err c =
     let a = c.args in
     let k = c.in-Err.ensures in
     tally_is a.counts.now a.counts.now [] _ (tally_none a.counts.now) (sym (leaf a.kind a.first a.second a.value ((((((tt {0}, none_word k Kind.Negated), none_word k Kind.Sum), none_word k Kind.Product), none_word k Kind.Scaled), none_word k Kind.DistributePowers), none_word k Kind.Item)))
+
+pub returns-then-kind : goal.returns-then-kind
+returns-then-kind c =
+    let a = c.args in
+    let below = c.if-kind.true in
+    tally_is a.counts.now a.counts.now [] _ (tally_none a.counts.now) (sym (leaf a.kind a.first a.second a.value
+    ((((((tt {0}, λ e. omega (arith, below, e)), λ e. omega (arith, below, e)), λ e. omega (arith, below, e)), λ e. omega (arith, below, e)), λ e. omega (arith, below, e)), λ e. omega (arith, below, e))))

@@ -1,6 +1,7 @@
 use mathlib.Core.Path.{refl}
 use Prim.Native.Nat.{◌+◌, ◌*◌}
 use lib.ListN.{get_or}
+use native.Mathlib.Omega.{arith}
 use Rattle.expression.specs.declared.kind.Kind.{Kind}
 use Rattle.expression.proofs.NumberedKinds.{kind_word, none_word}
 use Rattle.expression.specs.Nodes.{kind_of}
@@ -107,3 +108,12 @@ returns-in-Err c =
     in_place_at a.nodes.now a.n (get_or a.nodes.now (a.n * 4) 0) s.result _ s.ensures (c.if-not-shaped.false) refl
     (rest_leaf a.nodes.now a.n (get_or a.nodes.now (a.n * 4) 0) (get_or a.nodes.now (a.n * 4 + 1) 0) (get_or a.nodes.now (a.n * 4 + 2) 0) (get_or a.nodes.now (a.n * 4 + 3) 0)
     ((((((tt {0}, none_word k Kind.Negated), none_word k Kind.Sum), none_word k Kind.Product), none_word k Kind.Scaled), none_word k Kind.DistributePowers), none_word k Kind.Item))
+
+pub returns-then-kind : goal.returns-then-kind
+returns-then-kind c =
+    let a = c.args in
+    let s = c.shaped in
+    let below = c.if-kind.true in
+    in_place_at a.nodes.now a.n (get_or a.nodes.now (a.n * 4) 0) s.result _ s.ensures (c.if-not-shaped.false) refl
+    (rest_leaf a.nodes.now a.n (get_or a.nodes.now (a.n * 4) 0) (get_or a.nodes.now (a.n * 4 + 1) 0) (get_or a.nodes.now (a.n * 4 + 2) 0) (get_or a.nodes.now (a.n * 4 + 3) 0)
+    ((((((tt {0}, λ e. omega (arith, below, e)), λ e. omega (arith, below, e)), λ e. omega (arith, below, e)), λ e. omega (arith, below, e)), λ e. omega (arith, below, e)), λ e. omega (arith, below, e)))

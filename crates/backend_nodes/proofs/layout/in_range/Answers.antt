@@ -2,6 +2,7 @@ use mathlib.Core.Path.{refl, ap, ◌∙◌}
 use mathlib.Core.Bool.{Bool}
 use Prim.Native.Nat.{◌+◌, ◌*◌}
 use lib.ListN.{get_or}
+use native.Mathlib.Omega.{arith}
 use mathlib.Core.Bool.{◌&&◌}
 use lib.Dec.{ltb}
 use Rattle.expression.specs.declared.kind.Kind.{Kind}
@@ -45,4 +46,13 @@ returns-in_default-2 c =
     let w = get_or a.nodes.now (a.n * 4) 0 in
     let k = no_kind w c.try_from.result c.try_from.ensures c.in_default.is in
     no_number_is a.polys a.user a.k w (get_or a.nodes.now (a.n * 4 + 1) 0) (get_or a.nodes.now (a.n * 4 + 2) 0) (get_or a.nodes.now (a.n * 4 + 3) 0) (((tt {0}, none_word k Kind.EqXy), none_word k Kind.Polynomial), none_word k Kind.Challenge)
+    ∙ by_kind a.nodes.now a.n (in_range a.polys a.user a.k) w refl
+
+pub returns-then-nodes-at : goal.returns-then-nodes-at
+returns-then-nodes-at c =
+    let a = c.args in
+    let w = get_or a.nodes.now (a.n * 4) 0 in
+    let above = c.if-nodes-at.true in
+    no_number_is a.polys a.user a.k w (get_or a.nodes.now (a.n * 4 + 1) 0) (get_or a.nodes.now (a.n * 4 + 2) 0) (get_or a.nodes.now (a.n * 4 + 3) 0)
+    (((tt {0}, λ e. omega (arith, above, e)), λ e. omega (arith, above, e)), λ e. omega (arith, above, e))
     ∙ by_kind a.nodes.now a.n (in_range a.polys a.user a.k) w refl

@@ -20,4 +20,4 @@ pub returns-clause-counts : goal.returns-clause-counts
 returns-clause-counts c = (c.count_inputs.ensures.0, added_to_zeros _ _ _ _ c.requires.2 _ c.clear.ensures _ c.count_inputs.ensures.1)
 
 pub returns-clause-found : goal.returns-clause-found
-returns-clause-found c = by_search _ (elements c.args.input.now) (elements c.args.table.now) _ _ _ _ (returns-clause-counts c)
+returns-clause-found c = (by_search _ (elements c.args.input.now) (elements c.args.table.now) _ _ _ _ (returns-clause-counts c)).1

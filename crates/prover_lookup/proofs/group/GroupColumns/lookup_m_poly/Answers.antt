@@ -29,7 +29,7 @@ returns-then-not-count_inputs-clause-counts c =
     _ _ c.count_inputs.ensures c.if-not-count_inputs.true
 
 pub returns-then-not-count_inputs-clause-found : goal.returns-then-not-count_inputs-clause-found
-returns-then-not-count_inputs-clause-found c = by_searches _ _ _ _ _ _ _ (returns-then-not-count_inputs-clause-counts c)
+returns-then-not-count_inputs-clause-found c = (by_searches _ _ _ _ _ _ _ (returns-then-not-count_inputs-clause-counts c)).1
 
 pub loop-i-preserved : goal.loop-i-preserved
 loop-i-preserved c =
@@ -45,4 +45,4 @@ returns-clause-counts c =
     group_done _ _ _ _ _ c.requires.1 _ c.split_at_mut-given.ensures.front _ _ c.loop-i.invariant c.loop-i-test.false
 
 pub returns-clause-found : goal.returns-clause-found
-returns-clause-found c = by_searches _ _ _ _ _ _ _ (returns-clause-counts c)
+returns-clause-found c = (by_searches _ _ _ _ _ _ _ (returns-clause-counts c)).1
