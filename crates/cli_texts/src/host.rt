@@ -17,13 +17,3 @@ pub struct Host<'a, R> {
     pub out: Stdout,
     pub err: Stderr,
 }
-
-impl<'a, R> Host<'a, R> {
-    // Of these what a file is read and told of with.
-    pub fn texts(&self) -> Texts<'a, R> {
-        Texts {
-            rt: self.rt,
-            err: self.err,
-        }
-    }
-}

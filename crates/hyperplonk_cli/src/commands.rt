@@ -6,7 +6,7 @@ use cli_report::output;
 use cli_report::output::Built;
 use cli_report::shape::Shape;
 use cli_report::verdict::{notes, verdict};
-use cli_texts::host::Host;
+use cli_texts::host::{Host, Texts};
 use std::io;
 use std::rt::{Env, Files};
 
@@ -19,11 +19,19 @@ pub struct BuildRooms<'a> {
     pub nodes: &'a mut [u64],
 }
 
+// Of what the system gives, that with which a file is read and told of.
+pub(crate) fn texts<'a, R>(host: &Host<'a, R>) -> Texts<'a, R> {
+    Texts {
+        rt: host.rt,
+        err: host.err,
+    }
+}
+
 // Writes what was built to the file that argument 6 names.
 fn keep<R: Files + Env>(host: &Host<R>, built: &Built) -> io::Result<()> {
     let s = built.shape;
     println!(host.out; "writing")?;
-    if !output::write(&host.texts(), host.process, 6, built)? {
+    if !output::write(&texts(host), host.process, 6, built)? {
         return Ok(());
     }
     println!(host.out;
@@ -43,7 +51,7 @@ fn refused<R: Files + Env>(
     number: u64,
 ) -> io::Result<()> {
     question::answered_no(host.err, number)?;
-    build_values(&host.texts(), log, s.user() as u64, number)?;
+    build_values(&texts(host), log, s.user() as u64, number)?;
     tell(&host.err, log, columns, number)
 }
 
@@ -87,14 +95,14 @@ pub fn build<R: Files + Env>(
         columns,
         nodes,
     } = rooms;
-    let Some(instances) = host.texts().read(3, instance)? else {
+    let Some(instances) = texts(host).read(3, instance)? else {
         return Ok(());
     };
-    let Some(witnesses) = host.texts().read(4, witness)? else {
+    let Some(witnesses) = texts(host).read(4, witness)? else {
         return Ok(());
     };
     let mut challenges = [0u64; 64];
-    let Some(n) = host.texts().read(5, &mut challenges)? else {
+    let Some(n) = texts(host).read(5, &mut challenges)? else {
         return Ok(());
     };
     let log = Log {
@@ -127,7 +135,7 @@ fn check_words<R: Files + Env>(host: &Host<R>, lent: &Sum, s: &Shape) -> io::Res
         nodes: s.nodes,
         user: s.user(),
     };
-    sum_values(&host.texts(), lent, needed)
+    sum_values(&texts(host), lent, needed)
 }
 
 // check CIRCUIT WITNESS CHALLENGES Y OUT
@@ -138,18 +146,18 @@ pub fn check<R: Files + Env>(
     witness: &mut [u64],
     built: &mut [u64],
 ) -> io::Result<()> {
-    let Some(witnesses) = host.texts().read(3, witness)? else {
+    let Some(witnesses) = texts(host).read(3, witness)? else {
         return Ok(());
     };
-    let Some(builts) = host.texts().read(6, built)? else {
+    let Some(builts) = texts(host).read(6, built)? else {
         return Ok(());
     };
     let mut challenges = [0u64; 64];
-    let Some(n) = host.texts().read(4, &mut challenges)? else {
+    let Some(n) = texts(host).read(4, &mut challenges)? else {
         return Ok(());
     };
     let mut y = [0u64; 64];
-    let Some(k) = host.texts().read(5, &mut y)? else {
+    let Some(k) = texts(host).read(5, &mut y)? else {
         return Ok(());
     };
     let (columns, nodes) = built[..builts].split_at(s.column_words.min(builts));

@@ -90,7 +90,7 @@ fn asked<'a, R: Files + Env>(host: &Host<R>, circuit: &'a [u64]) -> io::Result<O
             Ok(Some(s))
         }
         Err(no) => {
-            refusal(&host.texts(), circuit, no)?;
+            refusal(&commands::texts(host), circuit, no)?;
             Ok(None)
         }
     }
@@ -124,13 +124,13 @@ pub fn over_files<R: Files + Env>(host: &Host<R>, task: Task) -> io::Result<()> 
     if matches!(task, Task::Build | Task::Check) {
         println!(host.out; "reading the circuit")?;
     }
-    let Some(n) = host.texts().read(2, &mut circuit)? else {
+    let Some(n) = commands::texts(host).read(2, &mut circuit)? else {
         return Ok(());
     };
     let circuit = &circuit[..n];
     match task {
-        Task::Explain => explain::explain(&host.texts(), host.out, circuit),
-        Task::Regroup => regroup(&host.texts(), host.out, circuit),
+        Task::Explain => explain::explain(&commands::texts(host), host.out, circuit),
+        Task::Regroup => regroup(&commands::texts(host), host.out, circuit),
         Task::Build => build(host, circuit),
         Task::Check => check(host, circuit),
     }
