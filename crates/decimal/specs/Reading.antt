@@ -1,6 +1,6 @@
 -- A reading of a text that comes part by part: what it has heard, and what it will have heard when more text follows.
-use Rattle.std.specs.Prelude.{◌≡◌, ℕ, Bool, true, false, cond, List, [], ◌∷◌, ◌++◌, length, take, Result, Ok, Err, IsErr, ◌==◌}
-use Rattle.decimal.specs.Text.{Parts, every, lines, pieces, Word, word, wrong_of, word_after, line_words, LineWord, placed_at, next_line, in_lines, Said, words, fault, kept_words}
+use Rattle.std.specs.Prelude.{◌≡◌, ℕ, Bool, true, false, cond, List, [], ◌∷◌, ◌++◌, length, take, Result, Ok, Err, IsErr, IfErr, ◌==◌}
+use Rattle.decimal.specs.Text.{Parts, every, lines, pieces, Word, word, wrong_of, of_text, word_after, line_words, LineWord, placed_at, next_line, in_lines, Said, words, fault, kept_words}
 use Rattle.decimal.specs.declared.Scan.{Scan}
 use Rattle.decimal.specs.declared.Stands.{Stands}
 use Rattle.decimal.specs.declared.Stands.TheVariants.{Between, Number, Comment}
@@ -70,6 +70,10 @@ begun_in _ = []
 
 abbrev pub begun : Scan → List Word
 begun s = begun_in s.stands
+
+-- a reading goes on or has its words, or its fault is one of the three that a text can have
+abbrev pub FaultOfText : {T : Type 0} → Result T Fault → Type 0
+FaultOfText r = IfErr r (λ f. of_text f.wrong ≡ true)
 
 -- a reading has taken bytes: whatever follows, it will have heard the same
 abbrev pub Takes : Scan → List ℕ → List ℕ → Result Scan Fault → List ℕ → Type 0

@@ -74,6 +74,13 @@ too_many = TooMany
 unfoldable pub wrong_of : ℕ → Wrong
 wrong_of n = cond (n == 1) NoNumber (cond (n == 2) TooLarge (cond (n == 3) TooMany (Other n)))
 
+-- is this wrong with a text, and no number of the program that reads it?
+abbrev pub of_text : Wrong → Bool
+of_text NoNumber = true
+of_text TooLarge = true
+of_text TooMany = true
+of_text (Other n) = false
+
 -- the number that v and digits after it make
 unfoldable pub number : ℕ → List ℕ → ℕ
 number v [] = v

@@ -3,8 +3,8 @@
 #![tactic(auto)]
 
 ghost use Rattle.std.specs.Prelude.{◌≡◌, ℕ, true, false, List, [], ◌∷◌, length, take};
-ghost use Rattle.decimal.specs.Text.{is_blank, is_digit, says, wrong_of};
-ghost use Rattle.decimal.specs.Reading.{in_comment, value_begun, heard, told, ahead, Takes, Stopped, Ended};
+ghost use Rattle.decimal.specs.Text.{is_blank, is_digit, of_text, says, wrong_of};
+ghost use Rattle.decimal.specs.Reading.{in_comment, value_begun, heard, told, ahead, Takes, Stopped, Ended, FaultOfText};
 
 // What is wrong with a text; the program that reads it may have numbers from 4 on of its own.
 #[derive(Clone, Copy, PartialEq, Eq, Debug)]
@@ -74,7 +74,8 @@ pub fn start() -> Scan
 
 // The reading ended by what is wrong.
 pub fn stop(scan: Scan, wrong: Wrong) -> Result<Scan, Fault>
-    ensures { Stopped scan wrong result }
+    ensures stopped { Stopped scan wrong result }
+    ensures of_text { of_text wrong ≡ true → FaultOfText result }
 {
     let fault = Fault {
         wrong,
@@ -177,7 +178,8 @@ fn take_byte(scan: Scan, byte: u8, words: &mut [u64]) -> Result<Scan, Fault>
 
 // Takes the bytes of a part of the text, up to the first that is wrong.
 pub fn take_bytes(scan: Scan, bytes: &[u8], words: &mut [u64]) -> Result<Scan, Fault>
-    ensures { Takes scan words.old bytes.now result words.new }
+    ensures takes { Takes scan words.old bytes.now result words.new }
+    ensures of_text { FaultOfText result }
 {
     let mut come = scan;
     for byte in bytes {
@@ -188,7 +190,8 @@ pub fn take_bytes(scan: Scan, bytes: &[u8], words: &mut [u64]) -> Result<Scan, F
 
 // Takes the end of the text, and answers how many words it has.
 pub fn take_end(scan: Scan, words: &mut [u64]) -> Result<usize, Fault>
-    ensures { heard result words.new ≡ ahead scan words.old [] }
+    ensures heard { heard result words.new ≡ ahead scan words.old [] }
+    ensures of_text { FaultOfText result }
 {
     let ended = end_number(scan, words, Stands::Between, scan.line)?;
     Ok(ended.count)
@@ -196,8 +199,66 @@ pub fn take_end(scan: Scan, words: &mut [u64]) -> Result<usize, Fault>
 
 // Reads a whole text, and answers how many words it has.
 pub fn read(text: &[u8], words: &mut [u64]) -> Result<usize, Fault>
-    ensures { heard result words.new ≡ says (length words.old) text.now }
+    ensures says { heard result words.new ≡ says (length words.old) text.now }
+    ensures of_text { FaultOfText result }
 {
     let scan = take_bytes(start(), text, words)?;
     take_end(scan, words)
+}
+
+#[cfg(test)]
+mod tests {
+    use super::*;
+
+    // What is wrong first, and its line: a text's faults are these three.
+    #[test]
+    fn faults_of_texts(rt: HostRuntime) {
+        let cases: [(&[u8], Wrong, u64); 4] = [
+            (b"1 x", Wrong::NoNumber, 1),
+            (b"1\n\n18446744073709551616", Wrong::TooLarge, 3),
+            (b"1 2 # 3\n4 x", Wrong::TooMany, 2),
+            (b"1\n2x # 3", Wrong::NoNumber, 2),
+        ];
+        for (text, wrong, line) in cases {
+            let mut words = [0u64; 2];
+            assert_eq!(rt; read(text, &mut words), Err(Fault { wrong, line }));
+        }
+    }
+
+    #[test]
+    fn text_by_parts(rt: HostRuntime) {
+        let mut words = [0u64; 3];
+        let Ok(scan) = take_bytes(start(), b"12 3", &mut words) else {
+            return assert!(rt; false);
+        };
+        let Ok(scan) = take_bytes(scan, b"4#5\n6", &mut words) else {
+            return assert!(rt; false);
+        };
+        assert_eq!(rt; take_end(scan, &mut words), Ok(3));
+        assert_eq!(rt; words, [12, 34, 6]);
+        let Ok(scan) = take_bytes(start(), b"7 8 9", &mut words[..2]) else {
+            return assert!(rt; false);
+        };
+        let (wrong, line) = (Wrong::TooMany, 1);
+        assert_eq!(rt; take_end(scan, &mut words[..2]), Err(Fault { wrong, line }));
+    }
+
+    #[test]
+    fn stopped_so(rt: HostRuntime) {
+        let (wrong, line) = (Wrong::TooLarge, 1);
+        assert_eq!(rt; stop(start(), wrong), Err(Fault { wrong, line }));
+    }
+
+    #[test]
+    fn fault_of_a_part(rt: HostRuntime) {
+        let mut words = [0u64; 3];
+        let Ok(scan) = take_bytes(start(), b"7\n8", &mut words) else {
+            return assert!(rt; false);
+        };
+        let (wrong, line) = (Wrong::NoNumber, 2);
+        assert_eq!(rt;
+            take_bytes(scan, b"x", &mut words),
+            Err(Fault { wrong, line })
+        );
+    }
 }

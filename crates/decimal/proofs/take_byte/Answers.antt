@@ -16,4 +16,4 @@ pub returns-then-is_blank : goal.returns-then-is_blank
 returns-then-is_blank c = blank_takes c.args.scan c.args.words.now c.args.byte c.end_number-then-is_blank.result c.end_number-then-is_blank.new.words (search rules) (comment_is_not _ (search rules)) (ne_eqb _ 10 c.if-byte-eq10.false) (ne_eqb _ 35 c.if-byte-eq35.false) (sym c.is_blank.ensures ∙ c.if-is_blank.true) c.end_number-then-is_blank.ensures
 
 pub returns : goal.returns
-returns c = other_takes c.args.scan c.args.words.now c.args.byte c.stop.result (search rules) (comment_is_not _ (search rules)) (ne_eqb _ 10 c.if-byte-eq10.false) (ne_eqb _ 35 c.if-byte-eq35.false) (sym c.is_blank.ensures ∙ c.if-is_blank.false) (search rules) c.stop.ensures
+returns c = other_takes c.args.scan c.args.words.now c.args.byte c.stop.result (search rules) (comment_is_not _ (search rules)) (ne_eqb _ 10 c.if-byte-eq10.false) (ne_eqb _ 35 c.if-byte-eq35.false) (sym c.is_blank.ensures ∙ c.if-is_blank.false) (search rules) c.stop.ensures.stopped
