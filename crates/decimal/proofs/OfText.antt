@@ -110,15 +110,15 @@ pub heard_of_text : (r : Result ℕ Fault) (ws : List ℕ) (said : Said) → hea
 heard_of_text (Ok n) ws said h e = tt
 heard_of_text (Err f) ws said h e = ap said_of_text h ∙ e
 
--- a reading that a byte has ended hands its fault on
-pub handed_on : (s : Scan) (ws : List ℕ) (b : ℕ) (f : Fault) → ((t : List ℕ) → fault f.wrong f.line ≡ ahead s ws (b ∷ t)) → (r : Result Scan Fault) → IsErrAnd r (λ e. e ≡ f) → FaultOfText r
-handed_on s ws b f h (Ok q) e = tt
-handed_on s ws b f h (Err g) e = rw e (ap said_of_text (h []) ∙ ahead_of_text s ws (b ∷ []))
-
 -- by what a reading has taken, or kept
 pub takes_of_text : (s : Scan) (ws bytes : List ℕ) (r : Result Scan Fault) (ws' : List ℕ) → Takes s ws bytes r ws' → FaultOfText r
 takes_of_text s ws bytes (Ok q) ws' h = tt
 takes_of_text s ws bytes (Err f) ws' h = ap said_of_text (h []) ∙ ahead_of_text s ws (bytes ++ [])
+
+-- a reading that a byte has ended hands its fault on
+pub handed_on : (s : Scan) (ws : List ℕ) (b : ℕ) (f : Fault) → ((t : List ℕ) → fault f.wrong f.line ≡ ahead s ws (b ∷ t)) → (r : Result Scan Fault) → IsErrAnd r (λ e. e ≡ f) → FaultOfText r
+handed_on s ws b f h (Ok q) e = tt
+handed_on s ws b f h (Err g) e = rw e (takes_of_text s ws (b ∷ []) (Err f) [] h)
 
 pub ended_of_text : (s : Scan) (ws : List ℕ) (stands : Stands) (line : ℕ) (r : Result Scan Fault) (ws' : List ℕ) → Ended s ws stands line r ws' → FaultOfText r
 ended_of_text s ws stands line (Ok q) ws' h = tt
